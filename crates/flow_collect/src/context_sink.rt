@@ -2,7 +2,7 @@
 
 ghost use Rattle.std.specs.Prelude.{◌≡◌, None};
 
-use crate::session_context::SessionContext;
+use crate::context_fields::ContextFields;
 use crate::shortage::Shortage;
 use ipfix_message::DataRecord;
 use ipfix_session::Sink;
@@ -12,7 +12,7 @@ use ipfix_session::Sink;
 /// Once a record could not be put it gives all others back; what it took then is of no use.
 #[derive(Drop)]
 pub struct ContextSink<K> {
-    context: SessionContext,
+    context: ContextFields,
     /// Why a record could not be put, if one could not.
     pub lost: Option<Shortage>,
     /// How many records it gave back. The count stops at `u64::MAX`.
@@ -23,8 +23,9 @@ pub struct ContextSink<K> {
 
 impl<K> ContextSink<K> {
     /// A sink for the records of a session with this context.
-    pub fn new(context: SessionContext, sink: K) -> Self
-        ensures { (result.context ≡ context) × (result.lost ≡ None) × (result.refused ≡ 0) × (result.sink ≡ sink) }
+    pub fn new(context: ContextFields, sink: K) -> Self
+        ensures empty { (result.lost ≡ None) × (result.refused ≡ 0) }
+        ensures given { (result.context ≡ context) × (result.sink ≡ sink) }
     {
         ContextSink {
             context,

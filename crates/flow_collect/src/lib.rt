@@ -4,6 +4,7 @@
 
 mod collected;
 mod collecting;
+mod context_fields;
 mod context_sink;
 mod dealing;
 mod direct;
@@ -23,6 +24,7 @@ mod worker;
 
 pub use collected::{Collected, MAX_SESSIONS, MAX_WORKERS, Pool, Serial};
 pub use collecting::{collect_flat, refusal};
+pub use context_fields::ContextFields;
 pub use direct::{collect_direct, direct_refusal};
 pub use fault::CollectFault;
 pub use gate::{Gate, OpenGate};

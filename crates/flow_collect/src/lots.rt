@@ -6,6 +6,7 @@ ghost use Rattle.ipfix_message.specs.declared.record.DataRecord.{DataRecord};
 ghost use Rattle.flow_table.specs.Partials.{plan_of};
 ghost use Rattle.flow_collect.specs.Serials.{LotRan, MergesLots, RunsOne};
 
+use crate::context_fields::ContextFields;
 use crate::context_sink::ContextSink;
 use crate::session_context::InContext;
 use flow_table::{Partial, Plan, TableFault};
@@ -127,7 +128,8 @@ fn drive_one<S: Source + Drop>(
         mut sessions,
         partial,
     } = lot;
-    let mut sink = ContextSink::new(context, TableSink { partial });
+    let fields = ContextFields::new(alloc, context)?;
+    let mut sink = ContextSink::new(fields, TableSink { partial });
     let report = drive_in_full(alloc, &mut source, &mut sink, READ_LIMIT);
     if sink.lost.is_some() || sink.refused > 0 {
         return Err(AllocError);

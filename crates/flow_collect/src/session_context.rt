@@ -1,12 +1,12 @@
 //! What a session knows beside a record: whose it is, and its observation domain.
 
 ghost use Rattle.std.specs.Prelude.{◌≡◌, ◌≤◌, ◌++◌, length, map, IfOk, OnOk};
-ghost use Rattle.flow_collect.specs.Contexts.{alone, exporter_at, exporter_fields, mapped, named, with_context};
+ghost use Rattle.flow_collect.specs.Contexts.{alone, context_fields, exporter_at, exporter_fields, mapped, named};
 
 use flow_table::{
     Context, EXPORTER, EXPORTER_IPV4_ADDRESS, EXPORTER_IPV6_ADDRESS, OBSERVATION_DOMAIN_ID,
 };
-use ipfix_message::{DataRecord, Fields};
+use ipfix_message::Fields;
 use ipfix_wire::ElementId;
 use std::alloc::{AllocError, Global};
 use std::collections::VecDeque;
@@ -58,20 +58,21 @@ pub const NO_CONTEXT: SessionContext = SessionContext {
 };
 
 impl SessionContext {
-    /// Appends the wanted fields to a record. An `Err` may leave some of them.
-    pub fn append(&self, item: &mut DataRecord) -> Result<(), AllocError>
-        ensures { OnOk result (item.new ≡ with_context self.now item.old) }
+    /// The wanted fields of the records of an observation domain.
+    pub fn fields(&self, alloc: Global, domain: u32) -> Result<Fields, AllocError>
+        ensures { IfOk result (λ f. f ≡ context_fields self.now domain) }
     {
+        let mut fields = Fields::new(alloc);
         if let Some(exporter) = self.exporter {
-            append_exporter(&self.wanted, exporter, &mut item.fields)?;
+            append_exporter(&self.wanted, exporter, &mut fields)?;
         }
-        let domain = item.domain.to_be_bytes();
         append_named(
             self.wanted.observation_domain_id,
             OBSERVATION_DOMAIN_ID,
-            &domain,
-            &mut item.fields,
-        )
+            &domain.to_be_bytes(),
+            &mut fields,
+        )?;
+        Ok(fields)
     }
 }
 

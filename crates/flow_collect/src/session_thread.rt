@@ -3,6 +3,7 @@
 ghost use Rattle.std.specs.Prelude.{◌≡◌, [], IfOk};
 ghost use Rattle.flow_collect.specs.Sessions.{SessionRan};
 
+use crate::context_fields::ContextFields;
 use crate::context_sink::ContextSink;
 use crate::gate::Gate;
 use crate::link_sink::LinkSink;
@@ -52,7 +53,8 @@ pub fn run_session<S: Source + Drop, G: Gate, R: Wait>(
         sender,
     } = start;
     let mut source = source;
-    let mut sink = ContextSink::new(context, LinkSink::new(rt, gate, session, sender));
+    let fields = ContextFields::new(alloc, context)?;
+    let mut sink = ContextSink::new(fields, LinkSink::new(rt, gate, session, sender));
     let report = drive_in_full(alloc, &mut source, &mut sink, READ_LIMIT);
     let sent = sink.sink.send_last();
     if let Some(shortage) = sink.lost {

@@ -18,5 +18,6 @@ pub mod SpelledFields
 pub mod LayingOut
 pub mod Layouts
 pub mod Alikes
+pub mod Tails
 pub mod PartsOf
 pub mod TemplateMessages

@@ -122,7 +122,7 @@ Spells-push (t ∷ ts) (g ∷ gs) w s f u same one spelled = (
   Spells-push ts gs spelled.1 s f u same one spelled.5,
 )
 
-spelled-read : (specs : List Spec) (fs : List Field) (w : List ℕ) → Spells specs fs w → fields_at specs w ≡ Ok (fs, [])
+pub spelled-read : (specs : List Spec) (fs : List Field) (w : List ℕ) → Spells specs fs w → fields_at specs w ≡ Ok (fs, [])
 spelled-read specs fs w spelled = ap (fields_at specs) (sym (append-nil w)) ∙ fields_at-only specs fs w [] spelled
 
 pub spelled-begins : (specs : List Spec) (fs : List Field) (w : List ℕ) → Spells specs fs w → BeginsWithFields specs w

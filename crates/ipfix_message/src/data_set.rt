@@ -1,6 +1,7 @@
 //! The records of a data set (RFC 7011, sections 3.4.3 and 7).
 
-ghost use Rattle.std.specs.Prelude.{◌≡◌, ◌++◌, map};
+ghost use Rattle.std.specs.Prelude.{◌≡◌, ◌≤◌, ◌++◌, length, map};
+ghost use Rattle.ipfix_message.specs.declared.template_record.TheConstants.{LONGEST_BODY};
 ghost use Rattle.ipfix_message.specs.Outcome.{Gives, map_read};
 ghost use Rattle.ipfix_message.specs.DataRecords.{records_of_body, record_of};
 
@@ -21,6 +22,7 @@ pub fn take_records(
     body: &[u8],
     out: &mut Vec<DataRecord>,
 ) -> Result<(), MessageFault>
+    requires { length body.now ≤ LONGEST_BODY }
     ensures { Gives (λ _. out.new.items) result
         (map_read (λ rs. out.old.items ++ map (record_of header.now known.now) rs)
         (records_of_body known.now.specs body.now)) }
@@ -34,7 +36,7 @@ pub fn take_records(
     let mut rest = body;
     while rest.len() >= least {
         let after = laid_out.after_record(rest)?;
-        let set_record = SetRecord::new(&set, body.len() - rest.len())?;
+        let set_record = SetRecord::new(&set, (body.len() - rest.len()) as u32)?;
         out.push(DataRecord {
             domain: header.domain,
             export_time: header.export_time,

@@ -4,13 +4,19 @@ ghost use Rattle.std.specs.Prelude.{◌≡◌, ◌==◌, ◌<◌, ◌^◌, [], �
 ghost use Rattle.std.specs.Option.{option_map};
 ghost use Rattle.ipfix_message.specs.Fields.{octets_of};
 ghost use Rattle.ipfix_message.specs.FieldViews.{field_of};
+ghost use Rattle.ipfix_message.specs.KeptFields.{IsKept, kept_fields};
+ghost use Rattle.ipfix_message.specs.SetRecords.{HasRecordAt, fields_from};
 
 use crate::field_iter::{FieldIter, FieldRef};
+use crate::field_run::FieldRun;
 use crate::own_fields::OwnFields;
-use crate::set_body::SetRecord;
+use crate::set_body::{SetBody, SetRecord};
+use crate::shared_fields::SharedFields;
 use ipfix_wire::ElementId;
 use std::alloc::{AllocError, Global};
 use std::marker::Model;
+use std::mem;
+use std::sync::Arc;
 
 /// How fields are kept.
 #[derive(Debug, Drop)]
@@ -19,6 +25,9 @@ enum Kept {
     Nothing,
     /// They are a record of a data set.
     InSet(SetRecord),
+    /// They are those of the record that begins at an octet of a data set's body, and fields that
+    /// other records share after these. (The record's parts are smaller here than the record.)
+    Extended(u32, Arc<SetBody, Global>, SharedFields),
     /// They were pushed.
     Own(Box<OwnFields>),
 }
@@ -27,7 +36,7 @@ enum Kept {
 /// see the list of the fields.
 ///
 /// The records of a data set share the octets of its body and its template: as long as one of them
-/// lives, both do.
+/// lives, both do. Records can share their last fields, too.
 #[derive(Debug, Drop)]
 pub struct Fields {
     alloc: Global,
@@ -40,9 +49,50 @@ impl Model for Fields {
 
     ghost Value = { List Field };
 
-    ghost use Rattle.ipfix_message.specs.KeptFields.{kept_fields};
+    ghost use Rattle.ipfix_message.specs.KeptFields.{IsKept, kept_fields};
 
     ghost view = { λ f. kept_fields f.kept };
+
+    ghost invariant = { λ f. IsKept f.kept };
+}
+
+// A copy of the fields, with octets of their own.
+fn own_copy(alloc: Global, kept: &Kept) -> Result<OwnFields, AllocError>
+    requires { IsKept kept.now }
+    ensures { IfOk result (λ own. own ≡ kept_fields kept.now) }
+{
+    match kept {
+        Kept::Nothing => OwnFields::with_capacity(alloc, 0, 0),
+        Kept::InSet(set_record) => set_record.to_own(alloc),
+        Kept::Extended(start, set, tail) => {
+            let mut copy = OwnFields::copy(alloc, set.fields_at(*start))?;
+            copy.extend(tail.own())?;
+            Ok(copy)
+        }
+        Kept::Own(own) => {
+            let mut copy = OwnFields::with_capacity(alloc, 0, 0)?;
+            copy.extend(own)?;
+            Ok(copy)
+        }
+    }
+}
+
+// The octets of the first field of an element in the record that begins at an octet of a set's body
+// or, where it has none, in a tail.
+#[inline(never)]
+fn find_in_both<'a>(
+    set: &'a SetBody,
+    start: u32,
+    tail: &'a SharedFields,
+    element: ElementId,
+) -> Option<&'a [u8]>
+    requires { HasRecordAt set.now start }
+    ensures { option_copied result ≡ octets_of element (fields_from set.now start ++ tail.now) }
+{
+    match set.find_at(start, element) {
+        Some(octets) => Some(octets),
+        None => tail.find(element),
+    }
 }
 
 impl Fields {
@@ -82,15 +132,44 @@ impl Fields {
             ++ record { element = element; octets = octets.now } ∷ []) }
         ensures err { OnErr result (self.new ≡ self.old) }
     {
-        let alloc = self.alloc;
-        let mut own = match &mut self.kept {
-            Kept::Nothing => OwnFields::with_capacity(alloc, 1, octets.len())?,
-            Kept::InSet(set_record) => set_record.to_own(alloc)?,
-            Kept::Own(own) => return own.push(element, octets),
-        };
+        if let Kept::Own(own) = &mut self.kept {
+            return own.push(element, octets);
+        }
+        let mut own = own_copy(self.alloc, &self.kept)?;
         own.push(element, octets)?;
-        self.kept = Kept::Own(Box::new(alloc, own)?);
+        self.kept = Kept::Own(Box::new(self.alloc, own)?);
         Ok(())
+    }
+
+    /// Appends fields that other records have, too. To a record of a data set nothing is copied.
+    pub fn extend_shared(&mut self, tail: &SharedFields) -> Result<(), AllocError>
+        ensures ok { OnOk result (self.new ≡ self.old ++ tail.now) }
+        ensures err { OnErr result (self.new ≡ self.old) }
+    {
+        if tail.is_empty() {
+            return Ok(());
+        }
+        let shared = tail.try_clone()?;
+        match mem::replace(&mut self.kept, Kept::Nothing) {
+            Kept::InSet(set_record) => {
+                let (start, set) = set_record.into_parts();
+                self.kept = Kept::Extended(start, set, shared);
+            }
+            kept => {
+                self.kept = kept;
+                let mut own = own_copy(self.alloc, &self.kept)?;
+                own.extend(tail.own())?;
+                self.kept = Kept::Own(Box::new(self.alloc, own)?);
+            }
+        }
+        Ok(())
+    }
+
+    /// A copy of the fields, which records can share.
+    pub fn to_shared(&self) -> Result<SharedFields, AllocError>
+        ensures { IfOk result (λ f. f ≡ self.now) }
+    {
+        SharedFields::new(self.alloc, own_copy(self.alloc, &self.kept)?)
     }
 
     /// How many fields there are.
@@ -112,9 +191,10 @@ impl Fields {
         ensures { result ≡ self.now }
     {
         match &self.kept {
-            Kept::Nothing => FieldIter::new(&[], &[]),
-            Kept::InSet(set_record) => set_record.iter(),
-            Kept::Own(own) => own.iter(),
+            Kept::Nothing => FieldIter::new(FieldRun::empty(), FieldRun::empty()),
+            Kept::InSet(set_record) => FieldIter::new(set_record.iter(), FieldRun::empty()),
+            Kept::Extended(start, set, tail) => FieldIter::new(set.fields_at(*start), tail.iter()),
+            Kept::Own(own) => FieldIter::new(own.iter(), FieldRun::empty()),
         }
     }
 
@@ -133,6 +213,7 @@ impl Fields {
         match &self.kept {
             Kept::Nothing => None,
             Kept::InSet(set_record) => set_record.find(element),
+            Kept::Extended(start, set, tail) => find_in_both(set, *start, tail, element),
             Kept::Own(own) => own.find(element),
         }
     }

@@ -1,12 +1,11 @@
 //! The fields of a data record in turn (RFC 7011, section 3.4.3).
 
-ghost use Rattle.std.specs.Prelude.{◌≡◌, ◌<◌, ◌^◌, [], length, IfSome};
+ghost use Rattle.std.specs.Prelude.{◌≡◌, ◌++◌, length};
 ghost use Rattle.std.specs.Iterator.{YieldsFirstBy, item_count};
-ghost use Rattle.ipfix_message.specs.SpelledFields.{BeginsWithFields, fields_in};
 ghost use Rattle.ipfix_message.specs.FieldViews.{field_of};
 
-use crate::field_value::value_of;
-use ipfix_wire::{ElementId, Spec};
+use crate::field_run::FieldRun;
+use ipfix_wire::ElementId;
 use std::marker::Model;
 
 /// A field of a data record.
@@ -22,36 +21,34 @@ pub struct FieldRef<'a> {
 /// The fields of a data record that are left, in order.
 #[derive(Debug, Drop)]
 pub struct FieldIter<'a> {
-    specs: &'a [Spec],
-    octets: &'a [u8],
+    // The record's own.
+    own: FieldRun<'a>,
+    // Those that come after them.
+    tail: FieldRun<'a>,
 }
 
 impl<'a> Model for FieldIter<'a> {
-    ghost use Rattle.std.specs.Prelude.{List};
+    ghost use Rattle.std.specs.Prelude.{List, ◌++◌};
     ghost use Rattle.ipfix_message.specs.Fields.{Field};
-    ghost use Rattle.ipfix_message.specs.SpelledFields.{BeginsWithFields, fields_in};
 
     ghost Value = { List Field };
 
-    ghost view = { λ it. fields_in it.specs.now it.octets.now };
-
-    ghost invariant = { λ it. BeginsWithFields it.specs.now it.octets.now };
+    ghost view = { λ it. it.own ++ it.tail };
 }
 
 impl<'a> FieldIter<'a> {
-    /// The fields of these specifiers with which `octets` begin.
-    pub(crate) fn new(specs: &'a [Spec], octets: &'a [u8]) -> Self
-        requires { BeginsWithFields specs.now octets.now }
-        ensures { result ≡ fields_in specs.now octets.now }
+    /// A record's own fields, and then those of a tail.
+    pub(crate) fn new(own: FieldRun<'a>, tail: FieldRun<'a>) -> Self
+        ensures { result ≡ own.entry ++ tail.entry }
     {
-        FieldIter { specs, octets }
+        FieldIter { own, tail }
     }
 
     /// How many fields are left.
     pub(crate) fn left(&self) -> usize
         ensures { result ≡ length self.now }
     {
-        self.specs.len()
+        self.own.left() + self.tail.left()
     }
 }
 
@@ -63,13 +60,9 @@ impl<'a> Iterator for FieldIter<'a> {
     ghost remaining = { item_count (λ rest. rest) };
 
     fn next(&mut self) -> Option<FieldRef<'a>> {
-        let (spec, specs) = self.specs.split_first()?;
-        let (octets, rest) = value_of(spec.width, self.octets)?;
-        self.specs = specs;
-        self.octets = rest;
-        Some(FieldRef {
-            element: spec.element,
-            octets,
-        })
+        match self.own.next() {
+            Some(field) => Some(field),
+            None => self.tail.next(),
+        }
     }
 }

@@ -1,10 +1,10 @@
 //! Fields that are pushed one by one (RFC 7011, section 3.4.3).
 
-ghost use Rattle.std.specs.Prelude.{◌≡◌, ◌<◌, ◌^◌, [], ◌∷◌, ◌++◌, ℕ, List, length, All, IfOk, OnOk, OnErr, option_copied};
+ghost use Rattle.std.specs.Prelude.{◌≡◌, ◌==◌, ◌<◌, ◌^◌, [], ◌∷◌, ◌++◌, ℕ, List, length, All, IfOk, OnOk, OnErr, option_copied};
 ghost use Rattle.ipfix_message.specs.Fields.{octets_of};
 ghost use Rattle.ipfix_message.specs.SpelledFields.{SpellsOctets, IsShort};
 
-use crate::field_iter::FieldIter;
+use crate::field_run::FieldRun;
 use ipfix_wire::{ElementId, Spec, VARIABLE_WIDTH};
 use std::alloc::{AllocError, Global};
 use std::marker::Model;
@@ -61,7 +61,7 @@ impl OwnFields {
     }
 
     /// A copy of these fields.
-    pub fn copy(alloc: Global, fields: FieldIter) -> Result<Self, AllocError>
+    pub fn copy(alloc: Global, fields: FieldRun) -> Result<Self, AllocError>
         requires { All IsShort fields }
         ensures { IfOk result (λ f. f ≡ fields.entry) }
     {
@@ -86,11 +86,28 @@ impl OwnFields {
         Ok(())
     }
 
+    /// Appends a copy of other fields.
+    pub fn extend(&mut self, other: &OwnFields) -> Result<(), AllocError>
+        ensures ok { OnOk result (self.new ≡ self.old ++ other.now) }
+        ensures err { OnErr result (self.new ≡ self.old) }
+    {
+        self.specs.reserve(other.specs.len())?;
+        self.octets.extend_from_slice(&other.octets)?;
+        self.specs.extend_from_slice(&other.specs)
+    }
+
+    /// Whether there are no fields.
+    pub fn is_empty(&self) -> bool
+        ensures { result ≡ (length self.now == 0) }
+    {
+        self.iter().left() == 0
+    }
+
     /// The fields in order.
-    pub fn iter(&self) -> FieldIter<'_>
+    pub fn iter(&self) -> FieldRun<'_>
         ensures { result ≡ self.now }
     {
-        FieldIter::new(self.specs.as_slice(), self.octets.as_slice())
+        FieldRun::new(self.specs.as_slice(), self.octets.as_slice())
     }
 
     /// The octets of the first field of an element. It is found by going over the fields before it.

@@ -3,9 +3,9 @@
 ghost use Rattle.std.specs.Prelude.{◌≡◌, IfOk, option_copied};
 ghost use Rattle.std.specs.Arc.{arc_value};
 ghost use Rattle.ipfix_message.specs.Fields.{octets_of};
-ghost use Rattle.ipfix_message.specs.SetRecords.{specs_of, fields_from, HasRecordAt};
+ghost use Rattle.ipfix_message.specs.SetRecords.{specs_of, fields_from, HasRecordAt, IsRecordOf};
 
-use crate::field_iter::FieldIter;
+use crate::field_run::FieldRun;
 use crate::laid_out::LaidOut;
 use crate::own_fields::OwnFields;
 use ipfix_wire::ElementId;
@@ -33,6 +33,24 @@ impl SetBody {
         let octets = Vec::from_slice(alloc, body)?;
         Ok(Arc::new(alloc, SetBody { template, octets })?)
     }
+
+    /// The fields of the record that begins at an octet, in order.
+    pub fn fields_at(&self, start: u32) -> FieldRun<'_>
+        requires { HasRecordAt self.now start }
+        ensures { result ≡ fields_from self.now start }
+    {
+        let template = self.template.template();
+        FieldRun::new(template.specs.as_slice(), &self.octets[start as usize..])
+    }
+
+    /// The octets of the first field of an element in the record that begins at an octet.
+    #[inline(always)]
+    pub fn find_at(&self, start: u32, element: ElementId) -> Option<&[u8]>
+        requires { HasRecordAt self.now start }
+        ensures { option_copied result ≡ octets_of element (fields_from self.now start) }
+    {
+        self.template.find(element, &self.octets[start as usize..])
+    }
 }
 
 /// A record of a data set: the octet of the body at which it begins. It keeps the body and the
@@ -40,7 +58,7 @@ impl SetBody {
 #[derive(Debug, Drop)]
 pub struct SetRecord {
     set: Arc<SetBody, Global>,
-    start: usize,
+    start: u32,
 }
 
 impl Model for SetRecord {
@@ -58,12 +76,19 @@ impl Model for SetRecord {
 
 impl SetRecord {
     /// The record that begins at an octet of a body.
-    pub fn new(set: &Arc<SetBody, Global>, start: usize) -> Result<Self, AllocError>
+    pub fn new(set: &Arc<SetBody, Global>, start: u32) -> Result<Self, AllocError>
         requires { HasRecordAt (arc_value set.now) start }
         ensures { IfOk result (λ r. r ≡ fields_from (arc_value set.now) start) }
     {
         let set = Arc::try_clone(set)?;
         Ok(SetRecord { set, start })
+    }
+
+    /// The octet at which it begins, and its set.
+    pub fn into_parts(self) -> (u32, Arc<SetBody, Global>)
+        ensures { IsRecordOf self result.0 (arc_value result.1) }
+    {
+        (self.start, self.set)
     }
 
     /// A copy of the fields, with octets of their own.
@@ -76,12 +101,10 @@ impl SetRecord {
     }
 
     /// The fields in order.
-    pub fn iter(&self) -> FieldIter<'_>
+    pub fn iter(&self) -> FieldRun<'_>
         ensures { result ≡ self.now }
     {
-        let set: &SetBody = &self.set;
-        let template = set.template.template();
-        FieldIter::new(template.specs.as_slice(), &set.octets[self.start..])
+        self.set.fields_at(self.start)
     }
 
     /// The octets of the first field of an element.
@@ -89,7 +112,6 @@ impl SetRecord {
     pub fn find(&self, element: ElementId) -> Option<&[u8]>
         ensures { option_copied result ≡ octets_of element self.now }
     {
-        let set: &SetBody = &self.set;
-        set.template.find(element, &set.octets[self.start..])
+        self.set.find_at(self.start, element)
     }
 }

@@ -66,7 +66,8 @@ fn take_data_set(
     templates: &Templates,
     decoded: &mut Decoded,
 ) -> Result<(), MessageFault>
-    requires { counted decoded.old + 1 < 2 ^ 64 }
+    requires few { counted decoded.old + 1 < 2 ^ 64 }
+    requires room { length body.now ≤ LONGEST_BODY }
     ensures few { OnOk result (counted decoded.new ≤ counted decoded.old + 1) }
     ensures header { decoded.new.header ≡ decoded.old.header }
     ensures gives { (d : Decoding) → Holds templates.now.entries decoded.old d

@@ -3,7 +3,8 @@
 use super::texts::*;
 use element_registry::Elements;
 use flow_collect::{
-    Exporter, InContext, NO_CONTEXT, OpenGate, Pool, SessionContext, collect_direct, collect_flat,
+    ContextFields, Exporter, InContext, NO_CONTEXT, OpenGate, Pool, SessionContext, collect_direct,
+    collect_flat,
 };
 use flow_table::{
     Choices, Context, EXPORTER, EXPORTER_IPV4_ADDRESS, EXPORTER_IPV6_ADDRESS, Key, Method,
@@ -92,7 +93,7 @@ fn fields_follow_the_records_own(rt: HostRuntime) -> Result<(), Fail> {
         exporter: Some(Exporter::Ipv4(IPV4)),
         wanted: ALL,
     };
-    context.append(&mut item)?;
+    ContextFields::new(rt.alloc(), context)?.append(&mut item)?;
     assert_eq!(rt; item.fields.len(), 4);
     assert!(rt; has(&item.fields, EXPORTER, &MAPPED));
     assert!(rt; has(&item.fields, EXPORTER_IPV4_ADDRESS, &[198, 51, 100, 9]));
@@ -100,22 +101,35 @@ fn fields_follow_the_records_own(rt: HostRuntime) -> Result<(), Fail> {
     Ok(())
 }
 
+// Each record gets the domain of its own message, not that of the message before.
 #[test]
-fn only_what_is_wanted_is_appended(rt: HostRuntime) -> Result<(), Fail> {
-    let mut item = with_field_130(rt.alloc())?;
-    NO_CONTEXT.append(&mut item)?;
-    assert_eq!(rt; item.fields.len(), 1);
-    let none_known = SessionContext {
+fn each_domain_has_its_own_fields(rt: HostRuntime) -> Result<(), Fail> {
+    let context = SessionContext {
         exporter: None,
         wanted: ALL,
     };
-    none_known.append(&mut item)?;
-    assert_eq!(rt; item.fields.len(), 2);
+    let mut fields = ContextFields::new(rt.alloc(), context)?;
+    for domain in [7, 0, 7, 8] {
+        let mut item = with_field_130(rt.alloc())?;
+        item.domain = domain;
+        fields.append(&mut item)?;
+        assert_eq!(rt; item.fields.len(), 2);
+        assert!(rt; has(&item.fields, OBSERVATION_DOMAIN_ID, &domain.to_be_bytes()));
+    }
+    Ok(())
+}
+
+#[test]
+fn only_what_is_wanted_is_appended(rt: HostRuntime) -> Result<(), Fail> {
+    let mut item = with_field_130(rt.alloc())?;
+    ContextFields::new(rt.alloc(), NO_CONTEXT)?.append(&mut item)?;
+    assert_eq!(rt; item.fields.len(), 1);
     let of_ipv6 = SessionContext {
         exporter: Some(Exporter::Ipv6(IPV6)),
         wanted: ALL,
     };
-    of_ipv6.append(&mut item)?;
+    ContextFields::new(rt.alloc(), of_ipv6)?.append(&mut item)?;
+    assert_eq!(rt; item.fields.len(), 4);
     assert!(rt; has(&item.fields, EXPORTER, &IPV6));
     assert!(rt; has(&item.fields, EXPORTER_IPV6_ADDRESS, &IPV6));
     Ok(())

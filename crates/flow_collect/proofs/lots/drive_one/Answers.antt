@@ -7,4 +7,4 @@ returns g c =
     let new = c.new-sink.ensures in
     let last = c.drive_in_full-report.new.sink in
     runs_one g.S.Source.seen c.args.next c.args.lot _ c.drive_in_full-report.new.source c.drive_in_full-report.result c.new-sink.result last
-    new.0 (ap (λ s. s.partial) new.3) refl (none_lost last.lost (sym c.if-is_some.false ∙ c.is_some.ensures)) (omega (arith, c.if-sink-gt0.false)) c.drive_in_full-report.ensures c.in_ok-push.ensures.items c.in_ok-push-2.ensures.items
+    (new.given.0 ∙ c.in_ok-fields.ensures) (ap (λ s. s.partial) new.given.1) refl (none_lost last.lost (sym c.if-is_some.false ∙ c.is_some.ensures)) (omega (arith, c.if-sink-gt0.false)) c.drive_in_full-report.ensures c.in_ok-push.ensures.items c.in_ok-push-2.ensures.items

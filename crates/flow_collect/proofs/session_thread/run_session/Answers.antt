@@ -19,9 +19,9 @@ returns g c =
     let chain = chain_sent (λ k. k.sender) (λ k. k.sent) first.sink (all_with_context first.context put.records) over.sink keep.chain in
     let last = rw c.if-not-sent.false at c.send_last-sent.ensures.sent in
     let new = c.new-sink.ensures in
-    let sender : first.sink.sender ≡ c.args.start.sender = ap (λ k. k.sender) new.3 ∙ c.new.ensures.0 in
+    let sender : first.sink.sender ≡ c.args.start.sender = ap (λ k. k.sender) new.given.1 ∙ c.new-2.ensures.0 in
     let sent : over.sink.sender.sent ≡ items (all_with_context c.args.start.context put.records) =
-    chain.0 ∙ ap (λ x. x ++ items (all_with_context first.context put.records)) (ap (λ s. s.sent) sender ∙ c.requires) ∙ ap (λ k. items (all_with_context k put.records)) new.0 in
+    chain.0 ∙ ap (λ x. x ++ items (all_with_context first.context put.records)) (ap (λ s. s.sent) sender ∙ c.requires) ∙ ap (λ k. items (all_with_context k put.records)) (new.given.0 ∙ c.in_ok-fields.ensures) in
     record {
       records = all_with_context c.args.start.context put.records;
       given = record { own = put.records; given = put.given; records_are = refl };

@@ -3,7 +3,7 @@ use Rattle.ipfix_wire.specs.declared.specifier.Spec.{Spec}
 use Rattle.ipfix_message.specs.SpelledFields.{BeginsWithFields, fields_in}
 use Rattle.ipfix_message.specs.declared.fault.MessageFault.TheVariants.{RecordCut}
 use Rattle.ipfix_message.proofs.SpelledFields.{no_specs, no_fields, first_field, not_cut}
-use Rattle.ipfix_message.proofs.field_iter.FieldIterIterator.next.Goals as goal
+use Rattle.ipfix_message.proofs.field_run.FieldRunIterator.next.Goals as goal
 
 pub returns-in_err-spec-clause-steps : goal.returns-in_err-spec-clause-steps
 returns-in_err-spec-clause-steps c =

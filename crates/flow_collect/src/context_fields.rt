@@ -1,0 +1,61 @@
+//! The fields that a session appends to its records, made once for all records of a domain.
+
+ghost use Rattle.std.specs.Prelude.{◌≡◌, IfOk, OnErr, OnOk};
+ghost use Rattle.flow_collect.specs.Contexts.{with_context};
+
+use crate::session_context::SessionContext;
+use ipfix_message::{DataRecord, SharedFields};
+use std::alloc::{AllocError, Global};
+use std::marker::Model;
+
+/// What a session knows beside its records, and the fields that say so of the domain of its latest record.
+/// Contracts see what it knows.
+#[derive(Drop)]
+pub struct ContextFields {
+    alloc: Global,
+    context: SessionContext,
+    domain: u32,
+    fields: SharedFields,
+}
+
+impl Model for ContextFields {
+    ghost use Rattle.std.specs.Prelude.{◌≡◌};
+    ghost use Rattle.flow_collect.specs.Contexts.{context_fields};
+    ghost use Rattle.flow_collect.specs.declared.session_context.SessionContext.{SessionContext};
+
+    ghost Value = { SessionContext };
+
+    ghost view = { λ f. f.context };
+
+    ghost invariant = { λ f. f.fields ≡ context_fields f.context f.domain };
+}
+
+impl ContextFields {
+    /// Those of a session with this context.
+    pub fn new(alloc: Global, context: SessionContext) -> Result<Self, AllocError>
+        ensures { IfOk result (λ f. f ≡ context) }
+    {
+        let domain = 0;
+        let fields = context.fields(alloc, domain)?.to_shared()?;
+        Ok(ContextFields {
+            alloc,
+            context,
+            domain,
+            fields,
+        })
+    }
+
+    /// Appends them to a record.
+    pub fn append(&mut self, item: &mut DataRecord) -> Result<(), AllocError>
+        ensures kept { self.new ≡ self.old }
+        ensures ok { OnOk result (item.new ≡ with_context self.old item.old) }
+        ensures err { OnErr result (item.new ≡ item.old) }
+    {
+        if self.domain == item.domain {
+            return item.fields.extend_shared(&self.fields);
+        }
+        self.fields = self.context.fields(self.alloc, item.domain)?.to_shared()?;
+        self.domain = item.domain;
+        item.fields.extend_shared(&self.fields)
+    }
+}

@@ -1,6 +1,0 @@
-use Rattle.std.proofs.Common.{sym}
-use Rattle.ipfix_message.proofs.SpelledFields.{length-fields_in}
-use Rattle.ipfix_message.proofs.field_iter.FieldIter.left.Goals as goal
-
-pub returns : goal.returns
-returns c = rw (← c.self.view_is) (sym (length-fields_in c.self.inside.specs.now c.self.inside.octets.now c.self.invariant))
