@@ -1,8 +1,9 @@
 -- What an error of a part tells is what an error of the whole tells.
 use Rattle.std.proofs.Common.{◌≡◌, ℕ, true, List, Option, Some, None, refl, sym, ap, subst, ◌∙◌}
-use Rattle.std.specs.Prelude.{Result, Ok, Err, string_bytes}
+use Rattle.std.specs.Prelude.{Result, Ok, Err, IfOk, IfErr, string_bytes}
 use Rattle.std.specs.Option.{ok_or}
 use Rattle.std.specs.Result.{result_ok}
+use Rattle.std.specs.Str.{IsUtf8}
 use Rattle.flow_table.specs.declared.key.Key.{Key}
 use Rattle.flow_table.specs.Plans.{PlanValue}
 use Rattle.toml.specs.Data.{Members}
@@ -16,7 +17,7 @@ use Rattle.flow_plan.specs.declared.error.PlanTextError.{PlanTextError}
 use Rattle.flow_plan.specs.declared.error.PlanTextError.TheVariants.{NotUtf8, NotToml, UnknownField, Missing, WrongKind, UnknownElement, Plan, OutOfMemory}
 use Rattle.flow_plan.specs.Faults.{Read, Fails}
 use Rattle.flow_plan.specs.PlanTexts.{Fields, all_of, counters_in, has_known_fields, fields_of, key_named, keys_in, plan_of_fields, plan_of_document, plan_of_text}
-use Rattle.flow_plan.specs.Places.{fault_of, refused_key, no_counter_in, no_key_in, IsUnknown, Tells, TellsKey}
+use Rattle.flow_plan.specs.Places.{fault_of, refused_key, no_counter_in, no_key_in, IsDocument, IsNoDocument, IsNoTextOfDocument, IsPlanError, IsPlanOf, IsUnknown, Tells, TellsKey}
 use Rattle.flow_plan.specs.Shown.{GivesOr, IsOfKey, IsOfText, IsOfValues}
 use Rattle.flow_plan.proofs.Listed.{none_without}
 
@@ -89,3 +90,33 @@ of_document known text d (Err (Plan fault place)) is h = (rw is h.0, (d, is, h.1
 of_document known text d (Err OutOfMemory) is h = (tt, tt)
 of_document known text d (Err (NotUtf8 line)) is h = absurd h.1
 of_document known text d (Err (NotToml error line column message)) is h = absurd h.1
+
+-- ---- octets
+
+pub no_text : (known : List Known) (text : List ℕ) (e : PlanTextError) → IsUtf8 text → IsNoTextOfDocument text e → IsPlanError known text e
+no_text known text (NotToml error line column message) utf8 n = record { place = (n.1, n.2, n.3, n.4); fault = λ is. rw n.0 refl; not_utf8 = λ no. absurd (no utf8) }
+no_text known text OutOfMemory utf8 n = record { place = tt; fault = λ is. tt; not_utf8 = λ no. absurd (no utf8) }
+no_text known text (NotUtf8 line) utf8 n = absurd n
+no_text known text (UnknownField key) utf8 n = absurd n
+no_text known text (Missing key) utf8 n = absurd n
+no_text known text (WrongKind key) utf8 n = absurd n
+no_text known text (UnknownElement key name) utf8 n = absurd n
+no_text known text (Plan fault place) utf8 n = absurd n
+
+pub no_document : (known : List Known) (octets : List ℕ) (e : PlanTextError) → IsNoDocument octets e → IsPlanError known octets e
+no_document known octets (NotUtf8 line) n = record { place = n.1; fault = λ utf8. absurd (n.0 utf8); not_utf8 = λ no. refl }
+no_document known octets (NotToml error line column message) n = no_text known octets _ n.0 n.1
+no_document known octets OutOfMemory n = no_text known octets _ n.0 n.1
+no_document known octets (UnknownField key) n = no_text known octets _ n.0 n.1
+no_document known octets (Missing key) n = no_text known octets _ n.0 n.1
+no_document known octets (WrongKind key) n = no_text known octets _ n.0 n.1
+no_document known octets (UnknownElement key name) n = no_text known octets _ n.0 n.1
+no_document known octets (Plan fault place) n = no_text known octets _ n.0 n.1
+
+-- what is read of the members of the document of octets
+pub of_octets : (known : List Known) (octets : List ℕ) (d : Members) (r : Result PlanValue PlanTextError) → IsDocument octets d → GivesOr (λ plan. plan) (TellsKey known d) r (plan_of_document known d)
+    → IfOk r (IsPlanOf known octets) × IfErr r (IsPlanError known octets)
+of_octets known octets d (Ok plan) is h = ((is.0, of_document known octets d (Ok plan) is.1 h), tt)
+of_octets known octets d (Err e) is h =
+    let told = of_document known octets d (Err e) is.1 h in
+    (tt, record { place = told.1; fault = λ utf8. told.0; not_utf8 = λ no. absurd (no is.0) })

@@ -123,6 +123,22 @@ Tells known octets error = (d : Members) × (parse_document octets ≡ Some d) �
 
 -- ---- what is read of octets
 
+-- they are UTF-8, and this is their document
+abbrev pub IsDocument : List ℕ → Members → Type 0
+IsDocument octets d = IsUtf8 octets × (parse_document octets ≡ Some d)
+
+-- a text is no document, and the parser of TOML says so at this line and column; or memory ran out
+abbrev pub IsNoTextOfDocument : List ℕ → PlanTextError → Type 0
+IsNoTextOfDocument text (NotToml error line column message) =
+    (parse_document text ≡ None) × (¬ (IsMemory error)) × IsWithin text error × (line ≡ line_at text (span_start error)) × (column ≡ column_at text (span_start error))
+IsNoTextOfDocument text OutOfMemory = Unit {0}
+IsNoTextOfDocument text _ = ⊥
+
+-- octets are no document: they are no UTF-8 at this line, or no document as texts
+abbrev pub IsNoDocument : List ℕ → PlanTextError → Type 0
+IsNoDocument octets (NotUtf8 line) = (¬ (IsUtf8 octets)) × ((place : ℕ) × IsValidUpTo octets place × (line ≡ line_at octets place))
+IsNoDocument octets error = IsUtf8 octets × IsNoTextOfDocument octets error
+
 -- they are UTF-8, and this is their plan
 abbrev pub IsPlanOf : List Known → List ℕ → PlanValue → Type 0
 IsPlanOf known octets plan = IsUtf8 octets × (plan_of_text known octets ≡ Ok plan)

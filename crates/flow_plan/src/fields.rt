@@ -175,8 +175,8 @@ fn totals_in(value: &Value) -> Option<Totals>
     }
 }
 
-// An array of texts alone.
-fn texts_in(alloc: Global, value: &Value) -> Result<Option<Vec<&str>>, AllocError>
+/// The texts of an array that has nothing else, and none of any other value.
+pub fn texts_in(alloc: Global, value: &Value) -> Result<Option<Vec<&str>>, AllocError>
     ensures { IfOk result (λ found. option_map texts_of found ≡ texts (view value.now)) }
 {
     let Some(values) = value.as_array() else {

@@ -13,4 +13,6 @@ mod repeats;
 
 pub use error::{PlanKey, PlanPlace, PlanTextError};
 pub use fault::PlanTextFault;
-pub use reading::{read_plan, read_plan_with};
+pub use fields::texts_in;
+pub use named::key_element;
+pub use reading::{read_document, read_members, read_plan, read_plan_with};

@@ -74,8 +74,8 @@ fn key_named(elements: &Elements, text: &str) -> Option<Key>
     }
 }
 
-// The element of a key's name: one of context, or else one that is built in or of a file.
-fn key_element(elements: &Elements, name: &str) -> Option<ElementId>
+/// The element of a key's name: one of context, or else one that is built in or of a file.
+pub fn key_element(elements: &Elements, name: &str) -> Option<ElementId>
     ensures { result ≡ key_element_in elements.now name.now }
 {
     match context_named(name) {

@@ -1,11 +1,12 @@
 //! Reading a plan.
 
-ghost use Rattle.std.specs.Prelude.{◌≡◌, [], Ok, IfOk, IfErr};
+ghost use Rattle.std.specs.Prelude.{◌≡◌, [], Ok, Some, IfOk, IfErr};
 ghost use Rattle.flow_table.specs.Plans.{IsPlan};
+ghost use Rattle.toml.specs.Parse.{parse_document};
 ghost use Rattle.toml.specs.View.{table_view};
 ghost use Rattle.flow_plan.specs.Faults.{Fails};
 ghost use Rattle.flow_plan.specs.PlanTexts.{plan_of_text, plan_of_document, plan_of_fields};
-ghost use Rattle.flow_plan.specs.Places.{IsPlanError, IsPlanOf, Tells, TellsKey};
+ghost use Rattle.flow_plan.specs.Places.{IsDocument, IsNoDocument, IsNoTextOfDocument, IsPlanError, IsPlanOf, TellsKey};
 ghost use Rattle.flow_plan.specs.Shown.{shown, IsOfValues, ReadsPlan};
 
 use crate::blame::place_of;
@@ -66,19 +67,32 @@ pub fn read_plan_with(
     // no element stands twice.
     ensures sound { IfOk result IsPlan }
 {
+    match read_document(alloc, octets) {
+        Ok(table) => read_members(alloc, elements, &table),
+        Err(error) => Err(error),
+    }
+}
+
+/// The TOML document of octets that are to be UTF-8. A fault comes with its place: the line at which the octets are
+/// no UTF-8, or the line and the column at which they are no TOML.
+pub fn read_document(alloc: Global, octets: &[u8]) -> Result<Table, PlanTextError>
+    ensures ok { IfOk result (λ table. IsDocument octets.now (table_view table)) }
+    ensures err { IfErr result (IsNoDocument octets.now) }
+{
     match str::from_utf8(octets) {
-        Ok(text) => read_text(alloc, elements, text),
+        Ok(text) => read_text(alloc, text),
         Err(error) => Err(PlanTextError::NotUtf8 {
             line: line_at(octets, error.valid_up_to()),
         }),
     }
 }
 
-fn read_text(alloc: Global, elements: &Elements, text: &str) -> Result<Plan, PlanTextError>
-    ensures { ReadsPlan Tells plan_of_text elements.now text.now result }
+fn read_text(alloc: Global, text: &str) -> Result<Table, PlanTextError>
+    ensures ok { IfOk result (λ table. parse_document text.now ≡ Some (table_view table)) }
+    ensures err { IfErr result (IsNoTextOfDocument text.now) }
 {
     let error = match toml::table_from_str(alloc, text) {
-        Ok(table) => return read_document(alloc, elements, &table),
+        Ok(table) => return Ok(table),
         Err(error) => error,
     };
     match error.span() {
@@ -92,8 +106,16 @@ fn read_text(alloc: Global, elements: &Elements, text: &str) -> Result<Plan, Pla
     }
 }
 
-fn read_document(alloc: Global, elements: &Elements, table: &Table) -> Result<Plan, PlanTextError>
-    ensures { ReadsPlan TellsKey plan_of_document elements.now (table_view table.now) result }
+/// The plan of the members of a document, as [`read_plan_with`] reads it of a text, with its place in them.
+pub fn read_members(
+    alloc: Global,
+    elements: &Elements,
+    table: &Table,
+) -> Result<Plan, PlanTextError>
+    ensures reads { ReadsPlan TellsKey plan_of_document elements.now (table_view table.now) result }
+    // Its numbers are in their ranges, its keys can be compared and its keys and counters are no times of flows, and
+    // no element stands twice.
+    ensures sound { IfOk result IsPlan }
 {
     if let Some(key) = unknown_field(table) {
         return Err(PlanTextError::UnknownField { key: key.clone()? });
@@ -103,7 +125,8 @@ fn read_document(alloc: Global, elements: &Elements, table: &Table) -> Result<Pl
 }
 
 fn make_plan(alloc: Global, elements: &Elements, fields: &Fields) -> Result<Plan, PlanTextError>
-    ensures { ReadsPlan IsOfValues plan_of_fields elements.now (shown fields.now) result }
+    ensures reads { ReadsPlan IsOfValues plan_of_fields elements.now (shown fields.now) result }
+    ensures sound { IfOk result IsPlan }
 {
     let keys = keys_named(alloc, elements, &fields.keys)?;
     let counters = counters_named(alloc, elements, &fields.counters)?;
