@@ -1,11 +1,17 @@
 -- How long a connection may be silent, and which failing read is a tick.
-use Rattle.std.specs.Prelude.{◌≡◌, ℕ, ◌≤◌, ◌-◌, ◌⊎◌, Bool, false, Option, Some}
+use Rattle.std.specs.Prelude.{◌≡◌, ℕ, ◌≤◌, ◌-◌, ◌⊎◌, Bool, false, List, Option, Some, Result}
 use Rattle.std.specs.Duration.{as_nanos}
 use Rattle.std.specs.Time.{instant_nanos}
 use Rattle.std.specs.declared.time.Duration.{Duration}
 use Rattle.std.specs.declared.time.Instant.{Instant}
 use Rattle.std.specs.declared.io.ErrorKind.{ErrorKind}
 use Rattle.std.specs.declared.io.ErrorKind.TheVariants.{Interrupted, TimedOut, WouldBlock}
+use Rattle.ipfix_session.specs.Sources.{IsRead, SourceView}
+use Rattle.ipfix_session.specs.declared.source.ReadError.{ReadError}
+
+-- a source was read
+abbrev pub WasRead : {S : Type 0} → (S → SourceView) → S → Result ℕ ReadError → S → List ℕ → Type 0
+WasRead seen before answer after buffer = IsRead (seen before) answer (seen after) buffer
 
 -- nothing was heard since then, for as long as it may be or longer
 abbrev pub IsTooLong : Option Duration → Option Instant → Option Instant → Type 0

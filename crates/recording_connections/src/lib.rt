@@ -15,7 +15,7 @@ mod system;
 mod unserved;
 
 pub use connection::{Connection, ConnectionSource, NotAccepted, PatientListener};
-pub use patient_reader::{PatientReader, SilenceLimits};
+pub use patient_reader::{Moments, PatientReader, SilenceLimits};
 pub use place::{Recording, RecordingFiles, SessionPlace};
 pub use recorder_run::{RecordOrder, RecorderRun};
 pub use recording_folder::FolderFault;

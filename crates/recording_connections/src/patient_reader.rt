@@ -1,17 +1,39 @@
 //! A connection as a source: a read that waits too long is a tick, and not the end.
 
-ghost use Rattle.std.specs.Prelude.{◌≡◌, ◌≤◌, ◌-◌, ◌↔◌, [], true, IsTrue};
+ghost use Rattle.std.specs.Prelude.{◌≡◌, ◌⊎◌, ◌≤◌, ◌-◌, ◌↔◌, ⊤, [], true, IsTrue, OnErr, OnOk};
 ghost use Rattle.std.specs.Option.{ForSome};
 ghost use Rattle.std.specs.Duration.{as_nanos};
 ghost use Rattle.std.specs.IoError.{error_kind};
 ghost use Rattle.std.specs.Time.{instant_nanos};
 ghost use Rattle.ipfix_session.specs.Sources.{unread};
-ghost use Rattle.recording_connections.specs.Silences.{IsOverdue, IsTick, IsTooLong};
+ghost use Rattle.recording_connections.specs.Silences.{IsOverdue, IsTick, IsTooLong, WasRead};
 
 use ipfix_session::{MessageCounter, ReadError, Source};
 use std::io::{self, ErrorKind, Read};
 use std::rt::Clock;
 use std::time::{Duration, Instant};
+
+/// What tells the time, or that it isn't known.
+pub trait Moments {
+    ghost use Rattle.std.specs.Prelude.{Option};
+    ghost use Rattle.std.specs.declared.time.Instant.{Instant};
+
+    /// Whether it may tell this time.
+    ghost tells: { Self → Option Instant → Type 0 };
+
+    /// What it tells now.
+    fn moment(&self) -> Option<Instant>
+        ensures { tells self.now result };
+}
+
+/// A clock of the system may tell any time.
+impl<C: Clock> Moments for C {
+    ghost tells = { λ _ _. ⊤ };
+
+    fn moment(&self) -> Option<Instant> {
+        Instant::now(self).ok()
+    }
+}
 
 /// For how long a connection may be silent.
 #[derive(Clone, Copy, Debug, PartialEq, Eq)]
@@ -27,7 +49,7 @@ pub struct SilenceLimits {
 /// reader fails, and if the first message is not whole in time. Once it has shown its end it doesn't ask the reader
 /// again.
 #[derive(Drop)]
-pub struct PatientReader<'a, R: Read, C: Clock> {
+pub struct PatientReader<'a, R: Read, C: Moments> {
     reader: R,
     clock: &'a C,
     silence: SilenceLimits,
@@ -41,12 +63,16 @@ pub struct PatientReader<'a, R: Read, C: Clock> {
     ghost behind_the_end: { ended ≡ true → ForSome (R.remaining reader) (λ xs. xs ≡ []) },
 }
 
-impl<'a, R: Read, C: Clock> PatientReader<'a, R, C> {
+impl<'a, R: Read, C: Moments> PatientReader<'a, R, C> {
     /// A source of which nothing was read, of a connection that begins now.
     pub fn new(clock: &'a C, reader: R, silence: SilenceLimits) -> Self
-        ensures { ⟦<PatientReader<'a, R, C> as Source>⟧.seen result ≡ unread (R.remaining reader) }
+        ensures unread { ⟦<PatientReader<'a, R, C> as Source>⟧.seen result
+            ≡ unread (R.remaining reader) }
+        ensures silence { result.silence ≡ silence }
+        ensures begun { C.tells clock.now result.begun }
+        ensures heard { result.heard ≡ result.begun }
     {
-        let now = Instant::now(clock).ok();
+        let now = clock.moment();
         PatientReader {
             reader,
             clock,
@@ -69,7 +95,7 @@ impl<'a, R: Read, C: Clock> PatientReader<'a, R, C> {
     }
 }
 
-impl<'a, R: Read, C: Clock> Source for PatientReader<'a, R, C> {
+impl<'a, R: Read, C: Moments> Source for PatientReader<'a, R, C> {
     ghost seen = { λ s. record {
       text = R.remaining s.reader;
       reads = s.reads;
@@ -79,12 +105,21 @@ impl<'a, R: Read, C: Clock> Source for PatientReader<'a, R, C> {
 
     ghost ended_is_end = { λ s e. s.behind_the_end e };
 
-    fn read(&mut self, buffer: &mut [u8]) -> Result<usize, ReadError> {
+    fn read(&mut self, buffer: &mut [u8]) -> Result<usize, ReadError>
+        ensures read { WasRead ⟦<PatientReader<'a, R, C> as Source>⟧.seen
+            self.old result self.new buffer.new }
+        // After octets came, the time at which something was heard last is what the clock told; a tick leaves it.
+        ensures heard { OnOk result ((self.old.ended ≡ true)
+            ⊎ C.tells self.old.clock.now self.new.heard) }
+        ensures unheard { OnErr result (self.new.heard ≡ self.old.heard) }
+        ensures begun { self.new.begun ≡ self.old.begun }
+        ensures silence { self.new.silence ≡ self.old.silence }
+    {
         self.reads = self.reads.saturating_add(1);
         if self.ended {
             return Ok(0);
         }
-        if self.is_overdue(Instant::now(self.clock).ok()) {
+        if self.is_overdue(self.clock.moment()) {
             self.failed = self.failed.saturating_add(1);
             return Err(ReadError::Failed);
         }
@@ -92,11 +127,11 @@ impl<'a, R: Read, C: Clock> Source for PatientReader<'a, R, C> {
             Ok(count) => {
                 look_for_message(&mut self.messages, &buffer[..count]);
                 self.ended = count == 0 && !buffer.is_empty();
-                self.heard = Instant::now(self.clock).ok();
+                self.heard = self.clock.moment();
                 Ok(count)
             }
             Err(error) => {
-                let now = Instant::now(self.clock).ok();
+                let now = self.clock.moment();
                 let error = read_error(&error, is_too_long(self.silence.idle, self.heard, now));
                 if error == ReadError::Failed {
                     self.failed = self.failed.saturating_add(1);

@@ -4,6 +4,7 @@ ghost use Rattle.std.specs.Prelude.{◌≡◌, IfOk};
 ghost use Rattle.std.specs.Arc.{arc_value};
 ghost use Rattle.std.specs.Duration.{as_nanos};
 ghost use Rattle.std.specs.Int.NonZero.{non_zero_u64_get};
+ghost use Rattle.recording_connections.specs.LeftFiles.{AreLookedAfter};
 ghost use Rattle.recording_folder.specs.EndedFiles.{EndsLast};
 ghost use Rattle.recording_folder.specs.FiledSessions.{IsNamed};
 ghost use Rattle.recording_names.specs.declared.transport.Transport.TheVariants.{Connection};
@@ -23,7 +24,7 @@ use recording_names::Transport;
 use report_writing::Status;
 use std::alloc::{AllocError, Global};
 use std::fs::{File, Files};
-use std::io::Write;
+use std::io::{Read, Write};
 use std::net::{SocketAddr, TcpListener};
 use std::rt::Clock;
 use std::sync::Wait;
@@ -112,7 +113,9 @@ pub fn finish_recordings<E: Write + Drop, H: Files<File = File> + Alloc<A = Glob
     alloc: Global,
     path: &str,
     err: E,
-) -> Result<u64, FolderFault> {
+) -> Result<u64, FolderFault>
+    ensures { IfOk result (AreLookedAfter ⟦<File as Read>⟧.remaining E.contents err) }
+{
     let folder = reopen_folder(rt, alloc, path)?;
     finish_left(rt, &folder, err, &mut EarlierPeers::new(alloc))
 }
@@ -123,8 +126,12 @@ fn finish_left<E: Write + Drop, H: Files<File = File> + Alloc<A = Global> + Clon
     folder: &Folder,
     err: E,
     earlier: &mut EarlierPeers,
-) -> Result<u64, FolderFault> {
-    Ok(recover(rt, folder, &mut WholeLines::new(err), earlier)?)
+) -> Result<u64, FolderFault>
+    ensures { IfOk result (AreLookedAfter ⟦<File as Read>⟧.remaining E.contents err) }
+{
+    let mut lines = WholeLines::new(err);
+    let stayed = recover(rt, folder, &mut lines, earlier)?;
+    Ok(stayed)
 }
 
 /// Records in the folder of a run what comes over connections, for ever. Sessions are numbered by the shared counts. It

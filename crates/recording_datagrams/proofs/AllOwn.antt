@@ -18,7 +18,7 @@ use Rattle.recording_peers.specs.declared.datagram_source.NoDatagram.TheVariants
 use Rattle.recording_peers.specs.declared.peer_state.PeerState.{PeerState}
 use Rattle.recording_peers.specs.declared.peers.Peers.{Peers}
 use Rattle.recording_peers.specs.declared.outcome.Became.{Became}
-use Rattle.recording_peers.specs.declared.outcome.Became.TheVariants.{Taken, Ended, NoMemory}
+use Rattle.recording_peers.specs.declared.outcome.Became.TheVariants.{Taken, Ended, NoPlace, NoMemory}
 use Rattle.recording_peers.proofs.Alone.{one, same_of, same_option}
 use Rattle.recording_peers.proofs.Paired.{paired_lookup}
 use Rattle.recording_connections.specs.declared.shared_counts.SharedCounts.{SharedCounts}
@@ -110,6 +110,9 @@ module _ {F : Type 0} (seen : F → FilesView) (peer : SocketAddr) (seconds : �
       taken_by (Ended k) p a t e s =
           let none = found_none peer (others_for most r.peer cs) (others_of peer r.peer (others_for most r.peer cs) e (others_are most r.peer cs a)) in
           absurd (not_there (of_peer peer (others_for most r.peer cs)) none (came_to after (others_for most r.peer cs) p s))
+      taken_by NoPlace p a t e s =
+          let none : of_peer peer es ≡ None = sym (same_of most peer r.peer es e) ∙ t.nothing.begins in
+          absurd (not_there (of_peer peer es) none (subst (λ (l : List (SocketAddr × PeerState F)). IsIn l) t.nothing.same s))
       taken_by NoMemory p a t e s =
           let none : of_peer peer es ≡ None = sym (same_of most peer r.peer es e) ∙ t.begins in
           absurd (not_there (of_peer peer es) none (subst (λ (l : List (SocketAddr × PeerState F)). IsIn l) t.same s))
@@ -168,8 +171,8 @@ module _ {F : Type 0} (seen : F → FilesView) (peer : SocketAddr) (seconds : �
         → HasAll own before.kept.entries → IsProcessedIf seen finishes made_for before after may_send shared then from m now lines → (IsIn before.kept.entries → IsIn after.kept.entries)
         → (cond (may_send && same_peer peer from) (DatagramCame m now ∷ []) [] ≢ [] → IsIn after.kept.entries) → HasAll (λ p. own p ++ cond (may_send && same_peer p from) (DatagramCame m now ∷ []) []) after.kept.entries
     sent_all made_for datagrams own true before after shared then from m now lines e s t stays its =
-        let r : Reception F = record { peer = from; octets = m; second = now; became = t.1.became; gone = t.1.gone } in
-        let records = subst (λ n. Records seen made_for n before.kept.cap r before.kept.entries after.kept.entries) e t.1.records in
+        let r : Reception F = record { peer = from; octets = m; second = now; became = t.became; gone = t.gone } in
+        let records = subst (λ n. Records seen made_for n before.kept.cap r before.kept.entries after.kept.entries) e t.records in
         with_one own made_for datagrams before.kept.cap r before.kept.entries after.kept.entries s records stays (its_own from (DatagramCame m now) its)
     sent_all made_for datagrams own false before after shared then from m now lines e s t stays its =
         all_same own _ before.kept.entries after.kept.entries (λ p. sym (append-nil (own p))) (ap (λ (k : Peers F). k.kept.entries) t.1) s

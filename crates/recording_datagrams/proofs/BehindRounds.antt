@@ -35,7 +35,7 @@ own_steps own was r p = simp append_assoc
 
 module _ {F : Type 0} (seen : F → FilesView) (finishes : F → FileReport → Result (Unit {0}) NotWritten → Type 0) (made_for : F → SocketAddr → Type 0) where
   sent_reorder : (may_send : Bool) (before after : Peers F) (shared then : SharedCounts) (from : SocketAddr) (m : List ℕ) (now : ℕ) (lines : List ℕ) → IsProcessedIf seen finishes made_for before after may_send shared then from m now lines → after.reorder ≡ before.reorder
-  sent_reorder true before after shared then from m now lines t = t.1.limits.reorder
+  sent_reorder true before after shared then from m now lines t = t.limits.reorder
   sent_reorder false before after shared then from m now lines t = ap (λ (p : Peers F). p.reorder) t.1
 
 module _ {F P W : Type 0} (seen : F → FilesView) (finishes : F → FileReport → Result (Unit {0}) NotWritten → Type 0) (made_for : F → SocketAddr → Type 0) (asked : P → ClockView) where
@@ -86,8 +86,8 @@ module _ {F : Type 0} (seen : F → FilesView) (finishes : F → FileReport → 
   sent_stand : (own : SocketAddr → List Happening) (may_send : Bool) (before after : Peers F) (shared then : SharedCounts) (from : SocketAddr) (m : List ℕ) (now : ℕ) (lines : List ℕ) → before.reorder ≡ seconds → Stands seen seconds own before.kept.entries
       → IsProcessedIf seen finishes made_for before after may_send shared then from m now lines → Stands seen seconds (λ p. own p ++ cond (may_send && same_peer p from) (DatagramCame m now ∷ []) []) after.kept.entries
   sent_stand own true before after shared then from m now lines e s t =
-      behind_datagram seen seconds own made_for laws.datagrams before.kept.cap (record { peer = from; octets = m; second = now; became = t.1.became; gone = t.1.gone }) before.kept.entries after.kept.entries s
-      (subst (λ n. Records seen made_for n before.kept.cap (record { peer = from; octets = m; second = now; became = t.1.became; gone = t.1.gone }) before.kept.entries after.kept.entries) e t.1.records)
+      behind_datagram seen seconds own made_for laws.datagrams before.kept.cap (record { peer = from; octets = m; second = now; became = t.became; gone = t.gone }) before.kept.entries after.kept.entries s
+      (subst (λ n. Records seen made_for n before.kept.cap (record { peer = from; octets = m; second = now; became = t.became; gone = t.gone }) before.kept.entries after.kept.entries) e t.records)
   sent_stand own false before after shared then from m now lines e s t =
       same_stand seen seconds own _ before.kept.entries after.kept.entries (λ p. sym (append-nil (own p))) (ap (λ (k : Peers F). k.kept.entries) t.1) s
 

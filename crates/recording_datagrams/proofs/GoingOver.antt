@@ -1,5 +1,5 @@
 -- The turns of all peers, and the end of those that are silent.
-use Rattle.std.proofs.Common.{◌≡◌, ℕ, ◌+◌, ◌-◌, ◌<◌, ◌≤◌, ◌⊎◌, Bool, List, [], ◌∷◌, ◌++◌, length, take, Option, Some, Vec, Global, Result, Ok, Err, refl, sym, ap, ◌∙◌, subst, inl, inr, arith, length-append, append-nil, append_assoc}
+use Rattle.std.proofs.Common.{◌≡◌, ℕ, ◌+◌, ◌-◌, ◌<◌, ◌≤◌, ◌⊎◌, Bool, List, [], ◌∷◌, ◌++◌, length, take, Option, Some, Result, Ok, Err, refl, sym, ap, ◌∙◌, subst, inl, inr, arith, length-append, append-nil, append_assoc}
 use Rattle.std.specs.declared.net.socket_addr.SocketAddr.{SocketAddr}
 use Rattle.lru.specs.LruCache.{last_entry}
 use Rattle.lru.proofs.Pairs.{cut_end, last_of_push}
@@ -7,15 +7,13 @@ use Rattle.recording_files.specs.Files.{FilesView}
 use Rattle.recording_files.specs.declared.file_report.FileReport.{FileReport}
 use Rattle.recording_files.specs.declared.file_series.NotWritten.{NotWritten}
 use Rattle.recording_files.specs.declared.record_fault.RecordFault.{RecordFault}
-use Rattle.recording_order.specs.declared.order_counts.OrderCounts.{OrderCounts}
 use Rattle.recording_peers.specs.Calls.{TakesTurn}
-use Rattle.recording_peers.specs.Steps.{KeepsLimits, ended_by, first_by}
+use Rattle.recording_peers.specs.Steps.{GoesOn, KeepsLimits, first_by}
 use Rattle.recording_peers.specs.declared.in_turn.InTurn.{InTurn}
 use Rattle.recording_peers.specs.declared.peer_state.PeerState.{PeerState}
 use Rattle.recording_peers.specs.declared.peers.Peers.{Peers}
-use Rattle.recording_peers.specs.declared.refusals.Refusals.{Refusals}
 use Rattle.recording_datagrams.specs.Ending.{TellsSome}
-use Rattle.recording_datagrams.specs.Turns.{IsTurnTold, IsTurn, HadTurn, HadTurns, EndsOneSilent, AreSilent, EndsSilent}
+use Rattle.recording_datagrams.specs.Turns.{IsTurnTold, IsTurn, HadTurn, HadTurns, EndsOneSilent, AreSilent, EndsSilent, in_turn}
 
 pub limits_both : {F : Type 0} {old mid new : Peers F} → KeepsLimits old mid → KeepsLimits mid new → KeepsLimits old new
 limits_both h k = record { room = k.room ∙ h.room; reorder = k.reorder ∙ h.reorder }
@@ -40,12 +38,12 @@ module _ {F : Type 0} (seen : F → FilesView) (finishes : F → FileReport → 
   first_before (Err fault) peer k kept front = refl
 
   -- what was told of it is told of these
-  turn_told : (peer : SocketAddr) (t : InTurn F) (refused : Option Refusals) (orders : List OrderCounts) (ended : Option (PeerState F)) (lines : List ℕ) → t.peer ≡ peer → t.refused ≡ refused → t.orders.items ≡ orders → t.ended ≡ ended
-      → IsTurnTold seen finishes t.peer t.refused t.orders.items t.ended lines → IsTurnTold seen finishes peer refused orders ended lines
-  turn_told peer t refused orders ended lines p r o e told =
-      subst (λ (x : Option (PeerState F)). IsTurnTold seen finishes peer refused orders x lines) e
-      (subst (λ (x : List OrderCounts). IsTurnTold seen finishes peer refused x t.ended lines) o
-      (subst (λ (x : Option Refusals). IsTurnTold seen finishes peer x t.orders.items t.ended lines) r (subst (λ (x : SocketAddr). IsTurnTold seen finishes x t.refused t.orders.items t.ended lines) p told)))
+  turn_told : (t : InTurn F) (es after : List (SocketAddr × PeerState F)) (lines : List ℕ) (peer : SocketAddr) (g : GoesOn seen second is_over es after t) → t.peer ≡ peer
+      → IsTurnTold seen finishes t lines → IsTurnTold seen finishes (in_turn peer g.turn g.new) lines
+  turn_told t es after lines peer g p told = subst (λ (x : InTurn F). IsTurnTold seen finishes x lines) same told
+    where
+      same : t ≡ in_turn peer g.turn g.new
+      same = λ i. record { peer = p i; refused = g.refused i; orders = g.orders i; resumed = g.resumed i; ended = g.ended i }
 
   -- the turn of the last one
   turn_of : (kept front : List (SocketAddr × PeerState F)) (e : SocketAddr × PeerState F) (after : List (SocketAddr × PeerState F)) (own : List ℕ) → IsTurn seen finishes second is_over ((kept ++ front) ++ e ∷ []) after own
@@ -57,8 +55,7 @@ module _ {F : Type 0} (seen : F → FilesView) (finishes : F → FileReport → 
       let peer : t.turn.peer ≡ e.0 = ap (λ (p : SocketAddr × PeerState F). p.0) same in
       let others : after ≡ first_by g.turn.answer e.0 g.new (kept ++ front) =
       g.others ∙ ap (λ (l : List (SocketAddr × PeerState F)). first_by g.turn.answer t.turn.peer g.new l) ends.1 ∙ ap (λ (p : SocketAddr). first_by g.turn.answer p g.new (kept ++ front)) peer in
-      let told : IsTurnTold seen finishes e.0 g.turn.refused g.turn.orders.items (ended_by g.turn.answer g.new) own =
-      turn_told e.0 t.turn g.turn.refused g.turn.orders.items (ended_by g.turn.answer g.new) own peer g.refused (ap (λ (v : Vec OrderCounts Global). v.items) g.orders) g.ended t.is_told in (
+      let told : IsTurnTold seen finishes (in_turn e.0 g.turn g.new) own = turn_told t.turn ((kept ++ front) ++ e ∷ []) after own e.0 g peer t.is_told in (
         first_by g.turn.answer e.0 g.new kept,
         record {
           new = g.new;

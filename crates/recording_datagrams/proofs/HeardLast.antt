@@ -16,7 +16,7 @@ use Rattle.recording_peers.specs.declared.datagram_source.NoDatagram.TheVariants
 use Rattle.recording_peers.specs.declared.peer_state.PeerState.{PeerState}
 use Rattle.recording_peers.specs.declared.peers.Peers.{Peers}
 use Rattle.recording_peers.specs.declared.outcome.Became.{Became}
-use Rattle.recording_peers.specs.declared.outcome.Became.TheVariants.{Taken, Ended, NoMemory}
+use Rattle.recording_peers.specs.declared.outcome.Became.TheVariants.{Taken, Ended, NoPlace, NoMemory}
 use Rattle.recording_connections.specs.declared.shared_counts.SharedCounts.{SharedCounts}
 use Rattle.recording_datagrams.specs.Taking.{Arrival, IsProcessedIf}
 use Rattle.recording_datagrams.specs.Turns.{HadTurns}
@@ -85,6 +85,7 @@ module _ {F : Type 0} where
 module _ {F : Type 0} (seen : F → FilesView) (finishes : F → FileReport → Result (Unit {0}) NotWritten → Type 0) where
   module _ (made_for : F → SocketAddr → Type 0) (seconds most : ℕ) (r : Reception F) (es after : List (SocketAddr × PeerState F)) where
     records_by : (became : Became F) → IsInOrder r.second es → RecordsBy seen made_for seconds became most r es after → IsInOrder r.second after
+    records_by NoPlace o t = subst (λ (l : List (SocketAddr × PeerState F)). IsInOrder r.second l) (sym t.nothing.same) o
     records_by NoMemory o t = subst (λ (l : List (SocketAddr × PeerState F)). IsInOrder r.second l) (sym t.same) o
     records_by Taken o t = by_answer t.answer r.second most r.peer t.new es after o (heard_at seen t.old t.new r.octets r.second t.answer t.takes) t.others
     records_by (Ended k) o t = by_answer t.answer r.second most r.peer t.new es after o (heard_at seen t.old t.new r.octets r.second t.answer t.takes) t.others
@@ -104,7 +105,7 @@ module _ {F : Type 0} (seen : F → FilesView) (finishes : F → FileReport → 
   takes_if : (made_for : F → SocketAddr → Type 0) (may_send : Bool) (before after : Peers F) (shared then : SharedCounts) (from : SocketAddr) (m : List ℕ) (now : ℕ) (lines : List ℕ) → IsInOrder now before.kept.entries
       → IsProcessedIf seen finishes made_for before after may_send shared then from m now lines → IsInOrder now after.kept.entries
   takes_if made_for true before after shared then from m now lines o t =
-      records made_for before.reorder before.kept.cap (record { peer = from; octets = m; second = now; became = t.1.became; gone = t.1.gone }) before.kept.entries after.kept.entries o t.1.records
+      records made_for before.reorder before.kept.cap (record { peer = from; octets = m; second = now; became = t.became; gone = t.gone }) before.kept.entries after.kept.entries o t.records
   takes_if made_for false before after shared then from m now lines o t = subst (λ (k : Peers F). IsInOrder now k.kept.entries) (sym t.1) o
 
 module _ {F P W : Type 0} (seen : F → FilesView) (finishes : F → FileReport → Result (Unit {0}) NotWritten → Type 0) (made_for : F → SocketAddr → Type 0) (asked : P → ClockView) where

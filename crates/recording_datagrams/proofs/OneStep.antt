@@ -15,7 +15,7 @@ use Rattle.recording_peers.specs.Steps.{GoesOn, Reception, Records, RecordsBy, b
 use Rattle.recording_peers.specs.Table.{Paired, others_for}
 use Rattle.recording_peers.specs.declared.in_turn.InTurn.{InTurn}
 use Rattle.recording_peers.specs.declared.outcome.Became.{Became}
-use Rattle.recording_peers.specs.declared.outcome.Became.TheVariants.{Taken, Ended, NoMemory}
+use Rattle.recording_peers.specs.declared.outcome.Became.TheVariants.{Taken, Ended, NoPlace, NoMemory}
 use Rattle.recording_peers.specs.declared.peer_state.PeerState.{PeerState}
 use Rattle.recording_peers.specs.declared.turn.Turn.{Turn}
 use Rattle.recording_peers.proofs.Paired.{paired_first, paired_others}
@@ -79,6 +79,7 @@ module _ {F : Type 0} (seen : F → FilesView) where
     heard_by_became : (became : Became F) → r.became ≡ became → Paired IsHeard es cs → RecordsBy seen made_for seconds became most r es after → Paired IsHeard after (happened_by became most r cs)
     heard_by_became Taken is p t = kept_heard t.answer most r t.new es after cs p (heard_now t.old t.new r.octets r.second t.answer (happened_to r.peer cs) t.takes) (sym is ∙ t.became) t.others
     heard_by_became (Ended k) is p t = others_heard t.answer k most r t.new es after cs p (sym is ∙ t.became) t.others
+    heard_by_became NoPlace is p t = subst (λ (l : List (SocketAddr × PeerState F)). Paired IsHeard l cs) (sym t.nothing.same) p
     heard_by_became NoMemory is p t = subst (λ (l : List (SocketAddr × PeerState F)). Paired IsHeard l cs) (sym t.same) p
 
     pub heard_after : Paired IsHeard es cs → Records seen made_for seconds most r es after → Paired IsHeard after (happened_in most r cs)
@@ -87,6 +88,7 @@ module _ {F : Type 0} (seen : F → FilesView) where
     stands_by : (became : Became F) → StandBy seen seconds became most r after cs → StandFor seen seconds after (happened_by became most r cs)
     stands_by Taken s = s.0
     stands_by (Ended k) s = s.0
+    stands_by NoPlace s = s.0
     stands_by NoMemory s = s.0
 
     pub stand_after : StandAfters seen made_for → StandFor seen seconds es cs → Records seen made_for seconds most r es after → StandFor seen seconds after (happened_in most r cs)
@@ -116,9 +118,9 @@ module _ {F : Type 0} (seen : F → FilesView) where
   pub turned : (law : StandInTurns seen) (seconds second : ℕ) (is_over : Bool) (peer : SocketAddr) (old new : PeerState F) (turn : Turn) (hs : List Happening) → IsSession seen old seconds hs → TakesTurn seen old new second is_over turn
       → TurnsTo seconds turn.answer new (hs ++ SecondBegan second ∷ [])
   turned law seconds second is_over peer old new turn hs s t =
-      let alone : InTurn F = record { peer = peer; refused = turn.refused; orders = turn.orders; ended = ended_by turn.answer new } in
+      let alone : InTurn F = record { peer = peer; refused = turn.refused; orders = turn.orders; resumed = turn.resumed; ended = ended_by turn.answer new } in
       let goes_on : GoesOn seen second is_over ((peer, old) ∷ []) (first_by turn.answer peer new []) alone =
-      record { old = old; last = refl; new = new; turn = turn; takes = t; refused = refl; orders = refl; ended = refl; others = refl } in
+      record { old = old; last = refl; new = new; turn = turn; takes = t; refused = refl; orders = refl; resumed = refl; ended = refl; others = refl } in
       let stand = law seconds second is_over ((peer, old) ∷ []) (first_by turn.answer peer new []) ((peer, hs) ∷ []) alone ((refl, s), tt) goes_on in
       let found : Some (peer, hs) ≡ Some stand.last = stand.is in
       let is : stand.last ≡ (peer, hs) = cc in

@@ -16,7 +16,7 @@ use Rattle.recording_peers.specs.Steps.{Reception, Records, RecordsBy, first_by}
 use Rattle.recording_peers.specs.Table.{same_peer, of_peer, others_for, Both, Paired}
 use Rattle.recording_peers.specs.declared.peer_state.PeerState.{PeerState}
 use Rattle.recording_peers.specs.declared.outcome.Became.{Became}
-use Rattle.recording_peers.specs.declared.outcome.Became.TheVariants.{Taken, Ended, NoMemory}
+use Rattle.recording_peers.specs.declared.outcome.Became.TheVariants.{Taken, Ended, NoPlace, NoMemory}
 use Rattle.recording_peers.proofs.Alone.{key_of, key_passes}
 use Rattle.recording_peers.proofs.Paired.{paired_lookup}
 use Rattle.recording_datagrams.specs.Turns.{HadTurns}
@@ -222,6 +222,9 @@ module _ {F : Type 0} (seen : F → FilesView) (seconds : ℕ) (own : SocketAddr
       → RecordsBy seen made_for seconds became most r es after → AreApart (happened_by became most r cs) × HaveLast (own_with own r.peer (came_in r)) (happened_by became most r cs)
   last_by made_for Taken most r es after cs p a l t = first_stands most r.peer (came_in r) cs a l
   last_by made_for (Ended k) most r es after cs p a l t = rest_stands most r.peer (came_in r) cs a l
+  last_by made_for NoPlace most r es after cs p a l t =
+      let none = none_of (of_peer r.peer es) (of_peer r.peer cs) (paired_lookup (λ (k : PeerState F) (hs : List Happening). IsSession seen k seconds hs) (same_peer r.peer) es cs p) t.nothing.begins in
+      (a, last_of_others own r.peer (came_in r) cs (not_found r.peer cs none) l)
   last_by made_for NoMemory most r es after cs p a l t =
       let none = none_of (of_peer r.peer es) (of_peer r.peer cs) (paired_lookup (λ (k : PeerState F) (hs : List Happening). IsSession seen k seconds hs) (same_peer r.peer) es cs p) t.begins in
       (a, last_of_others own r.peer (came_in r) cs (not_found r.peer cs none) l)

@@ -1,5 +1,5 @@
 -- A peer's session that has ended: its last file is finished, and its lines are told.
-use Rattle.std.specs.Prelude.{◌≡◌, ℕ, ◌==◌, ◌&&◌, false, List, [], ◌++◌, map, codes, Option, Some, None, Result, if◌then◌else◌}
+use Rattle.std.specs.Prelude.{◌≡◌, ℕ, ◌==◌, ◌&&◌, false, List, [], ◌++◌, drop, map, codes, Option, Some, None, Result, if◌then◌else◌}
 use Rattle.std.specs.List.{flat_map}
 use Rattle.std.specs.declared.net.socket_addr.SocketAddr.{SocketAddr}
 use Rattle.recording_files.specs.declared.file_report.FileReport.{FileReport}
@@ -14,11 +14,12 @@ use Rattle.ipfix_datagrams.specs.Reaches.{AdvancesView, told_of}
 use Rattle.ipfix_datagrams.specs.declared.domain_advance.DomainAdvance.{DomainAdvance}
 use Rattle.recording_peer.specs.Recording.{Tells as Reports, answer_of}
 use Rattle.recording_peer.specs.declared.peer_session.PeerSession.{PeerSession}
+use Rattle.recording_peer.specs.declared.resumption.Resumption.{Resumption}
 use Rattle.recording_peers.specs.Calls.{Follows}
 use Rattle.recording_peers.specs.declared.peer_state.PeerState.{PeerState}
 use Rattle.recording_peers.specs.declared.refusals.Refusals.{Refusals}
 use Rattle.report_writing.specs.Writing.{Tells}
-use Rattle.recording_lines.specs.RecordLines.{advance_line, order_line, peer_ended_line, refused_datagrams_line}
+use Rattle.recording_lines.specs.RecordLines.{advance_line, order_line, peer_ended_line, refused_datagrams_line, resumed_line}
 use Rattle.recording_connections.specs.Serving.{session_lines}
 use Rattle.ipfix_message.specs.Faults.{number_of, name_of}
 use Rattle.recording_datagrams.specs.declared.ending.EndCause.{EndCause}
@@ -43,6 +44,13 @@ order_lines peer counts = flat_map (domain_order_lines peer) counts
 -- of all that was counted since the counts began
 abbrev pub counted_lines : SocketAddr → WindowView → List ℕ
 counted_lines peer window = order_lines peer (map counts_of window.numbers)
+
+-- a line for each domain that went on after an earlier run
+abbrev pub domain_resumed_line : SocketAddr → Resumption → List ℕ
+domain_resumed_line peer r = resumed_line peer r.domain r.templates
+
+abbrev pub resumed_lines : SocketAddr → List Resumption → List ℕ
+resumed_lines peer resumed = flat_map (domain_resumed_line peer) resumed
 
 -- a line if it ends without a fault
 abbrev pub cause_lines : SocketAddr → Option EndCause → List ℕ
@@ -72,7 +80,7 @@ module _ {F : Type 0} (seen : F → FilesView) where
   IsReleasedFor (Some cause) kept released = (answer : Result (Unit {0}) RecordFault) × Follows seen finish false kept released answer
 
   -- what waits is recorded; then the last file of a peer was finished with its report, and the session's reports and advances are of
-  -- the datagrams that its recorder counted; these lines tell it
+  -- the datagrams that its recorder counted; these lines tell it, and which domains went on that weren't told
   pub record Ends (finishes : F → FileReport → Result (Unit {0}) NotWritten → Type 0) (peer : SocketAddr) (kept : PeerState F) (cause : Option EndCause)
       (lines : List ℕ) : Type 0 where
     pub released : PeerState F
@@ -82,7 +90,8 @@ module _ {F : Type 0} (seen : F → FilesView) where
     pub fault : session.session.ended ≡ answer_of released.recorder.ended
     pub finished : Result (Unit {0}) NotWritten
     pub is_finished : finishes released.files session.session.last finished
-    pub lines_are : lines ≡ ending_lines peer released.refused released.window cause session finished
+    pub lines_are : lines ≡ resumed_lines peer (drop released.resumptions_told session.resumed.items)
+        ++ ending_lines peer released.refused released.window cause session finished
 
 -- what a call answers that writes lines of which this is true: there are such lines, and it tells them
 pub record TellsSome {W A : Type 0} (contents : W → Option (List ℕ)) (has_failed : W → Type 0) (old new : W) (result : Result (Unit {0}) A) (Are : List ℕ → Type 0) : Type 0 where

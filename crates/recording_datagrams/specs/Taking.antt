@@ -11,7 +11,7 @@ use Rattle.recording_peers.specs.Steps.{KeepsLimits, Records}
 use Rattle.recording_peers.specs.declared.peer_state.PeerState.{PeerState}
 use Rattle.recording_peers.specs.declared.peers.Peers.{Peers}
 use Rattle.recording_peers.specs.declared.outcome.Became.{Became}
-use Rattle.recording_peers.specs.declared.outcome.Became.TheVariants.{Taken, Ended, NoMemory}
+use Rattle.recording_peers.specs.declared.outcome.Became.TheVariants.{Taken, Ended, NoPlace, NoMemory}
 use Rattle.network_prefixes.specs.Peers.{LetsIn}
 use Rattle.recording_connections.specs.Refusals.{one_more_refused}
 use Rattle.recording_connections.specs.Serving.{fault_line}
@@ -26,9 +26,16 @@ pub record Arrival : Type 0 where
   pub octets : List ℕ
   pub may_send : Bool
 
--- a datagram of a peer that may not send is counted
+-- a datagram of a peer that may not send, or that has no place, is counted
 abbrev pub one_turned_away : SharedCounts → SocketAddr → SharedCounts
 one_turned_away shared from = record shared { refused = Some (one_more_refused shared.refused from) }
+
+-- by what became of one of a peer that may send: one that finds no place is counted so, and no other
+abbrev pub unserved_by : {F : Type 0} → Became F → SharedCounts → SocketAddr → SharedCounts
+unserved_by Taken shared from = shared
+unserved_by (Ended kept) shared from = shared
+unserved_by NoPlace shared from = one_turned_away shared from
+unserved_by NoMemory shared from = shared
 
 module _ {F : Type 0} (seen : F → FilesView) (finishes : F → FileReport → Result (Unit {0}) NotWritten → Type 0) where
   -- the session of a peer that went ends, with these lines
@@ -36,17 +43,20 @@ module _ {F : Type 0} (seen : F → FilesView) (finishes : F → FileReport → 
   EvictedLines None lines = lines ≡ []
   EvictedLines (Some gone) lines = Ends seen finishes gone.0 gone.1 (Some LongestSilent) lines
 
-  -- the lines of what became of a datagram: of one that was taken none; refused and doubled ones are told later
+  -- the lines of what became of a datagram: of one that was taken none; refused and doubled ones, and those that find no place, are
+  -- told later
   abbrev pub OutcomeLines : SocketAddr → Became F → List ℕ → Type 0
   OutcomeLines peer Taken lines = lines ≡ []
   OutcomeLines peer (Ended kept) lines = Ends seen finishes peer kept None lines
+  OutcomeLines peer NoPlace lines = lines ≡ []
   OutcomeLines peer NoMemory lines = lines ≡ fault_line peer (faults.Message OutOfMemory)
 
 module _ {F : Type 0} (seen : F → FilesView) (finishes : F → FileReport → Result (Unit {0}) NotWritten → Type 0) (made_for : F → SocketAddr → Type 0)
     (before after : Peers F) where
   -- a datagram was taken among the peers that are kept, and what went or ended at that was finished and told
-  pub record IsProcessed (from : SocketAddr) (m : List ℕ) (now : ℕ) (lines : List ℕ) : Type 0 where
+  pub record IsProcessed (shared then : SharedCounts) (from : SocketAddr) (m : List ℕ) (now : ℕ) (lines : List ℕ) : Type 0 where
     pub became : Became F
+    pub counted : then ≡ unserved_by became shared from
     pub gone : Option (SocketAddr × PeerState F)
     pub records : Records seen made_for before.reorder before.kept.cap (record { peer = from; octets = m; second = now; became = became; gone = gone })
         before.kept.entries after.kept.entries
@@ -59,7 +69,7 @@ module _ {F : Type 0} (seen : F → FilesView) (finishes : F → FileReport → 
 
   -- one of a peer that may send is taken; of another it is counted that it came, and no more
   abbrev pub IsProcessedIf : Bool → SharedCounts → SharedCounts → SocketAddr → List ℕ → ℕ → List ℕ → Type 0
-  IsProcessedIf true shared then from m now lines = (then ≡ shared) × IsProcessed from m now lines
+  IsProcessedIf true shared then from m now lines = IsProcessed shared then from m now lines
   IsProcessedIf false shared then from m now lines = (then ≡ one_turned_away shared from) × (after ≡ before) × (lines ≡ [])
 
   -- by the filter

@@ -5,18 +5,16 @@ use Rattle.lru.specs.LruCache.{last_entry}
 use Rattle.recording_files.specs.Files.{FilesView}
 use Rattle.recording_files.specs.declared.file_report.FileReport.{FileReport}
 use Rattle.recording_files.specs.declared.file_series.NotWritten.{NotWritten}
-use Rattle.recording_order.specs.declared.order_counts.OrderCounts.{OrderCounts}
 use Rattle.recording_peers.specs.Calls.{TakesTurn}
 use Rattle.recording_peers.specs.Steps.{GoesOn, ended_by, first_by}
 use Rattle.recording_peers.specs.Table.{others_than_last}
 use Rattle.recording_peers.specs.declared.in_turn.InTurn.{InTurn}
 use Rattle.recording_peers.specs.declared.peer_state.PeerState.{PeerState}
 use Rattle.recording_peers.specs.declared.turn.Turn.{Turn}
-use Rattle.recording_peers.specs.declared.refusals.Refusals.{Refusals}
 use Rattle.recording_lines.specs.RecordLines.{not_received_line, turned_away_line}
 use Rattle.recording_connections.specs.declared.shared_counts.SharedCounts.{SharedCounts}
 use Rattle.recording_connections.specs.declared.shared_counts.RefusedPeers.{RefusedPeers}
-use Rattle.recording_datagrams.specs.Ending.{Ends, order_lines, refusal_lines}
+use Rattle.recording_datagrams.specs.Ending.{Ends, order_lines, refusal_lines, resumed_lines}
 use Rattle.recording_datagrams.specs.declared.ending.EndCause.TheVariants.{Idle}
 
 -- ---- turns
@@ -27,11 +25,15 @@ module _ {F : Type 0} (seen : F → FilesView) (finishes : F → FileReport → 
   EndedLines peer None lines = lines ≡ []
   EndedLines peer (Some kept) lines = Ends seen finishes peer kept None lines
 
-  -- a peer's refused datagrams are told, how many were doubled and reordered, and what ended it
-  pub record IsTurnTold (peer : SocketAddr) (refused : Option Refusals) (orders : List OrderCounts) (ended : Option (PeerState F)) (lines : List ℕ) : Type 0 where
+  -- a peer's refused datagrams are told, which of its domains went on, how many datagrams were doubled and reordered, and what ended it
+  pub record IsTurnTold (t : InTurn F) (lines : List ℕ) : Type 0 where
     pub fall : List ℕ
-    pub falls : EndedLines peer ended fall
-    pub lines_are : lines ≡ refusal_lines peer refused ++ (order_lines peer orders ++ fall)
+    pub falls : EndedLines t.peer t.ended fall
+    pub lines_are : lines ≡ refusal_lines t.peer t.refused ++ (resumed_lines t.peer t.resumed.items ++ (order_lines t.peer t.orders.items ++ fall))
+
+-- a peer in its turn, and what its session was then
+abbrev pub in_turn : {F : Type 0} → SocketAddr → Turn → PeerState F → InTurn F
+in_turn peer t k = record { peer = peer; refused = t.refused; orders = t.orders; resumed = t.resumed; ended = ended_by t.answer k }
 
 -- as a second began, and a period may be over
 module _ {F : Type 0} (seen : F → FilesView) (finishes : F → FileReport → Result (Unit {0}) NotWritten → Type 0) (second : ℕ) (is_over : Bool) where
@@ -39,7 +41,7 @@ module _ {F : Type 0} (seen : F → FilesView) (finishes : F → FileReport → 
   pub record IsTurn (before after : List (SocketAddr × PeerState F)) (lines : List ℕ) : Type 0 where
     pub turn : InTurn F
     pub goes_on : GoesOn seen second is_over before after turn
-    pub is_told : IsTurnTold seen finishes turn.peer turn.refused turn.orders.items turn.ended lines
+    pub is_told : IsTurnTold seen finishes turn lines
 
   -- a peer had its turn after others of which these are kept: it is kept before them, unless its session ended
   pub record HadTurn (e : SocketAddr × PeerState F) (others after : List (SocketAddr × PeerState F)) (lines : List ℕ) : Type 0 where
@@ -47,7 +49,7 @@ module _ {F : Type 0} (seen : F → FilesView) (finishes : F → FileReport → 
     pub turn : Turn
     pub takes : TakesTurn seen e.1 new second is_over turn
     pub kept : after ≡ first_by turn.answer e.0 new others
-    pub is_told : IsTurnTold seen finishes e.0 turn.refused turn.orders.items (ended_by turn.answer new) lines
+    pub is_told : IsTurnTold seen finishes (in_turn e.0 turn new) lines
 
   -- each of these peers had one turn, the last one first, and they are kept in their order
   abbrev pub HadTurns : List (SocketAddr × PeerState F) → List (SocketAddr × PeerState F) → List ℕ → Type 0

@@ -82,7 +82,8 @@ impl<
         }
     }
 
-    // Takes a datagram of a peer. If the peer may not send it is counted, and nothing more. Otherwise it is taken, as
+    // Takes a datagram of a peer. If the peer may not send, or has no place and the datagram begins no session, it is
+    // counted, and nothing more. Otherwise it is taken, as
     // `Peers::record` does, and each session that ends at that is reported; without memory to begin a session that is
     // told as its fault.
     fn take_from(&mut self, from: SocketAddr, datagram: &[u8], now: u64) -> io::Result<()>
@@ -99,6 +100,7 @@ impl<
             self.alloc,
             &mut self.peers,
             &mut self.place,
+            &mut self.unserved,
             from,
             datagram,
             now,

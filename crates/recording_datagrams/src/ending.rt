@@ -2,15 +2,17 @@
 
 ghost use Rattle.std.specs.Prelude.{◌≡◌, ◌++◌};
 ghost use Rattle.report_writing.specs.Writing.{Tells};
-ghost use Rattle.recording_datagrams.specs.Ending.{advance_lines, cause_lines, counted_lines, domain_order_lines, ending_lines, Ends, IsReleasedFor, order_lines, refusal_lines, TellsSome, text_of, told_lines};
+ghost use Rattle.recording_datagrams.specs.Ending.{advance_lines, cause_lines, counted_lines, domain_order_lines, domain_resumed_line, ending_lines, Ends, IsReleasedFor, order_lines, refusal_lines, resumed_lines, TellsSome, text_of, told_lines};
 
 use ipfix_datagrams::{DomainAdvance, SequenceAdvances};
 use recording_connections::{RecordingFiles, write_session};
 use recording_files::NotWritten;
-use recording_lines::{write_advance, write_order, write_peer_ended, write_refused_datagrams};
+use recording_lines::{
+    write_advance, write_order, write_peer_ended, write_refused_datagrams, write_resumed,
+};
 use recording_order::{OrderCounts, Window};
-use recording_peer::PeerSession;
-use recording_peers::{PeerState, Refusals};
+use recording_peer::{PeerSession, Resumption};
+use recording_peers::{PeerState, Refusals, untold};
 use report_writing::WriteLines;
 use std::alloc::Global;
 use std::io;
@@ -37,8 +39,8 @@ impl EndCause {
     }
 }
 
-/// Ends a peer's session: records what waits of it, finishes its last file with its report, and tells what was
-/// refused of it, how many datagrams were doubled and reordered, why it ends if it has no fault, how far its
+/// Ends a peer's session: records what waits of it, finishes its last file with its report, and tells which of its
+/// domains went on after an earlier run, if that wasn't told, what was refused of it, how many datagrams were doubled and reordered, why it ends if it has no fault, how far its
 /// sequence numbers advanced beside the records that came, what its ledger says, and its faults.
 pub fn end_peer<F: RecordingFiles, W: WriteLines>(
     alloc: Global,
@@ -55,11 +57,41 @@ pub fn end_peer<F: RecordingFiles, W: WriteLines>(
         files,
         heard: _,
         refused,
+        resumptions_told,
         window,
     } = released(alloc, kept, cause);
     let session = recorder.into_session();
     let finished = files.finish(&session.session.last);
-    tell_end(peer, refused, &window, cause, &session, finished, out)
+    let went_on = untold(session.resumed.as_slice(), resumptions_told);
+    let told = tell_resumed(peer, went_on, out);
+    told.and(tell_end(peer, refused, &window, cause, &session, finished, out))
+}
+
+/// Tells which domains of a peer went on after an earlier run.
+pub(crate) fn tell_resumed<W: WriteLines>(
+    peer: SocketAddr,
+    resumed: &[Resumption],
+    out: &mut W,
+) -> io::Result<()>
+    ensures { Tells W.contents W.failed out.old out.new result
+        (resumed_lines peer resumed.now) }
+{
+    for resumption in resumed {
+        tell_resumption(peer, resumption, out)?;
+    }
+    Ok(())
+}
+
+// Tells it of one.
+fn tell_resumption<W: WriteLines>(
+    peer: SocketAddr,
+    resumption: &Resumption,
+    out: &mut W,
+) -> io::Result<()>
+    ensures { Tells W.contents W.failed out.old out.new result
+        (domain_resumed_line peer resumption.now) }
+{
+    write_resumed(peer, resumption.domain, resumption.templates, out)
 }
 
 // The session, after what waits of it is recorded. One that ended with a fault records nothing more.

@@ -96,6 +96,17 @@ impl<'a, R: Files + Clock, W: Wait, E: Write + Copy + Drop> PeerPlace<PeerFiles<
     fn earlier(&mut self, alloc: Global, peer: SocketAddr) -> EarlierDomains {
         self.earlier.take(alloc, peer)
     }
+
+    fn is_busy(&self) -> bool {
+        match self.queue {
+            Some(queue) => queue.enter.is_full(),
+            None => false,
+        }
+    }
+
+    fn give_back(&mut self, alloc: Global, peer: SocketAddr, earlier: EarlierDomains) {
+        self.earlier.give_back(alloc, peer, earlier);
+    }
 }
 
 impl<'a, R: Files + Clock, W: Wait, E: Write + Copy + Drop> PeriodClock

@@ -1,15 +1,16 @@
 //! One datagram: it is refused, or recorded, and what that leads to is told.
 
+ghost use Rattle.std.specs.Prelude.{◌≡◌};
 ghost use Rattle.report_writing.specs.Writing.{Tells};
 ghost use Rattle.recording_connections.specs.Serving.{fault_line};
 ghost use Rattle.ipfix_message.specs.declared.fault.MessageFault.TheVariants.{OutOfMemory};
 ghost use Rattle.recording_files.specs.declared.record_fault.RecordFault.TheVariants as faults;
 ghost use Rattle.recording_datagrams.specs.Ending.{TellsSome};
-ghost use Rattle.recording_datagrams.specs.Taking.{OutcomeLines, EvictedLines, IsProcessed};
+ghost use Rattle.recording_datagrams.specs.Taking.{OutcomeLines, EvictedLines, IsProcessed, unserved_by};
 
 use crate::ending::{EndCause, end_peer};
 use ipfix_message::MessageFault;
-use recording_connections::RecordingFiles;
+use recording_connections::{RecordingFiles, SharedCounts};
 use recording_files::RecordFault;
 use recording_lines::write_peer_fault;
 use recording_peers::{Became, Outcome, PeerPlace, PeerState, Peers};
@@ -18,22 +19,36 @@ use std::alloc::Global;
 use std::io;
 use std::net::SocketAddr;
 
-/// Records or refuses a datagram, and tells what went or ended at that.
+/// Records or refuses a datagram, and tells what went or ended at that. One that finds no place is counted, to be
+/// told later.
 pub(crate) fn record_and_tell<F: RecordingFiles + Drop, P: PeerPlace<F>, W: WriteLines>(
     alloc: Global,
     peers: &mut Peers<F>,
     place: &mut P,
+    unserved: &mut SharedCounts,
     from: SocketAddr,
     datagram: &[u8],
     now: u64,
     out: &mut W,
 ) -> io::Result<()>
     ensures { TellsSome W.contents W.failed out.old out.new result
-        (IsProcessed F.seen F.finishes P.made_for peers.old peers.new from datagram.now now) }
+        (IsProcessed F.seen F.finishes P.made_for peers.old peers.new unserved.old unserved.new from
+        datagram.now now) }
 {
     let Outcome { became, gone } = peers.record(alloc, place, from, datagram, now);
+    count_placeless(&became, from, unserved);
     let told = tell_gone(alloc, gone, out);
     told.and(tell_became(alloc, from, became, out))
+}
+
+// Counts a datagram that found no place.
+fn count_placeless<F>(became: &Became<F>, from: SocketAddr, unserved: &mut SharedCounts)
+    ensures { unserved.new ≡ unserved_by became.now unserved.old from }
+{
+    match became {
+        Became::NoPlace => unserved.refuse(from),
+        Became::Taken | Became::Ended(_) | Became::NoMemory => {}
+    }
 }
 
 // Ends the session of a peer that went, since there was no room for one more.
@@ -63,6 +78,7 @@ fn tell_became<F: RecordingFiles, W: WriteLines>(
 {
     match became {
         Became::Taken => Ok(()),
+        Became::NoPlace => Ok(()),
         Became::Ended(kept) => end_peer(alloc, peer, kept, None, out),
         Became::NoMemory => tell_no_memory(peer, out),
     }

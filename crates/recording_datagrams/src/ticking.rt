@@ -7,7 +7,7 @@ ghost use Rattle.recording_peers.specs.Steps.{KeepsLimits};
 ghost use Rattle.recording_datagrams.specs.Ending.{TellsSome};
 ghost use Rattle.recording_datagrams.specs.Turns.{EndsSilent, EndedLines, HadTurns, EndsOneSilent, IsTurn, IsTurnTold, none_unserved, not_received_lines, turned_away_lines, unserved_lines};
 
-use crate::ending::{EndCause, end_peer, tell_orders, tell_refusals};
+use crate::ending::{EndCause, end_peer, tell_orders, tell_refusals, tell_resumed};
 use recording_connections::{RecordingFiles, RefusedPeers, SharedCounts};
 use recording_lines::{write_not_received, write_turned_away};
 use recording_peers::{InTurn, PeerState, Peers};
@@ -17,7 +17,7 @@ use std::io;
 use std::net::SocketAddr;
 
 /// Goes over all peers as a second begins: records their datagrams whose time to wait is over, tells which were
-/// refused, and if a period is over finishes their files and tells how many were doubled and reordered. A session
+/// refused and which domains went on after an earlier run, and if a period is over finishes their files and tells how many were doubled and reordered. A session
 /// whose datagrams can't be recorded or whose file can't be finished ends. A line that can't be written stops
 /// nothing; its first error is the answer.
 pub fn go_over<F: RecordingFiles + Drop, W: WriteLines>(
@@ -56,25 +56,27 @@ fn go_on<F: RecordingFiles + Drop, W: WriteLines>(
     }
 }
 
-// Tells the refused datagrams of a peer that has its turn, and how many were doubled and reordered, and ends its
-// session if that ended in its turn.
+// Tells the refused datagrams of a peer that has its turn, which of its domains went on after an earlier run, and
+// how many datagrams were doubled and reordered, and ends its session if that ended in its turn.
 fn tell_turn<F: RecordingFiles, W: WriteLines>(
     alloc: Global,
     turn: InTurn<F>,
     out: &mut W,
 ) -> io::Result<()>
     ensures { TellsSome W.contents W.failed out.old out.new result
-        (IsTurnTold F.seen F.finishes turn.peer turn.refused turn.orders.items turn.ended) }
+        (IsTurnTold F.seen F.finishes turn) }
 {
     let InTurn {
         peer,
         refused,
         orders,
+        resumed,
         ended,
     } = turn;
     let told = tell_refusals(peer, refused, out);
+    let went_on = tell_resumed(peer, resumed.as_slice(), out);
     let ordered = tell_orders(peer, orders.as_slice(), out);
-    told.and(ordered.and(end_if(alloc, peer, ended, out)))
+    told.and(went_on.and(ordered.and(end_if(alloc, peer, ended, out))))
 }
 
 // Ends a session that ended with a fault in its turn.

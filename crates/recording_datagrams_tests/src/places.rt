@@ -67,6 +67,12 @@ impl PeerPlace<SmallFiles> for SmallPlace {
     fn earlier(&mut self, alloc: Global, _peer: SocketAddr) -> EarlierDomains {
         BTreeMap::new(alloc)
     }
+
+    fn is_busy(&self) -> bool {
+        false
+    }
+
+    fn give_back(&mut self, _alloc: Global, _peer: SocketAddr, _earlier: EarlierDomains) {}
 }
 
 /// The same in the periods of a script.
@@ -87,6 +93,14 @@ impl PeerPlace<SmallFiles> for PlaceInPeriods {
 
     fn earlier(&mut self, alloc: Global, peer: SocketAddr) -> EarlierDomains {
         self.place.earlier(alloc, peer)
+    }
+
+    fn is_busy(&self) -> bool {
+        self.place.is_busy()
+    }
+
+    fn give_back(&mut self, alloc: Global, peer: SocketAddr, earlier: EarlierDomains) {
+        self.place.give_back(alloc, peer, earlier);
     }
 }
 

@@ -7,6 +7,7 @@ use recording_names::{SessionName, address_name};
 use recording_resumption::{EarlierDomains, EarlierSession, domains_left};
 use std::alloc::{AllocError, Global};
 use std::collections::BTreeMap;
+use std::mem;
 use std::net::SocketAddr;
 
 // What the last file of a peer left.
@@ -83,8 +84,18 @@ impl EarlierPeers {
             return BTreeMap::new(alloc);
         };
         match self.place_of(address.as_str(), peer.port()) {
-            Some(place) => self.peers.swap_remove(place).domains,
+            Some(place) => mem::replace(&mut self.peers[place].domains, BTreeMap::new(alloc)),
             None => BTreeMap::new(alloc),
+        }
+    }
+
+    /// Keeps again what was handed over of a peer. Without memory nothing is left of it.
+    pub fn give_back(&mut self, alloc: Global, peer: SocketAddr, domains: EarlierDomains) {
+        let Ok(address) = address_name(alloc, peer.ip()) else {
+            return;
+        };
+        if let Some(place) = self.place_of(address.as_str(), peer.port()) {
+            self.peers[place].domains = domains;
         }
     }
 }

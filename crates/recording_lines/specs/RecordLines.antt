@@ -94,6 +94,11 @@ unfoldable pub order_line : SocketAddr → ℕ → ℕ → ℕ → List ℕ
 order_line peer domain doubled reordered =
     codes "collectd: session " ++ (socket_text peer ++ (codes ": domain " ++ (decimal domain ++ (codes ": doubled " ++ (decimal doubled ++ (codes ", reordered " ++ (decimal reordered ++ codes "\n")))))))
 
+-- a domain went on after an earlier run, and so many templates are known again
+unfoldable pub resumed_line : SocketAddr → ℕ → ℕ → List ℕ
+resumed_line peer domain templates =
+    codes "collectd: session " ++ (socket_text peer ++ (codes ": domain " ++ (decimal domain ++ (codes ": resumed: templates " ++ (decimal templates ++ codes "\n")))))
+
 -- datagrams of peers that have no session
 unfoldable pub turned_away_line : ℕ → SocketAddr → List ℕ
 turned_away_line count last = codes "collectd: refused " ++ (decimal count ++ (codes " datagrams, last " ++ (socket_text last ++ codes "\n")))

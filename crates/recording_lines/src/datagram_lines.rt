@@ -1,7 +1,7 @@
 //! The lines of peers that send datagrams.
 
 ghost use Rattle.report_writing.specs.Writing.{Tells};
-ghost use Rattle.recording_lines.specs.RecordLines.{advance_line, not_received_line, order_line, peer_ended_line, refused_datagrams_line, system_drops_line, turned_away_line};
+ghost use Rattle.recording_lines.specs.RecordLines.{advance_line, not_received_line, order_line, peer_ended_line, refused_datagrams_line, resumed_line, system_drops_line, turned_away_line};
 
 use report_writing::WriteLines;
 use std::io;
@@ -68,6 +68,23 @@ pub fn write_order<W: WriteLines>(
     writeln!(
         out,
         "collectd: session {peer}: domain {domain}: doubled {doubled}, reordered {reordered}"
+    )
+}
+
+/// Writes that a domain went on after an earlier run, and how many templates are known again.
+#[tactic(auto, unfolding(crate::specs::RecordLines::resumed_line))]
+pub fn write_resumed<W: WriteLines>(
+    peer: SocketAddr,
+    domain: u32,
+    templates: usize,
+    out: &mut W,
+) -> io::Result<()>
+    ensures { Tells W.contents W.failed out.old out.new result
+        (resumed_line peer domain templates) }
+{
+    writeln!(
+        out,
+        "collectd: session {peer}: domain {domain}: resumed: templates {templates}"
     )
 }
 

@@ -13,7 +13,7 @@ mod whole_lines;
 
 pub use datagram_lines::{
     write_advance, write_not_received, write_order, write_peer_ended, write_refused_datagrams,
-    write_system_drops, write_turned_away,
+    write_resumed, write_system_drops, write_turned_away,
 };
 pub use file_lines::{write_finished, write_not_finished};
 pub use notice_lines::{write_not_accepted, write_refused, write_threads};

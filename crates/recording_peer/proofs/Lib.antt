@@ -2,6 +2,7 @@ pub mod Fronting
 pub mod Listed
 pub mod PeerFiles
 pub mod Leaving
+pub mod FirstDatagrams
 pub mod Taking
 pub mod Stopping
 pub mod FilesGive

@@ -1,7 +1,9 @@
 -- A peer while its datagrams are recorded.
-use Rattle.std.proofs.Common.{◌≡◌, ℕ, List, [], ◌∷◌, ◌++◌, map, None, refl, sym, ap, ap₂, subst, ◌∙◌}
+use Rattle.std.proofs.Common.{◌≡◌, ℕ, List, [], ◌∷◌, ◌++◌, length, map, None, refl, sym, ap, ap₂, subst, ◌∙◌}
 use Rattle.std.specs.Prelude.{◌+◌, All}
-use Rattle.std.proofs.lemmas.List.{map-append}
+use Rattle.std.specs.Option.{option_to_list}
+use Rattle.std.proofs.lemmas.Grind.{flat_map-append}
+use Rattle.std.proofs.lemmas.List.{append-nil, map-append}
 use Rattle.std.proofs.lemmas.List.Elements.{All-nil, All-push}
 use Rattle.ipfix_message.specs.Domains.{DomainsView, History, Message, StandsFor}
 use Rattle.ipfix_session.specs.Given.{known_after, octets_of}
@@ -19,7 +21,8 @@ use Rattle.ipfix_message.specs.declared.record.Template.{Template}
 use Rattle.ipfix_datagrams.specs.Datagrams.{preparation_of, Represents, IsTaken, withdrawals_in}
 use Rattle.ipfix_datagrams.specs.Reaches.{reaches_of}
 use Rattle.ipfix_datagrams.specs.declared.reading.DatagramReading.{DatagramReading}
-use Rattle.recording_peer.specs.Peers.{Resumed, Taken, AreResumed, resumed_after, AreTaken, HasFront, HaveFronts, PeerFile, givens, known_after_all, messages_with, given_with, all_messages, all_given, sent_of, withdrawals_ignored, peer_report, peer_reports}
+use Rattle.recording_peer.specs.Peers.{Resumed, Taken, AreResumed, resumed_after, AreTaken, HasFront, HaveFronts, PeerFile, givens, known_after_all, messages_with, given_with, all_messages, all_given, sent_of, withdrawals_ignored, peer_report, peer_reports, resumption_in, resumption_of, resumptions}
+use Rattle.recording_peer.specs.declared.resumption.Resumption.{Resumption}
 use Rattle.recording_peer.specs.Recording.{PeerTold, PeerView, FiledDatagrams, none_filed, taken_before, taken_in, taken_by_file, filed_with, with_ignored, finished_now, ignored_now, ignored_still, file_finished, last_file, HasDatagram, IsLastFile, FilesHold, Counts, KeepsListed, KeepsLeft, LeftShown, left_listed, IsPeer}
 use Rattle.recording_peer.specs.Fronts.{TookDatagram, taken_as}
 use Rattle.std.specs.BTreeMap.{BTreeMap}
@@ -29,8 +32,8 @@ use Rattle.recording_peer.proofs.PeerFiles.{files_here, givens-append, all_given
 
 -- ---- the first file
 
-pub peer_first : (v : FilesView) (s : PeerView) → IsEmpty v.contents → s.ended ≡ None → Keeps s.recorder [] [] → Counted s.told.counts [] [] → s.told.ignored ≡ 0 → s.told.advances ≡ [] → KeepsListed s.withdrawn [] → (earlier : BTreeMap ℕ EarlierDomain) → s.earlier ≡ left_listed earlier.entries → IsPeer v v s (none_filed earlier)
-peer_first v s empty on keeps counted nor none withdrawn earlier left = record {
+pub peer_first : (v : FilesView) (s : PeerView) → IsEmpty v.contents → s.ended ≡ None → Keeps s.recorder [] [] → Counted s.told.counts [] [] → s.told.ignored ≡ 0 → s.told.advances ≡ [] → s.told.resumed ≡ [] → KeepsListed s.withdrawn [] → (earlier : BTreeMap ℕ EarlierDomain) → s.earlier ≡ left_listed earlier.entries → IsPeer v v s (none_filed earlier)
+peer_first v s empty on keeps counted nor none none_resumed withdrawn earlier left = record {
   holds = record {
     taken = tt;
     resumed = tt;
@@ -46,7 +49,7 @@ peer_first v s empty on keeps counted nor none withdrawn earlier left = record {
   };
   not_failed = refl;
   goes_on = on;
-  counted = record { counted = counted; ignored = nor; noted = none };
+  counted = record { counted = counted; ignored = nor; noted = none; resumed = none_resumed };
   keeps = keeps;
   withdrawn = withdrawn;
   left = subst (λ (es : List (ℕ × LeftShown)). KeepsLeft es earlier []) (sym left) (left_as_listed earlier earlier [] (record { at = λ domain. refl }));
@@ -103,21 +106,22 @@ holds_turned first v after filed c h counted some is =
           (stands_next first.contents v.contents after.contents (peer_reports [] h.files) (map sent_of h.files) (sent_of last) (counted_report c) is h.stands));
     }
 
-counts_turned : (c : PeerTold) (filed : FiledDatagrams) → HasDatagram filed.here → Counted c.counts (givens (taken_before filed) ++ givens filed.here) [] → c.ignored ≡ 0 → c.advances ≡ reaches_of (givens (taken_in filed)) → Counts c (file_finished filed)
-counts_turned c filed some counted none noted = record {
+counts_turned : (c : PeerTold) (filed : FiledDatagrams) → HasDatagram filed.here → Counted c.counts (givens (taken_before filed) ++ givens filed.here) [] → c.ignored ≡ 0 → c.advances ≡ reaches_of (givens (taken_in filed)) → c.resumed ≡ resumptions (taken_in filed) → Counts c (file_finished filed)
+counts_turned c filed some counted none noted resumed = record {
   counted = subst (λ (ms : List Message). Counted c.counts ms []) (sym (givens-finished filed)) counted;
   ignored = none ∙ ap (λ (ms : List (List ℕ)). capped (withdrawals_ignored [] ms)) (sym (none_still filed.here filed.ignored_here some));
   noted = noted ∙ ap (λ (ts : List Taken). reaches_of (givens ts)) (sym (in-finished filed));
+  resumed = resumed ∙ ap resumptions (sym (in-finished filed));
 }
 
 pub peer_turned : (first v after : FilesView) (s t : PeerView) (filed : FiledDatagrams) (p : IsPeer first v s filed) → HasDatagram filed.here → after ≡ with_next v (counted_report s.told)
-    → Keeps t.recorder (all_given (taken_before filed) ++ all_given filed.here) [] → Counted t.told.counts (givens (taken_before filed) ++ givens filed.here) [] → t.told.ignored ≡ 0 → t.told.advances ≡ s.told.advances → t.ended ≡ None → t.withdrawn ≡ s.withdrawn → t.earlier ≡ s.earlier
+    → Keeps t.recorder (all_given (taken_before filed) ++ all_given filed.here) [] → Counted t.told.counts (givens (taken_before filed) ++ givens filed.here) [] → t.told.ignored ≡ 0 → t.told.advances ≡ s.told.advances → t.told.resumed ≡ s.told.resumed → t.ended ≡ None → t.withdrawn ≡ s.withdrawn → t.earlier ≡ s.earlier
     → IsPeer first after t (file_finished filed)
-peer_turned first v after s t filed p some is keeps counted none same on stays left = record {
+peer_turned first v after s t filed p some is keeps counted none same as_resumed on stays left = record {
   holds = holds_turned first v after filed s.told p.holds p.counted some (ap (λ (u : FilesView). u.contents) is);
   not_failed = ap (λ (u : FilesView). u.failed) is ∙ p.not_failed;
   goes_on = on;
-  counted = counts_turned t.told filed some counted none (same ∙ p.counted.noted);
+  counted = counts_turned t.told filed some counted none (same ∙ p.counted.noted) (as_resumed ∙ p.counted.resumed);
   keeps = subst (λ (ms : List Message). Keeps t.recorder ms []) (sym (all_given-finished filed)) keeps;
   withdrawn = subst (λ (ts : List Taken). KeepsListed t.withdrawn (known_after_all ts)) (sym (in-finished filed)) (subst (λ (w : List (ℕ × List (ℕ × Template))). KeepsListed w (known_after_all (taken_in filed))) (sym stays) p.withdrawn);
   left = subst (KeepsLeft t.earlier filed.earlier) (sym (in-finished filed)) (subst (λ (w : List (ℕ × LeftShown)). KeepsLeft w filed.earlier (taken_in filed)) (sym left) p.left);
@@ -168,12 +172,17 @@ octets_with file more octets is = octets-append file more ∙ ap (λ (w : List �
 pub givens_with : (here : List Taken) (t : Taken) → givens (here ++ t ∷ []) ≡ givens here ++ t.given ∷ []
 givens_with here t = givens-append here (t ∷ [])
 
+-- the domains that went on, with it
+resumptions-push : (filed : FiledDatagrams) (t : Taken) → resumptions (taken_in (filed_with filed t)) ≡ resumptions (taken_in filed) ++ resumption_of t
+resumptions-push filed t =
+    ap resumptions (taken_in-push filed t) ∙ flat_map-append resumption_of (taken_in filed) (t ∷ []) ∙ ap (λ (rs : List Resumption). resumptions (taken_in filed) ++ rs) (append-nil (resumption_of t))
+
 pub peer_with : (first v after : FilesView) (s t : PeerView) (filed : FiledDatagrams) (m : List ℕ) (resumed : Resumed) (q : DatagramReading) (x : Message) (octets : List ℕ) (c : MessageCount) (p : IsPeer first v s filed)
     → IsTaken resumed.templates (known_after_all (taken_in filed)) m (preparation_of q) x → (k : TookDatagram (all_given (taken_before filed)) (all_given filed.here) t.recorder m resumed q x octets c)
     → after ≡ with_more v octets → Counted t.told.counts (givens (taken_before filed)) (givens filed.here ++ x ∷ [])
-    → t.told.ignored ≡ capped (s.told.ignored + q.withdrawals) → q.withdrawals ≡ capped (withdrawals_in m) → t.told.advances ≡ reaches_of (givens (taken_in filed) ++ x ∷ []) → t.ended ≡ None → KeepsListed t.withdrawn x.domains → resumed ≡ resumed_after filed.earlier (taken_in filed) x.header → KeepsLeft t.earlier filed.earlier (taken_in (filed_with filed (taken_as m resumed (preparation_of q) k.front x)))
+    → t.told.ignored ≡ capped (s.told.ignored + q.withdrawals) → q.withdrawals ≡ capped (withdrawals_in m) → t.told.advances ≡ reaches_of (givens (taken_in filed) ++ x ∷ []) → t.told.resumed ≡ s.told.resumed ++ option_to_list (resumption_in x.header.domain (length resumed.templates)) → t.ended ≡ None → KeepsListed t.withdrawn x.domains → resumed ≡ resumed_after filed.earlier (taken_in filed) x.header → KeepsLeft t.earlier filed.earlier (taken_in (filed_with filed (taken_as m resumed (preparation_of q) k.front x)))
     → IsPeer first after t (filed_with filed (taken_as m resumed (preparation_of q) k.front x))
-peer_with first v after s t filed m resumed q x octets c p taken k is counted more ignored noted on withdrawn resumes left =
+peer_with first v after s t filed m resumed q x octets c p taken k is counted more ignored noted one_resumed on withdrawn resumes left =
     let h = p.holds in
     let u = taken_as m resumed (preparation_of q) k.front x in
     let all : givens (taken_in (filed_with filed u)) ≡ givens (taken_in filed) ++ x ∷ [] = ap givens (taken_in-push filed u) ∙ givens-append (taken_in filed) (u ∷ []) in
@@ -197,6 +206,7 @@ peer_with first v after s t filed m resumed q x octets c p taken k is counted mo
         counted = subst (λ (ms : List Message). Counted t.told.counts (givens (taken_before filed)) ms) (sym (givens_with filed.here u)) counted;
         ignored = more ∙ ap (λ (n : ℕ). capped (n + q.withdrawals)) p.counted.ignored ∙ withdrawals-taken filed.here u filed.ignored_here q.withdrawals ignored;
         noted = noted ∙ ap reaches_of (sym all);
+        resumed = one_resumed ∙ ap (λ (rs : List Resumption). rs ++ resumption_of u) p.counted.resumed ∙ sym (resumptions-push filed u);
       };
       keeps = subst (Keeps t.recorder (all_given (taken_before filed))) (sym (all_given-push filed.here u)) k.keeps;
       withdrawn = subst (KeepsListed t.withdrawn) (sym (known-push filed u)) withdrawn;
@@ -219,6 +229,7 @@ peer_ignoring first v s filed m n p is =
         counted = p.counted.counted;
         ignored = ap (λ (k : ℕ). capped (k + n)) p.counted.ignored ∙ withdrawals-ignored filed.here filed.ignored_here m n is;
         noted = p.counted.noted;
+        resumed = p.counted.resumed;
       };
       keeps = p.keeps;
       withdrawn = p.withdrawn;

@@ -1,6 +1,6 @@
 -- The datagrams of a peer, and its files (RFC 7011, sections 8.1, 8.4 and 10.3).
-use Rattle.std.specs.Prelude.{◌≡◌, ◌≢◌, ◌==◌, ℕ, ◌+◌, List, [], ◌∷◌, ◌++◌, take, drop, map, flat_map, sum_by, if◌then◌else◌, Option, Some, None, Ok, Err, unwrap_or}
-use Rattle.std.specs.Option.{option_or}
+use Rattle.std.specs.Prelude.{◌≡◌, ◌≢◌, ◌==◌, ℕ, ◌+◌, List, [], ◌∷◌, ◌++◌, length, take, drop, map, flat_map, sum_by, if◌then◌else◌, Option, Some, None, Ok, Err, unwrap_or}
+use Rattle.std.specs.Option.{option_or, option_to_list}
 use Rattle.std.specs.Ordering.{nat_cmp}
 use Rattle.std.specs.BTreeMap.{BTreeMap, get, values}
 use Rattle.ipfix_wire.specs.declared.header.Header.{Header}
@@ -21,6 +21,7 @@ use Rattle.ipfix_message.specs.Outcome.{Read}
 use Rattle.recording_resumption.specs.Resumption.{due_left, left_after, resumed_by}
 use Rattle.recording_resumption.specs.declared.earlier_domain.EarlierDomain.{EarlierDomain}
 use Rattle.ipfix_datagrams.specs.declared.withdrawn_template.WithdrawnTemplate.{WithdrawnTemplate}
+use Rattle.recording_peer.specs.declared.resumption.Resumption.{Resumption}
 
 -- ---- datagrams
 
@@ -87,6 +88,17 @@ resumed_at earlier ts (Err fault) = resumed_of None
 abbrev pub AreResumed : BTreeMap ℕ EarlierDomain → List Taken → List Taken → Type 0
 AreResumed earlier before [] = Unit {0}
 AreResumed earlier before (t ∷ ts) = (t.resumed ≡ resumed_after earlier before t.given.header) × AreResumed earlier (before ++ t ∷ []) ts
+
+-- a domain went on with so many templates of an earlier run, if that left any in it
+abbrev pub resumption_in : ℕ → ℕ → Option Resumption
+resumption_in domain templates = if templates == 0 then None else Some (record { domain = domain; templates = templates })
+
+abbrev pub resumption_of : Taken → List Resumption
+resumption_of t = option_to_list (resumption_in t.given.header.domain (length t.resumed.templates))
+
+-- the domains that did, in the order in which they did
+abbrev pub resumptions : List Taken → List Resumption
+resumptions ts = flat_map resumption_of ts
 
 -- ---- the messages in front of them
 

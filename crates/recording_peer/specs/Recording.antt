@@ -29,13 +29,16 @@ use Rattle.recording_resumption.specs.declared.earlier_domain.EarlierDomain.{Ear
 use Rattle.recording_peer.specs.declared.peer_answer.PeerAnswer.{PeerAnswer}
 use Rattle.recording_peer.specs.declared.peer_answer.PeerAnswer.TheVariants.{Recorded, Refused, Ignored}
 use Rattle.recording_peer.specs.declared.peer_session.PeerSession.{PeerSession}
-use Rattle.recording_peer.specs.Peers.{Resumed, Taken, AreResumed, left_in, resumed_at, AreTaken, HaveFronts, PeerFile, part_of, sent_of, withdrawals_ignored, peer_report, peer_reports, datagrams, givens, known_after_all, all_messages, all_given, records_over_udp}
+use Rattle.recording_peer.specs.declared.resumption.Resumption.{Resumption}
+use Rattle.recording_peer.specs.Peers.{Resumed, Taken, AreResumed, left_in, resumed_at, AreTaken, HaveFronts, PeerFile, part_of, sent_of, withdrawals_ignored, peer_report, peer_reports, datagrams, givens, known_after_all, all_messages, all_given, records_over_udp, resumptions}
 
--- the counts, the withdrawals that were ignored since a file was finished, and how far the sequence numbers of each domain reach
+-- the counts, the withdrawals that were ignored since a file was finished, how far the sequence numbers of each domain reach, and the
+-- domains that went on after an earlier run
 pub record PeerTold : Type 0 where
   pub counts : Told
   pub ignored : ℕ
   pub advances : List (ℕ × Reach)
+  pub resumed : List Resumption
 
 -- what is left of a domain, and of each
 abbrev pub LeftShown : Type 0
@@ -158,11 +161,12 @@ pub record FilesHold (first after : FilesView) (filed : FiledDatagrams) (cut_off
   pub stands : StandsWith (peer_reports [] files) first.contents after.contents (map sent_of files) (sent_of (last_file filed file)) cut_off
 
 -- the datagrams of finished files are counted, and those of the file that isn't finished, and the withdrawals that were ignored; and
--- of all of them it is noted how far they reach
+-- of all of them it is noted how far they reach, and which domains went on
 pub record Counts (c : PeerTold) (filed : FiledDatagrams) : Type 0 where
   pub counted : Counted c.counts (givens (taken_before filed)) (givens filed.here)
   pub ignored : c.ignored ≡ capped (withdrawals_ignored filed.here filed.ignored_here)
   pub noted : c.advances ≡ reaches_of (givens (taken_in filed))
+  pub resumed : c.resumed ≡ resumptions (taken_in filed)
 
 -- of what an earlier run left, this is left after datagrams
 pub record KeepsLeft (now : List (ℕ × LeftShown)) (earlier : BTreeMap ℕ EarlierDomain) (ts : List Taken) : Type 0 where
@@ -291,11 +295,13 @@ abbrev pub answer_of : Option RecordFault → Result (Unit {0}) RecordFault
 answer_of None = Ok tt
 answer_of (Some fault) = Err fault
 
--- what is told of it: its reports, and the advance in each domain of exactly the datagrams that were recorded, over all files
+-- what is told of it: its reports, and over all files the advance in each domain of exactly the datagrams that were recorded, and the
+-- domains that went on
 pub record IsPeerTold (r : PeerSession) (filed : FiledDatagrams) : Type 0 where
   pub session : IsReported r.session (givens (taken_before filed)) (givens filed.here)
   pub last : r.session.last ≡ peer_report (givens (taken_before filed)) filed.here filed.ignored_here
   pub advances : told_of r.advances.reaches ≡ advances_of (givens (taken_in filed))
+  pub resumed : r.resumed.items ≡ resumptions (taken_in filed)
 
 -- and so of whatever was counted
 abbrev pub Tells : PeerTold → PeerSession → Type 0

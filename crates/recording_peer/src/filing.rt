@@ -1,21 +1,25 @@
 //! Writing the files of a peer.
 
-ghost use Rattle.std.specs.Prelude.{◌≡◌, Ok, All, IfOk, IfErr};
+ghost use Rattle.std.specs.Prelude.{◌≡◌, ◌<◌, ◌++◌, Ok, All, IfOk, IfErr, length, vec_len};
+ghost use Rattle.std.specs.Option.{option_to_list};
+ghost use Rattle.std.specs.BTreeMap.{btree_map_len};
+ghost use Rattle.std.specs.Vec.{vec_capacity};
 ghost use Rattle.ipfix_message.specs.Domains.{message_header};
 ghost use Rattle.ipfix_datagrams.specs.Datagrams.{HasTemplateIds};
 ghost use Rattle.ipfix_datagrams.specs.Withdrawals.{HasTemplateId};
 ghost use Rattle.recording_files.specs.Files.{FilesView};
-ghost use Rattle.recording_peer.specs.Peers.{resumed_after};
+ghost use Rattle.recording_peer.specs.Peers.{resumed_after, resumption_in};
 ghost use Rattle.recording_peer.specs.Recording.{FiledDatagrams, IsPeer, IsRecorded, HasStopped, FinishesFile, taken_in};
 ghost use Rattle.recording_peer.specs.Fronts.{HasRead, ReadsAfter};
 
 use crate::fronts::take_datagram;
 use crate::peer_recorder::PeerRecorder;
+use crate::resumption::Resumption;
 use ipfix_datagrams::{DatagramReading, Reading, keep_withdrawn, read_datagram};
 use ipfix_message::MessageFault;
 use ipfix_wire::Header;
 use recording_files::{FileReport, FileSeries, MessageCount, RecordFault};
-use recording_resumption::{go_on, resumed};
+use recording_resumption::{EarlierDomain, go_on, resumed};
 use std::alloc::Global;
 use std::collections::BTreeMap;
 
@@ -62,6 +66,19 @@ impl PeerRecorder {
     {
         match resumed(&self.earlier, header) {
             Some(domain) => domain.due(),
+            None => None,
+        }
+    }
+
+    // Which domain goes on with this datagram after an earlier run, if that left templates in it.
+    fn resumption(&self, header: &Header) -> Option<Resumption>
+        ensures { (first after : FilesView) (filed : FiledDatagrams)
+            → IsPeer first after self.now filed
+            → result ≡ resumption_in header.now.domain
+            (length (resumed_after filed.earlier (taken_in filed) header.now).templates) }
+    {
+        match resumed(&self.earlier, header) {
+            Some(domain) => resumption_of(domain, header.domain),
             None => None,
         }
     }
@@ -114,6 +131,7 @@ impl PeerRecorder {
             filed datagram.now) }
     {
         let due_left = self.due_left(header);
+        let resumption = self.resumption(header);
         self.counts.clear_waiting();
         go_on(&mut self.earlier, header, reading.defines())?;
         let domains = self.recorder.domains();
@@ -129,12 +147,37 @@ impl PeerRecorder {
         )?;
         self.counts.wait_for(count)?;
         self.advances.make_room()?;
+        self.resumed.reserve(1)?;
         files.append(&self.out)?;
         self.counts.count_waiting();
         self.ignored = self.ignored.saturating_add(reading.withdrawals);
         let header = count.header;
         self.advances
             .note(header.domain, header.sequence, count.records);
+        note_resumed(&mut self.resumed, resumption);
         Ok(count)
+    }
+}
+
+// That this domain goes on, if templates are left in it.
+fn resumption_of(left: &EarlierDomain, domain: u32) -> Option<Resumption>
+    ensures { result ≡ resumption_in domain (btree_map_len left.now.templates) }
+{
+    let templates = left.templates.len();
+    if templates == 0 {
+        None
+    } else {
+        Some(Resumption { domain, templates })
+    }
+}
+
+// Notes that a domain went on, if one did. This takes no memory, since there is room.
+fn note_resumed(resumed: &mut Vec<Resumption>, more: Option<Resumption>)
+    requires { vec_len resumed.old < vec_capacity resumed.old }
+    ensures { resumed.new.items ≡ resumed.old.items ++ option_to_list more }
+{
+    match more {
+        Some(more) => resumed.push(more).unwrap(),
+        None => (),
     }
 }

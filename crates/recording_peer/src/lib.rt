@@ -4,13 +4,17 @@
 //! files and that the datagram has data sets of.
 #![tactic(auto)]
 
+mod beginning;
 mod filing;
 mod fronts;
 pub mod laws;
 mod peer_answer;
 mod peer_recorder;
 mod peer_session;
+mod resumption;
 
+pub use beginning::begins_peer;
 pub use peer_answer::PeerAnswer;
 pub use peer_recorder::PeerRecorder;
 pub use peer_session::PeerSession;
+pub use resumption::Resumption;

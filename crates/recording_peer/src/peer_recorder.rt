@@ -8,6 +8,7 @@ ghost use Rattle.recording_peer.specs.Recording.{FiledDatagrams, IsPeer, HasStop
 
 use crate::peer_answer::PeerAnswer;
 use crate::peer_session::PeerSession;
+use crate::resumption::Resumption;
 use ipfix_datagrams::{Reading, SequenceAdvances, WithdrawnTemplates};
 use ipfix_message::{MessageFault, header_of};
 use recording_files::{FileSeries, RecordFault, Recorder, SessionCounts};
@@ -26,6 +27,7 @@ pub struct PeerRecorder {
     pub(crate) counts: SessionCounts,
     pub(crate) ignored: u64,
     pub(crate) advances: SequenceAdvances,
+    pub(crate) resumed: Vec<Resumption>,
     pub(crate) ended: Option<RecordFault>,
     pub(crate) out: Vec<u8>,
 }
@@ -40,7 +42,12 @@ impl Model for PeerRecorder {
       recorder = r.recorder;
       earlier = left_listed r.earlier.entries;
       withdrawn = kept r.withdrawn.entries;
-      told = record { counts = r.counts.told; ignored = r.ignored; advances = r.advances.reaches };
+      told = record {
+        counts = r.counts.told;
+        ignored = r.ignored;
+        advances = r.advances.reaches;
+        resumed = r.resumed.items;
+      };
       ended = r.ended;
     } };
 }
@@ -59,6 +66,7 @@ impl PeerRecorder {
             counts: SessionCounts::new(alloc),
             ignored: 0,
             advances: SequenceAdvances::new(alloc),
+            resumed: Vec::new(alloc),
             ended: None,
             out: Vec::new(alloc),
         }
@@ -120,6 +128,13 @@ impl PeerRecorder {
         self.turn(files)
     }
 
+    /// The domains that went on after an earlier run, in the order in which they did.
+    pub fn resumed(&self) -> &[Resumption]
+        ensures { result.now ≡ self.now.told.resumed }
+    {
+        &self.resumed
+    }
+
     /// Ends the peer for want of memory, as where its next datagram can't be kept until it is due, and answers
     /// that fault. The datagrams before are whole. A peer that has ended answers its fault, and stays as it is.
     pub fn end(&mut self) -> RecordFault
@@ -150,12 +165,17 @@ impl PeerRecorder {
             counts,
             ignored: _,
             advances,
+            resumed,
             ended,
             out: _,
         } = self;
         let mut session = counts.into_session(how_it_ended(ended));
         session.last = last;
-        PeerSession { session, advances }
+        PeerSession {
+            session,
+            advances,
+            resumed,
+        }
     }
 }
 

@@ -1,5 +1,6 @@
 //! What is told of a peer that has ended.
 
+use crate::resumption::Resumption;
 use ipfix_datagrams::SequenceAdvances;
 use recording_files::RecordedSession;
 
@@ -11,4 +12,6 @@ pub struct PeerSession {
     /// By domain, how far their sequence numbers advanced beside the data records that came. Datagrams may
     /// come late, doubled or not at all, so this says what the losses of the report can't.
     pub advances: SequenceAdvances,
+    /// The domains that went on after an earlier run, in the order in which they did.
+    pub resumed: Vec<Resumption>,
 }

@@ -7,7 +7,7 @@ use Rattle.std.specs.contracts.net.socket_addr.SocketAddrEq.TheImpl.Laws.{laws-l
 use Rattle.recording_files.specs.Files.{FilesView}
 use Rattle.recording_peers.specs.declared.peer_state.PeerState.{PeerState}
 use Rattle.recording_peers.specs.declared.outcome.Became.{Became}
-use Rattle.recording_peers.specs.declared.outcome.Became.TheVariants.{Taken, Ended, NoMemory}
+use Rattle.recording_peers.specs.declared.outcome.Became.TheVariants.{Taken, Ended, NoPlace, NoMemory}
 use Rattle.recording_peers.specs.Happenings.{Happening}
 use Rattle.recording_peers.specs.Steps.{Reception}
 use Rattle.recording_peers.specs.Table.{same_peer, of_peer, others_for, with_first}
@@ -94,12 +94,14 @@ module _ {F : Type 0} (peer : SocketAddr) (most : ℕ) where
       → of_peer peer (happened_by became most r cs) ≡ of_peer peer cs
   theirs Taken r cs e k = same_option (of_peer peer (with_happening most cs r.peer (came_in r))) (of_peer peer cs) (λ v h. in_first most peer r.peer cs (happened_to r.peer cs ++ came_in r ∷ []) v e h) k
   theirs (Ended x) r cs e k = same_option (of_peer peer (others_for most r.peer cs)) (of_peer peer cs) (λ v h. in_others most peer r.peer cs v e h) k
+  theirs NoPlace r cs e k = refl
   theirs NoMemory r cs e k = refl
 
   -- or its own
   its : (became : Became F) (r : Reception F) (cs : PeerHappenings) → same_peer peer r.peer ≡ true → IsTaken became → of_peer peer (happened_by became most r cs) ≡ Some (happened_to peer cs ++ came_in r ∷ [])
   its Taken r cs e s = added peer most r.peer (came_in r) cs e
   its (Ended k) r cs e s = absurd s
+  its NoPlace r cs e s = absurd s
   its NoMemory r cs e s = absurd s
 
   pub one : (r : Reception F) (cs : PeerHappenings) → (same_peer peer r.peer ≡ true → IsTaken r.became) → (IsSome (of_peer peer cs) → IsSome (of_peer peer (happened_in most r cs)))
@@ -121,6 +123,7 @@ module _ {F : Type 0} (seen : F → FilesView) (made_for : F → SocketAddr → 
   pub stand_by : (became : Became F) (r : Reception F) (after : List (SocketAddr × PeerState F)) (cs : PeerHappenings) → StandBy seen seconds became most r after cs → StandFor seen seconds after (happened_by became most r cs)
   stand_by Taken r after cs s = s.0
   stand_by (Ended k) r after cs s = s.0
+  stand_by NoPlace r after cs s = s.0
   stand_by NoMemory r after cs s = s.0
 
   pub stand_after_all : (rs : List (Reception F)) (es after : List (SocketAddr × PeerState F)) (cs : PeerHappenings) → StandFor seen seconds es cs → AreRecorded seen made_for seconds most rs es after → StandFor seen seconds after (happened_after most rs cs)

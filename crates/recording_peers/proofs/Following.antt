@@ -77,6 +77,7 @@ module _ {F : Type 0} (seen : F → FilesView) where
     said = [];
     refused = refl;
     heard = refl;
+    resumptions_told = refl;
     follows = λ p r is. ([], record { run = r; is = subst (λ q. IsRunning seen k q r) (sym (recorded-none p)) is; by = λ says so. refl });
   }
 
@@ -118,12 +119,13 @@ module _ {F : Type 0} (seen : F → FilesView) where
   pub lead-of : (part : Part) (finishes : Bool) (old new : PeerState F) (answer : Result (Unit {0}) RecordFault) (a : Follows seen part finishes old new answer) (p : Recording) (r : Run) → IsRunning seen old p r → Lead part finishes new answer a.said p r
   lead-of part finishes old new answer a p r is = let m = a.follows p r is in record { more = m.0; leads = to-leads finishes new p m.0 a.said part r answer m.1 }
 
-  pub follows-of : (part : Part) (finishes : Bool) (old new : PeerState F) (answer : Result (Unit {0}) RecordFault) (said : List Said) → new.refused ≡ refused_after said old.refused → new.heard ≡ old.heard
+  pub follows-of : (part : Part) (finishes : Bool) (old new : PeerState F) (answer : Result (Unit {0}) RecordFault) (said : List Said) → new.refused ≡ refused_after said old.refused → new.heard ≡ old.heard → new.resumptions_told ≡ old.resumptions_told
       → ((p : Recording) (r : Run) → IsRunning seen old p r → Lead part finishes new answer said p r) → Follows seen part finishes old new answer
-  follows-of part finishes old new answer said refused heard lead = record {
+  follows-of part finishes old new answer said refused heard resumed lead = record {
     said = said;
     refused = refused;
     heard = heard;
+    resumptions_told = resumed;
     follows = λ p r is. let m = lead p r is in (m.more, from-leads finishes new p m.more said part r answer m.leads);
   }
 
@@ -148,7 +150,7 @@ module _ {F : Type 0} (seen : F → FilesView) where
       → Follows seen (λ says r. g says (f says r)) finishes old new answer
   follows-both f g finishes old mid new answer a b =
       follows-of (λ says r. g says (f says r)) finishes old new answer (a.said ++ b.said)
-      (b.refused ∙ ap (refused_after b.said) a.refused ∙ sym (refused-append a.said b.said old.refused)) (b.heard ∙ a.heard)
+      (b.refused ∙ ap (refused_after b.said) a.refused ∙ sym (refused-append a.said b.said old.refused)) (b.heard ∙ a.heard) (b.resumptions_told ∙ a.resumptions_told)
       (λ p r is.
       let first = lead-of f false old mid (Ok tt) a p r is in
       let to : RunsTo seen mid (recorded_then false p first.more a.said) f r = first.leads in
@@ -159,7 +161,7 @@ module _ {F : Type 0} (seen : F → FilesView) where
   pub follows-fault : (f g : Part) (finishes : Bool) (old new : PeerState F) (fault : RecordFault) → ((says : Says) → Grows (g says)) → Follows seen f false old new (Err fault)
       → Follows seen (λ says r. g says (f says r)) finishes old new (Err fault)
   follows-fault f g finishes old new fault grows a =
-      follows-of (λ says r. g says (f says r)) finishes old new (Err fault) a.said a.refused a.heard
+      follows-of (λ says r. g says (f says r)) finishes old new (Err fault) a.said a.refused a.heard a.resumptions_told
       (λ p r is.
       let first = lead-of f false old new (Err fault) a p r is in
       let failed : HasFailed seen new fault (recorded_then false p first.more a.said) (λ says. (f says r).handed_on) = first.leads in
@@ -187,7 +189,7 @@ module _ {F : Type 0} (seen : F → FilesView) where
   pub follows-shifted : (f g : Part) (finishes : Bool) (old : PeerState F) (w : WindowView) (new : PeerState F) (answer : Result (Unit {0}) RecordFault)
       → ((r : Run) → old.window ≡ r.window → Shifted f g w r) → Follows seen g finishes (record old { window = w }) new answer → Follows seen f finishes old new answer
   follows-shifted f g finishes old w new answer shift a =
-      follows-of f finishes old new answer a.said a.refused a.heard
+      follows-of f finishes old new answer a.said a.refused a.heard a.resumptions_told
       (λ p r is.
       let s = shift r is.window in
       let on = lead-of g finishes (record old { window = w }) new answer a p s.run (record {

@@ -89,7 +89,7 @@ module _ {F : Type 0} (seen : F → FilesView) where
   follows-recorded old a count t fs w takes noted =
       let new = record old { recorder = t; files = fs; window = w } in
       let c = counts_of count in
-      follows-of seen (handed_on a) false old new (Ok tt) (WasRecorded c ∷ []) refl refl
+      follows-of seen (handed_on a) false old new (Ok tt) (WasRecorded c ∷ []) refl refl refl
       (λ p r is.
       let x = takes p.first p.filed is.recorded.is in
       record {
@@ -107,7 +107,7 @@ module _ {F : Type 0} (seen : F → FilesView) where
       → Follows seen (handed_on a) false old (record old { recorder = t; files = fs; refused = Some (one_more_refused old.refused fault) }) (Ok tt)
   follows-refused old a fault t fs takes =
       let new = record old { recorder = t; files = fs; refused = Some (one_more_refused old.refused fault) } in
-      follows-of seen (handed_on a) false old new (Ok tt) (WasRefused fault ∷ []) refl refl
+      follows-of seen (handed_on a) false old new (Ok tt) (WasRefused fault ∷ []) refl refl refl
       (λ p r is.
       let x = takes p.first p.filed is.recorded.is in
       let filed : FiledDatagrams = record p.filed { here = p.filed.here ++ [] } in
@@ -127,7 +127,7 @@ module _ {F : Type 0} (seen : F → FilesView) where
       → Follows seen (handed_on a) false old (record old { recorder = t; files = fs }) (Ok tt)
   follows-ignored old a t fs takes =
       let new = record old { recorder = t; files = fs } in
-      follows-of seen (handed_on a) false old new (Ok tt) (WasIgnored a.octets ∷ []) refl refl
+      follows-of seen (handed_on a) false old new (Ok tt) (WasIgnored a.octets ∷ []) refl refl refl
       (λ p r is.
       let x = takes p.first p.filed is.recorded.is in
       let filed : FiledDatagrams = record (with_ignored p.filed a.octets) { here = p.filed.here ++ [] } in
@@ -146,7 +146,7 @@ module _ {F : Type 0} (seen : F → FilesView) where
       → Follows seen (handed_on a) false old (record old { recorder = t; files = fs }) (Err fault)
   follows-failed old a fault t fs takes =
       let new = record old { recorder = t; files = fs } in
-      follows-of seen (handed_on a) false old new (Err fault) [] refl refl
+      follows-of seen (handed_on a) false old new (Err fault) [] refl refl refl
       (λ p r is.
       let x = takes p.first p.filed is.recorded.is in
       let failed : HasFailed seen new fault p (λ says. (handed_on a says r).handed_on) = record {
@@ -173,7 +173,7 @@ module _ {F : Type 0} (seen : F → FilesView) where
   follows-unnoted old a count t u fs w fault takes ends =
       let new = record old { recorder = u; files = fs; window = w } in
       let c = counts_of count in
-      follows-of seen (handed_on a) false old new (Err fault) (WasRecorded c ∷ []) refl refl
+      follows-of seen (handed_on a) false old new (Err fault) (WasRecorded c ∷ []) refl refl refl
       (λ p r is.
       let x = takes p.first p.filed is.recorded.is in
       record {
@@ -209,7 +209,7 @@ module _ {F : Type 0} (seen : F → FilesView) where
   pub follows-no_room : (old : PeerState F) (u : PeerView) (fault : RecordFault) (part : Part) → ((says : Says) → Grows (part says)) → EndsFor fault old.recorder u
       → Follows seen part false old (record old { recorder = u }) (Err fault)
   follows-no_room old u fault part grows ends =
-      follows-of seen part false old (record old { recorder = u }) (Err fault) [] refl refl
+      follows-of seen part false old (record old { recorder = u }) (Err fault) [] refl refl refl
       (λ p r is. record {
         more = [];
         leads = failed-between old (record old { recorder = u }) fault part p r grows (ap (λ v. v.ended) ends.ended) (ends.stopped p.first (seen old.files) p.filed [] is.recorded.is) is;
@@ -220,7 +220,7 @@ module _ {F : Type 0} (seen : F → FilesView) where
   follows-finished : (old : PeerState F) (t : PeerView) (fs : F) → FinishesFile seen (Ok tt) old.recorder t old.files fs → Follows seen (λ says r. r) true old (record old { recorder = t; files = fs }) (Ok tt)
   follows-finished old t fs finishes =
       let new = record old { recorder = t; files = fs } in
-      follows-of seen (λ says r. r) true old new (Ok tt) [] refl refl
+      follows-of seen (λ says r. r) true old new (Ok tt) [] refl refl refl
       (λ p r is.
       let done : Recording = record { first = p.first; filed = file_finished p.filed; said = p.said } in
       let same : recorded_then true p [] [] ≡ done = λ i. record { first = p.first; filed = file_finished (record p.filed { here = append-nil p.filed.here i }); said = append-nil p.said i } in
@@ -241,7 +241,7 @@ module _ {F : Type 0} (seen : F → FilesView) where
       → Follows seen (λ says r. r) true old (record old { recorder = t; files = fs }) (Err fault)
   follows-unfinished old t fs fault finishes =
       let new = record old { recorder = t; files = fs } in
-      follows-of seen (λ says r. r) true old new (Err fault) [] refl refl
+      follows-of seen (λ says r. r) true old new (Err fault) [] refl refl refl
       (λ p r is.
       let x = finishes p.first p.filed is.recorded.is in
       record { more = []; leads = failed-between old new fault (λ says r. r) p r (λ says. grows-none) x.0 x.1 is })

@@ -7,6 +7,7 @@ mod Looping
 pub mod SessionSteps
 pub mod Standing
 pub mod Turning
+mod TakingTurns
 mod Recording
 pub mod Alone
 mod ScriptLemmas

@@ -8,10 +8,10 @@ use Rattle.recording_files.specs.Files.{FilesView}
 use Rattle.recording_peers.specs.declared.peer_state.PeerState.{PeerState}
 use Rattle.recording_peers.specs.declared.turn.Turn.{Turn}
 use Rattle.recording_peers.specs.declared.outcome.Became.{Became}
-use Rattle.recording_peers.specs.declared.outcome.Became.TheVariants.{Taken, Ended, NoMemory}
+use Rattle.recording_peers.specs.declared.outcome.Became.TheVariants.{Taken, Ended, NoPlace, NoMemory}
 use Rattle.recording_peers.specs.Calls.{Takes, TakesTurn}
 use Rattle.recording_peers.specs.Table.{same_peer, of_peer, with_first, gone_for, others_than_last}
-use Rattle.recording_peers.specs.Steps.{Reception, ComesTo, Begins, TakesKept, TakesIn, RecordsBy, Records, GoesOn, became_by, kept_by, ended_by, first_by}
+use Rattle.recording_peers.specs.Steps.{Reception, ComesTo, BeginsBy, TakesKept, TakesIn, RecordsBy, Records, GoesOn, became_by, kept_by, ended_by, first_by}
 use Rattle.recording_peers.proofs.Tables.{IsLast, written, taken_out, value_out, begun, begun_first, begun_others, last_first, last_out, last_there}
 
 module _ {F : Type 0} (seen : F → FilesView) where
@@ -50,6 +50,11 @@ module _ {F : Type 0} (seen : F → FilesView) where
     by_became : (b : Became F) (r : Reception F) (es after : List (SocketAddr × PeerState F)) → r.became ≡ b → TakesIn seen made_for seconds most r es after → RecordsBy seen made_for seconds b most r es after
     by_became Taken r es after is t = t
     by_became (Ended k) r es after is t = t
+    by_became NoPlace r es after is t = absurd (never t.answer t.new (sym is ∙ t.became))
+      where
+        never : (answer : Result (Unit {0}) RecordFault) (k : PeerState F) → NoPlace ≡ became_by answer k → ⊥
+        never (Ok x) k e = cc
+        never (Err fault) k e = cc
     by_became NoMemory r es after is t = absurd (never t.answer t.new (sym is ∙ t.became))
       where
         never : (answer : Result (Unit {0}) RecordFault) (k : PeerState F) → NoMemory ≡ became_by answer k → ⊥
@@ -67,7 +72,7 @@ module _ {F : Type 0} (seen : F → FilesView) where
     pub recorded_kept : (r : Reception F) (es after : List (SocketAddr × PeerState F)) → TakesKept seen most (record r { gone = None }) es after → r.gone ≡ None → Records seen made_for seconds most r es after
     recorded_kept r es after t none = recorded r es after (record {
       old = t.old;
-      comes_to = subst (λ o. ComesTo seen made_for seconds r.peer o t.old) (sym t.kept) refl;
+      comes_to = subst (λ o. ComesTo seen made_for seconds r.peer r.octets o t.old) (sym t.kept) refl;
       new = t.new;
       answer = t.answer;
       takes = t.takes;
@@ -82,7 +87,7 @@ module _ {F : Type 0} (seen : F → FilesView) where
     same_kept (Ok x) peer k new es h = begun_first most peer es k new h
     same_kept (Err fault) peer k new es h = begun_others most peer es k h
 
-    pub recorded_new : (now_most : ℕ) (r : Reception F) (es begins after : List (SocketAddr × PeerState F)) (k : PeerState F) → of_peer r.peer es ≡ None → Begins seen made_for seconds r.peer k → begins ≡ with_first most r.peer k es → now_most ≡ most
+    pub recorded_new : (now_most : ℕ) (r : Reception F) (es begins after : List (SocketAddr × PeerState F)) (k : PeerState F) → of_peer r.peer es ≡ None → BeginsBy seen made_for seconds r.peer r.octets k → begins ≡ with_first most r.peer k es → now_most ≡ most
         → TakesKept seen now_most (record r { gone = None }) begins after → r.gone ≡ gone_for most r.peer es → Records seen made_for seconds most r es after
     recorded_new now_most r es begins after k none fresh is same_most taken gone =
         let t : TakesKept seen most (record r { gone = None }) begins after = subst (λ n. TakesKept seen n (record r { gone = None }) begins after) same_most taken in
@@ -91,7 +96,7 @@ module _ {F : Type 0} (seen : F → FilesView) where
         let same : t.old ≡ k = cc (kept, there) in
         recorded r es after (record {
           old = t.old;
-          comes_to = subst (λ o. ComesTo seen made_for seconds r.peer o t.old) (sym none) (subst (Begins seen made_for seconds r.peer) (sym same) fresh);
+          comes_to = subst (λ o. ComesTo seen made_for seconds r.peer r.octets o t.old) (sym none) (subst (BeginsBy seen made_for seconds r.peer r.octets) (sym same) fresh);
           new = t.new;
           answer = t.answer;
           takes = t.takes;
@@ -105,7 +110,7 @@ module _ {F : Type 0} (seen : F → FilesView) where
   pub went_on : (second : ℕ) (is_over : Bool) (es after : List (SocketAddr × PeerState F)) (e : SocketAddr × PeerState F) (old new : PeerState F) (turn : Turn) (ended : Option (PeerState F))
       → last_entry es ≡ Some e → IsLast es e → Some old ≡ of_peer e.0 es → turn.answer ≡ Ok tt → TakesTurn seen old new second is_over turn
       → after ≡ set_value (same_peer e.0) (promoted (same_peer e.0) es) new → ended ≡ None
-      → GoesOn seen second is_over es after (record { peer = e.0; refused = turn.refused; orders = turn.orders; ended = ended })
+      → GoesOn seen second is_over es after (record { peer = e.0; refused = turn.refused; orders = turn.orders; resumed = turn.resumed; ended = ended })
   went_on second is_over es after e old new turn ended last l here ok takes left none =
       let there = last_there es e l in
       let same : old ≡ e.1 = cc (here, there) in
@@ -117,6 +122,7 @@ module _ {F : Type 0} (seen : F → FilesView) where
         takes = takes;
         refused = refl;
         orders = refl;
+        resumed = refl;
         ended = none ∙ sym (ap (λ a. ended_by a new) ok);
         others = left ∙ last_first es e new l ∙ sym (ap (λ a. first_by a e.0 new (others_than_last es)) ok);
       }
@@ -125,7 +131,7 @@ module _ {F : Type 0} (seen : F → FilesView) where
       → last_entry es ≡ Some e → IsLast es e → Some old ≡ of_peer e.0 es → turn.answer ≡ Err fault → TakesTurn seen old new second is_over turn
       → ended ≡ lookup (same_peer e.0) (set_value (same_peer e.0) (promoted (same_peer e.0) es) new)
       → after ≡ remove_entry (same_peer e.0) (set_value (same_peer e.0) (promoted (same_peer e.0) es) new)
-      → GoesOn seen second is_over es after (record { peer = e.0; refused = turn.refused; orders = turn.orders; ended = ended })
+      → GoesOn seen second is_over es after (record { peer = e.0; refused = turn.refused; orders = turn.orders; resumed = turn.resumed; ended = ended })
   went_out second is_over es after e old new turn fault ended last l here failed takes popped left =
       let there = last_there es e l in
       let same : old ≡ e.1 = cc (here, there) in
@@ -137,6 +143,7 @@ module _ {F : Type 0} (seen : F → FilesView) where
         takes = takes;
         refused = refl;
         orders = refl;
+        resumed = refl;
         ended = popped ∙ value_out 0 e.0 es e.1 new there ∙ sym (ap (λ a. ended_by a new) failed);
         others = left ∙ last_out es e new l ∙ sym (ap (λ a. first_by a e.0 new (others_than_last es)) failed);
       }

@@ -144,9 +144,9 @@ module _ {F : Type 0} (seen : F → FilesView) (laws : Laws) (seconds : ℕ) whe
 
   -- ---- a second
 
-  turn-ended : (answer : Result (Unit {0}) RecordFault) (new : PeerState F) (w : WindowView) (hs : List Happening) → SameButCounts new.window w → StandsBy answer (record new { window = w }) hs → StandsBy answer new hs
-  turn-ended (Ok x) new w hs alike s = record { recording = s.recording; recorded = record { empty = s.recorded.empty; is = s.recorded.is; settles = s.recorded.settles }; window = alike ∙ s.window }
-  turn-ended (Err fault) new w hs alike e = record {
+  turn-ended : (answer : Result (Unit {0}) RecordFault) (new : PeerState F) (w : WindowView) (told : ℕ) (hs : List Happening) → SameButCounts new.window w → StandsBy answer (record new { window = w; resumptions_told = told }) hs → StandsBy answer new hs
+  turn-ended (Ok x) new w told hs alike s = record { recording = s.recording; recorded = record { empty = s.recorded.empty; is = s.recorded.is; settles = s.recorded.settles }; window = alike ∙ s.window }
+  turn-ended (Err fault) new w told hs alike e = record {
     recording = e.recording;
     fault = e.fault;
     failed = record { empty = e.failed.empty; ended = e.failed.ended; before = e.failed.before; next = e.failed.next; stopped = e.failed.stopped; settles = e.failed.settles; are_first = e.failed.are_first };
@@ -161,8 +161,8 @@ module _ {F : Type 0} (seen : F → FilesView) (laws : Laws) (seconds : ℕ) whe
 
   pub turn-stands : (old new : PeerState F) (hs : List Happening) (second : ℕ) (is_over : Bool) (t : Turn) → IsSession seen old seconds hs → TakesTurn seen old new second is_over t → StandsBy t.answer new (hs ++ SecondBegan second ∷ [])
   turn-stands old new hs second is_over t s takes =
-      turn-ended t.answer new takes.window (hs ++ SecondBegan second ∷ []) (counts-alike is_over takes.window new.window t.orders.items takes.counts)
-      (follows-stands (λ says r. tick says second r) is_over (record old { refused = None }) (record new { window = takes.window }) t.answer hs (hs ++ SecondBegan second ∷ []) (λ says r s. laws.step_alike says r s (Tick second))
+      turn-ended t.answer new takes.window old.resumptions_told (hs ++ SecondBegan second ∷ []) (counts-alike is_over takes.window new.window t.orders.items takes.counts)
+      (follows-stands (λ says r. tick says second r) is_over (record old { refused = None }) (record new { window = takes.window; resumptions_told = old.resumptions_told }) t.answer hs (hs ++ SecondBegan second ∷ []) (λ says r s. laws.step_alike says r s (Tick second))
       (λ says. run-more says seconds hs (SecondBegan second) (Tick second ∷ []) refl) (session-of old (record old { refused = None }) hs refl refl refl s) takes.follows)
 
   -- ---- the end

@@ -6,7 +6,7 @@ use Rattle.recording_files.specs.declared.record_fault.RecordFault.{RecordFault}
 use Rattle.recording_files.specs.Files.{FilesView}
 use Rattle.recording_peers.specs.declared.peer_state.PeerState.{PeerState}
 use Rattle.recording_peers.specs.declared.outcome.Became.{Became}
-use Rattle.recording_peers.specs.declared.outcome.Became.TheVariants.{Taken, Ended, NoMemory}
+use Rattle.recording_peers.specs.declared.outcome.Became.TheVariants.{Taken, Ended, NoPlace, NoMemory}
 use Rattle.recording_peers.specs.Happenings.{Happening}
 use Rattle.recording_peers.specs.Kept.{IsSession}
 use Rattle.recording_peers.specs.Table.{same_peer, of_peer, others_for, gone_for, Both}
@@ -20,11 +20,11 @@ module _ {F : Type 0} (seen : F → FilesView) (made_for : F → SocketAddr → 
   abbrev Stands : PeerState F → List Happening → Type 0
   Stands k hs = IsSession seen k seconds hs
 
-  came_to : (peer : SocketAddr) (o : Option (PeerState F)) (q : Option (List Happening)) (old : PeerState F) → Both Stands o q → ComesTo seen made_for seconds peer o old → IsSession seen old seconds (unwrap_or q [])
-  came_to peer None None old b c = c.session
-  came_to peer None (Some hs) old b c = absurd b
-  came_to peer (Some k) None old b c = absurd b
-  came_to peer (Some k) (Some hs) old b c = subst (λ x. IsSession seen x seconds hs) (sym c) b
+  came_to : (peer : SocketAddr) (m : List ℕ) (o : Option (PeerState F)) (q : Option (List Happening)) (old : PeerState F) → Both Stands o q → ComesTo seen made_for seconds peer m o old → IsSession seen old seconds (unwrap_or q [])
+  came_to peer m None None old b c = c.begins.session
+  came_to peer m None (Some hs) old b c = absurd b
+  came_to peer m (Some k) None old b c = absurd b
+  came_to peer m (Some k) (Some hs) old b c = subst (λ x. IsSession seen x seconds hs) (sym c) b
 
   went : (r : Reception F) (es : List (SocketAddr × PeerState F)) (cs : PeerHappenings) → StandFor seen seconds es cs → r.gone ≡ gone_for most r.peer es → EvictedStands seen seconds r.gone (gone_for most r.peer cs)
   went r es cs p e = subst (λ g. EvictedStands seen seconds g (gone_for most r.peer cs)) (sym e) (paired_gone Stands most r.peer es cs p)
@@ -39,13 +39,15 @@ module _ {F : Type 0} (seen : F → FilesView) (made_for : F → SocketAddr → 
 
   took : (r : Reception F) (es after : List (SocketAddr × PeerState F)) (cs : PeerHappenings) → StandFor seen seconds es cs → TakesIn seen made_for seconds most r es after → StandAfter seen seconds most r after cs
   took r es after cs p t =
-      let old = came_to r.peer (of_peer r.peer es) (of_peer r.peer cs) t.old (paired_lookup Stands (same_peer r.peer) es cs p) t.comes_to in
+      let old = came_to r.peer r.octets (of_peer r.peer es) (of_peer r.peer cs) t.old (paired_lookup Stands (same_peer r.peer) es cs p) t.comes_to in
       let s = takes-stands seen laws seconds t.old t.new (happened_to r.peer cs) r.octets r.second t.answer old t.takes in
       subst (λ b. StandBy seen seconds b most r after cs) (sym t.became) (by_answer r es after cs t.answer t.new p s t.others (went r es cs p t.went))
 
   by_became : (b : Became F) (r : Reception F) (es after : List (SocketAddr × PeerState F)) (cs : PeerHappenings) → r.became ≡ b → StandFor seen seconds es cs → RecordsBy seen made_for seconds b most r es after → StandAfter seen seconds most r after cs
   by_became Taken r es after cs is p t = took r es after cs p t
   by_became (Ended k) r es after cs is p t = took r es after cs p t
+  by_became NoPlace r es after cs is p t =
+      subst (λ b. StandBy seen seconds b most r after cs) (sym is) (subst (λ l. StandFor seen seconds l cs) (sym t.nothing.same) p, t.nothing.none_went)
   by_became NoMemory r es after cs is p t =
       subst (λ b. StandBy seen seconds b most r after cs) (sym is) (subst (λ l. StandFor seen seconds l cs) (sym t.same) p, t.none_went)
 

@@ -1,5 +1,5 @@
 -- What the calls of a session do.
-use Rattle.std.specs.Prelude.{◌≡◌, ◌⊎◌, ℕ, Bool, true, false, List, [], ◌∷◌, ◌++◌, Option, Some, None, Result, Ok, Err, MatchResult}
+use Rattle.std.specs.Prelude.{◌≡◌, ◌⊎◌, ℕ, Bool, true, false, List, [], ◌∷◌, ◌++◌, drop, length, Option, Some, None, Result, Ok, Err, MatchResult}
 use Rattle.ipfix_wire.specs.declared.header.Header.{Header}
 use Rattle.ipfix_message.specs.Domains.{message_header}
 use Rattle.ipfix_message.specs.declared.fault.MessageFault.{MessageFault}
@@ -13,6 +13,7 @@ use Rattle.recording_order.specs.Windows.{WindowView}
 use Rattle.recording_order.specs.declared.order_counts.OrderCounts.{OrderCounts}
 use Rattle.recording_peer.specs.Peers.{Taken}
 use Rattle.recording_peer.specs.Recording.{FiledDatagrams, file_finished}
+use Rattle.recording_peer.specs.declared.resumption.Resumption.{Resumption}
 use Rattle.recording_peers.specs.declared.peer_state.PeerState.{PeerState}
 use Rattle.recording_peers.specs.declared.refusals.Refusals.{Refusals}
 use Rattle.recording_peers.specs.declared.turn.Turn.{Turn}
@@ -67,6 +68,12 @@ abbrev pub TellsCounts : Bool → WindowView → List OrderCounts → WindowView
 TellsCounts false w orders after = (orders ≡ []) × (after ≡ w)
 TellsCounts true w orders after = ((orders ≡ told_counts w) × (after ≡ with_counts_begun w)) ⊎ ((orders ≡ []) × (after ≡ w))
 
+-- ---- domains that went on after an earlier run
+
+-- of these domains so many were told: the others are told now, or wait where there is no memory for that
+abbrev pub TellsResumed : List Resumption → ℕ → List Resumption → ℕ → Type 0
+TellsResumed all told now after = ((now ≡ drop told all) × (after ≡ length all)) ⊎ ((now ≡ []) × (after ≡ told))
+
 module _ {F : Type 0} (seen : F → FilesView) where
   -- the files and the recorder stand for what a run has handed on, and the window is the run's
   pub record IsRunning (k : PeerState F) (p : Recording) (r : Run) : Type 0 where
@@ -85,6 +92,7 @@ module _ {F : Type 0} (seen : F → FilesView) where
     pub said : List Said
     pub refused : new.refused ≡ refused_after said old.refused
     pub heard : new.heard ≡ old.heard
+    pub resumptions_told : new.resumptions_told ≡ old.resumptions_told
     pub follows : (p : Recording) (r : Run) → IsRunning old p r → (more : List Taken) × MatchResult answer
         (λ x. RunsTo new (recorded_then finishes p more said) part r)
         (λ fault. HasFailed seen new fault (recorded_then false p more said) (λ says. (part says r).handed_on))
@@ -101,9 +109,11 @@ module _ {F : Type 0} (seen : F → FilesView) where
 
   -- ---- a session in its turn
 
-  -- a second began: what was refused is told, those whose time is over are handed on, and the file is finished if a period is over
+  -- a second began: what was refused is told, those whose time is over are handed on, the file is finished if a period is over, and the
+  -- domains that went on are told
   pub record TakesTurn (old new : PeerState F) (second : ℕ) (is_over : Bool) (t : Turn) : Type 0 where
     pub refused : t.refused ≡ old.refused
     pub window : WindowView
-    pub follows : Follows (λ says r. tick says second r) is_over (record old { refused = None }) (record new { window = window }) t.answer
+    pub follows : Follows (λ says r. tick says second r) is_over (record old { refused = None }) (record new { window = window; resumptions_told = old.resumptions_told }) t.answer
     pub counts : TellsCounts is_over window t.orders.items new.window
+    pub resumed : TellsResumed new.recorder.told.resumed old.resumptions_told t.resumed.items new.resumptions_told

@@ -3,7 +3,7 @@ use Rattle.std.specs.Prelude.{◌≡◌, ℕ, true, List, [], ◌∷◌, map, fi
 use Rattle.std.specs.declared.net.socket_addr.SocketAddr.{SocketAddr}
 use Rattle.recording_files.specs.Files.{FilesView}
 use Rattle.recording_peers.specs.declared.outcome.Became.{Became}
-use Rattle.recording_peers.specs.declared.outcome.Became.TheVariants.{Taken, Ended, NoMemory}
+use Rattle.recording_peers.specs.declared.outcome.Became.TheVariants.{Taken, Ended, NoPlace, NoMemory}
 use Rattle.recording_peers.specs.Happenings.{Happening}
 use Rattle.recording_peers.specs.Table.{same_peer, of_peer, others_for}
 use Rattle.recording_peers.specs.Steps.{PeerSessions, Reception, Records}
@@ -19,6 +19,7 @@ AreRecorded {F} seen made_for seconds most (r ∷ rs) es after =
 abbrev pub happened_by : {F : Type 0} → Became F → ℕ → Reception F → PeerHappenings → PeerHappenings
 happened_by Taken most r cs = with_happening most cs r.peer (came_in r)
 happened_by (Ended k) most r cs = others_for most r.peer cs
+happened_by NoPlace most r cs = cs
 happened_by NoMemory most r cs = cs
 
 abbrev pub happened_in : {F : Type 0} → ℕ → Reception F → PeerHappenings → PeerHappenings
@@ -38,6 +39,7 @@ own_of peer rs = map (λ r. came_in r) (filter (λ r. same_peer peer r.peer) rs)
 abbrev pub IsTaken : {F : Type 0} → Became F → Type 0
 IsTaken Taken = Unit {0}
 IsTaken (Ended k) = ⊥
+IsTaken NoPlace = ⊥
 IsTaken NoMemory = ⊥
 
 -- its own were taken, and its session didn't go out

@@ -5,7 +5,7 @@ use Rattle.lru.specs.LruCache.{last_entry}
 use Rattle.recording_files.specs.Files.{FilesView}
 use Rattle.recording_peers.specs.declared.peer_state.PeerState.{PeerState}
 use Rattle.recording_peers.specs.declared.outcome.Became.{Became}
-use Rattle.recording_peers.specs.declared.outcome.Became.TheVariants.{Taken, Ended, NoMemory}
+use Rattle.recording_peers.specs.declared.outcome.Became.TheVariants.{Taken, Ended, NoPlace, NoMemory}
 use Rattle.recording_peers.specs.declared.in_turn.InTurn.{InTurn}
 use Rattle.recording_peers.specs.Happenings.{Happening, DatagramCame, SecondBegan}
 use Rattle.recording_peers.specs.Kept.{IsSession, HasEnded}
@@ -45,6 +45,7 @@ module _ {F : Type 0} (seen : F → FilesView) (seconds : ℕ) where
   StandBy Taken most r after cs = StandFor after (with_happening most cs r.peer (came_in r)) × EvictedStands r.gone (gone_for most r.peer cs)
   StandBy (Ended k) most r after cs = StandFor after (others_for most r.peer cs) × EvictedStands r.gone (gone_for most r.peer cs)
       × HasEnded seen k seconds (happened_with r.peer cs (came_in r))
+  StandBy NoPlace most r after cs = StandFor after cs × (r.gone ≡ None)
   StandBy NoMemory most r after cs = StandFor after cs × (r.gone ≡ None)
 
   abbrev pub StandAfter : ℕ → Reception F → PeerSessions F → PeerHappenings → Type 0

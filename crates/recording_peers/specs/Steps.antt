@@ -1,12 +1,16 @@
 -- What becomes of a datagram, and of the peers that are kept.
-use Rattle.std.specs.Prelude.{◌≡◌, ℕ, Bool, List, [], ◌∷◌, Option, Some, None, Result, Ok, Err}
+use Rattle.std.specs.Prelude.{◌≡◌, ◌≤◌, ◌⊎◌, ℕ, Bool, List, length, [], ◌∷◌, Option, Some, None, Result, Ok, Err}
+use Rattle.std.specs.BTreeMap.{BTreeMap}
 use Rattle.std.specs.declared.net.socket_addr.SocketAddr.{SocketAddr}
 use Rattle.lru.specs.LruCache.{last_entry}
 use Rattle.recording_files.specs.declared.record_fault.RecordFault.{RecordFault}
 use Rattle.recording_files.specs.Files.{FilesView}
+use Rattle.recording_resumption.specs.declared.earlier_domain.EarlierDomain.{EarlierDomain}
+use Rattle.recording_peer.specs.Beginnings.{BeginsPeer, WhyNone, resumed_first}
+use Rattle.recording_peer.specs.Recording.{left_listed}
 use Rattle.recording_peers.specs.declared.peer_state.PeerState.{PeerState}
 use Rattle.recording_peers.specs.declared.outcome.Became.{Became}
-use Rattle.recording_peers.specs.declared.outcome.Became.TheVariants.{Taken, Ended, NoMemory}
+use Rattle.recording_peers.specs.declared.outcome.Became.TheVariants.{Taken, Ended, NoPlace, NoMemory}
 use Rattle.recording_peers.specs.declared.peers.Peers.{Peers}
 use Rattle.recording_peers.specs.declared.in_turn.InTurn.{InTurn}
 use Rattle.recording_peers.specs.declared.turn.Turn.{Turn}
@@ -38,11 +42,20 @@ abbrev pub kept_by : {F : Type 0} → Result (Unit {0}) RecordFault → ℕ → 
 kept_by (Ok x) most peer k es = with_first most peer k es
 kept_by (Err fault) most peer k es = others_for most peer es
 
--- there was no memory to begin a session, and nothing has changed
+-- no session of the peer begins, and nothing has changed
 pub record TakesNothing {F : Type 0} (r : Reception F) (es after : PeerSessions F) : Type 0 where
   pub begins : of_peer r.peer es ≡ None
   pub same : after ≡ es
   pub none_went : r.gone ≡ None
+
+-- since the datagram doesn't begin one, by what an earlier run left of the peer; or since there is no room for one more, and none
+-- is made now
+abbrev pub WhyNoPlace : {F : Type 0} → ℕ → Reception F → PeerSessions F → Type 0
+WhyNoPlace most r es = ((left : BTreeMap ℕ EarlierDomain) × WhyNone (resumed_first left r.octets) r.octets) ⊎ (most ≤ length es)
+
+pub record FindsNoPlace {F : Type 0} (most : ℕ) (r : Reception F) (es after : PeerSessions F) : Type 0 where
+  pub nothing : TakesNothing r es after
+  pub why : WhyNoPlace most r es
 
 -- the room for peers, and for how many seconds a datagram waits, stay
 pub record KeepsLimits {F : Type 0} (old new : Peers F) : Type 0 where
@@ -60,25 +73,33 @@ pub record TakesKept {F : Type 0} (seen : F → FilesView) (most : ℕ) (r : Rec
   pub others : after ≡ kept_by answer most r.peer new es
 
 module _ {F : Type 0} (seen : F → FilesView) (made_for : F → SocketAddr → Type 0) (seconds : ℕ) where
-  -- a session that begins, with files that were made for its peer
-  pub record Begins (peer : SocketAddr) (k : PeerState F) : Type 0 where
+  -- a session that begins, with files that were made for its peer, and with what an earlier run left of the peer
+  pub record Begins (peer : SocketAddr) (left : BTreeMap ℕ EarlierDomain) (k : PeerState F) : Type 0 where
     pub session : IsSession seen k seconds []
     pub made : made_for k.files peer
+    pub earlier : k.recorder.earlier ≡ left_listed left.entries
+    pub none_told : k.resumptions_told ≡ 0
+
+  -- since this datagram begins one
+  pub record BeginsBy (peer : SocketAddr) (m : List ℕ) (k : PeerState F) : Type 0 where
+    pub left : BTreeMap ℕ EarlierDomain
+    pub begins : Begins peer left k
+    pub by : BeginsPeer (resumed_first left m) m
 
   -- a peer that isn't kept is first then, with a session that begins, and this one went for it; or there is no memory
-  abbrev pub BeginsWith : {E : Type 0} → ℕ → SocketAddr → Result (Option (SocketAddr × PeerState F)) E → PeerSessions F → PeerSessions F → Type 0
-  BeginsWith most peer (Ok gone) es after = (gone ≡ gone_for most peer es) × ((k : PeerState F) × Begins peer k × (after ≡ with_first most peer k es))
-  BeginsWith most peer (Err e) es after = after ≡ es
+  abbrev pub BeginsWith : {E : Type 0} → ℕ → SocketAddr → BTreeMap ℕ EarlierDomain → Result (Option (SocketAddr × PeerState F)) E → PeerSessions F → PeerSessions F → Type 0
+  BeginsWith most peer left (Ok gone) es after = (gone ≡ gone_for most peer es) × ((k : PeerState F) × Begins peer left k × (after ≡ with_first most peer k es))
+  BeginsWith most peer left (Err e) es after = after ≡ es
 
   -- the session that a datagram comes to: the peer's, or one that begins
-  abbrev pub ComesTo : SocketAddr → Option (PeerState F) → PeerState F → Type 0
-  ComesTo peer (Some was) k = k ≡ was
-  ComesTo peer None k = Begins peer k
+  abbrev pub ComesTo : SocketAddr → List ℕ → Option (PeerState F) → PeerState F → Type 0
+  ComesTo peer m (Some was) k = k ≡ was
+  ComesTo peer m None k = BeginsBy peer m k
 
   -- its peer's session took it; no other has changed
   pub record TakesIn (most : ℕ) (r : Reception F) (es after : PeerSessions F) : Type 0 where
     pub old : PeerState F
-    pub comes_to : ComesTo r.peer (of_peer r.peer es) old
+    pub comes_to : ComesTo r.peer r.octets (of_peer r.peer es) old
     pub new : PeerState F
     pub answer : Result (Unit {0}) RecordFault
     pub takes : Takes seen old new r.octets r.second answer
@@ -87,6 +108,7 @@ module _ {F : Type 0} (seen : F → FilesView) (made_for : F → SocketAddr → 
     pub went : r.gone ≡ gone_for most r.peer es
 
   abbrev pub RecordsBy : Became F → ℕ → Reception F → PeerSessions F → PeerSessions F → Type 0
+  RecordsBy NoPlace most r es after = FindsNoPlace most r es after
   RecordsBy NoMemory most r es after = TakesNothing r es after
   RecordsBy Taken most r es after = TakesIn most r es after
   RecordsBy (Ended k) most r es after = TakesIn most r es after
@@ -114,5 +136,6 @@ pub record GoesOn {F : Type 0} (seen : F → FilesView) (second : ℕ) (is_over 
   pub takes : TakesTurn seen old new second is_over turn
   pub refused : t.refused ≡ turn.refused
   pub orders : t.orders ≡ turn.orders
+  pub resumed : t.resumed ≡ turn.resumed
   pub ended : t.ended ≡ ended_by turn.answer new
   pub others : after ≡ first_by turn.answer t.peer new (others_than_last es)

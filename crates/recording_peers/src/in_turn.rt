@@ -3,6 +3,7 @@
 use crate::peer_state::PeerState;
 use crate::refusals::Refusals;
 use recording_order::OrderCounts;
+use recording_peer::Resumption;
 use std::net::SocketAddr;
 
 /// A peer, where all are gone over in turn.
@@ -13,6 +14,8 @@ pub struct InTurn<F> {
     pub refused: Option<Refusals>,
     /// How many datagrams were doubled and reordered in each domain that had some, where a period is over.
     pub orders: Vec<OrderCounts>,
+    /// Its domains that went on after an earlier run and are told now.
+    pub resumed: Vec<Resumption>,
     /// Its session, where that ended with a fault: a datagram that waited could not be recorded, or the file
     /// could not be finished.
     pub ended: Option<PeerState<F>>,

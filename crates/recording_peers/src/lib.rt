@@ -27,4 +27,5 @@ pub use peer_state::PeerState;
 pub use peers::Peers;
 pub use refusals::Refusals;
 pub use script_datagrams::{ScriptDatagrams, ScriptedDatagram};
+pub use taking_turns::untold;
 pub use turn::Turn;

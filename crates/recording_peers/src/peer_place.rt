@@ -21,4 +21,10 @@ pub trait PeerPlace<F: FileSeries> {
 
     /// What an earlier run left of this peer's domains. It is handed over to the first session of the peer.
     fn earlier(&mut self, alloc: Global, peer: SocketAddr) -> EarlierDomains;
+
+    /// Whether no more files can wait to be finished: then no session is to end for another one.
+    fn is_busy(&self) -> bool;
+
+    /// Keeps again what was handed over of this peer, of which no session began.
+    fn give_back(&mut self, alloc: Global, peer: SocketAddr, earlier: EarlierDomains);
 }

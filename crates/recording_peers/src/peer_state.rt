@@ -28,6 +28,8 @@ pub struct PeerState<F> {
     pub heard: u64,
     /// Its datagrams that were refused and aren't reported yet, if there are any.
     pub refused: Option<Refusals>,
+    /// How many of its domains that went on after an earlier run were told.
+    pub resumptions_told: usize,
 }
 
 impl<F: FileSeries> PeerState<F> {
@@ -39,6 +41,7 @@ impl<F: FileSeries> PeerState<F> {
         ensures session { IsSession F.seen result reorder [] }
         ensures heard { result.heard ≡ now }
         ensures files { result.files ≡ files }
+        ensures none_told { result.resumptions_told ≡ 0 }
         ensures earlier { result.recorder.earlier ≡ left_listed earlier.entries }
     {
         PeerState {
@@ -47,6 +50,7 @@ impl<F: FileSeries> PeerState<F> {
             window: Window::new(alloc, reorder),
             heard: now,
             refused: None,
+            resumptions_told: 0,
         }
     }
 
@@ -72,17 +76,20 @@ impl<F: FileSeries> PeerState<F> {
 
     /// A second has begun: the refused datagrams are told now; those that waited long enough are recorded; and
     /// if a period is over, the file is finished, if it has a datagram, as [`PeerRecorder::finish_file`] does,
-    /// and the counts of doubled and reordered datagrams are told and begin anew. Without memory for these
-    /// they are kept for the next time.
+    /// and the counts of doubled and reordered datagrams are told and begin anew. The domains that went on after
+    /// an earlier run are told, if they weren't. Without memory for these or for the counts they are kept for the
+    /// next time.
     pub fn take_turn(&mut self, alloc: Global, second: u64, is_over: bool) -> Turn
         ensures { TakesTurn F.seen self.old self.new second is_over result }
     {
         let refused = self.refused.take();
         let answer = self.go_on(alloc, second, is_over);
         let orders = self.take_orders(alloc, is_over);
+        let resumed = self.take_resumed(alloc);
         Turn {
             refused,
             orders,
+            resumed,
             answer,
         }
     }

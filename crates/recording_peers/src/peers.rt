@@ -59,7 +59,7 @@ impl<F: FileSeries + Drop> Peers<F> {
     }
 
     /// Gives a datagram of a peer, which came at a time in seconds, to the peer's session; one that isn't kept
-    /// begins, with files of a place. The peer is first now. Where there is no room for one more, the peer
+    /// begins with a datagram that leaves a template in force, with files of a place. The peer is first now. Where there is no room for one more, the peer
     /// that was silent for longest goes out. Any other stays as it is.
     pub fn record<P: PeerPlace<F>>(
         &mut self,
@@ -103,6 +103,7 @@ impl<F: FileSeries + Drop> Peers<F> {
         let Turn {
             refused,
             orders,
+            resumed,
             answer,
         } = self.kept.get_mut(&peer)?.take_turn(alloc, second, is_over);
         let ended = match answer {
@@ -113,6 +114,7 @@ impl<F: FileSeries + Drop> Peers<F> {
             peer,
             refused,
             orders,
+            resumed,
             ended,
         })
     }

@@ -1,6 +1,6 @@
 //! Taking the datagrams of peers.
 
-ghost use Rattle.std.specs.Prelude.{◌≡◌, Some, None, IfSome};
+ghost use Rattle.std.specs.Prelude.{◌≡◌, ◌≤◌, Some, None, IfSome, IsTrue, length};
 ghost use Rattle.recording_peers.specs.Table.{of_peer};
 ghost use Rattle.recording_peers.specs.Steps.{BeginsWith, KeepsLimits, Records, TakesKept};
 
@@ -9,11 +9,20 @@ use crate::peer_place::PeerPlace;
 use crate::peer_state::PeerState;
 use crate::peers::Peers;
 use recording_files::FileSeries;
+use recording_peer::begins_peer;
+use recording_resumption::EarlierDomains;
 use std::alloc::{AllocError, Global};
 use std::net::SocketAddr;
 
 impl<F: FileSeries + Drop> Peers<F> {
-    /// Records a datagram of a peer that isn't kept.
+    // Whether there is no room for one more peer, and the place is too busy to end another.
+    fn lacks_room<P: PeerPlace<F>>(&self, place: &P) -> bool
+        ensures { IsTrue result → self.now.kept.cap ≤ length self.now.kept.entries }
+    {
+        self.kept.len() >= self.kept.cap().get() && place.is_busy()
+    }
+
+    /// Records a datagram of a peer that isn't kept, if it begins a session.
     pub(crate) fn record_first<P: PeerPlace<F>>(
         &mut self,
         alloc: Global,
@@ -34,7 +43,21 @@ impl<F: FileSeries + Drop> Peers<F> {
             self.old.kept.entries self.new.kept.entries }
         ensures limits { KeepsLimits self.old self.new }
     {
-        match self.begin(alloc, place, peer, second) {
+        if self.lacks_room(place) {
+            return Outcome {
+                became: Became::NoPlace,
+                gone: None,
+            };
+        }
+        let earlier = place.earlier(alloc, peer);
+        if !begins_peer(alloc, &earlier, datagram) {
+            place.give_back(alloc, peer, earlier);
+            return Outcome {
+                became: Became::NoPlace,
+                gone: None,
+            };
+        }
+        match self.begin(alloc, place, peer, earlier, second) {
             Ok(gone) => match self.take(alloc, peer, datagram, second) {
                 Some(became) => Outcome { became, gone },
                 None => Outcome {
@@ -49,21 +72,21 @@ impl<F: FileSeries + Drop> Peers<F> {
         }
     }
 
-    // Begins the session of a peer that isn't kept, and answers the peer that went.
+    // Begins the session of a peer that isn't kept, of which an earlier run left this, and answers the peer that went.
     fn begin<P: PeerPlace<F>>(
         &mut self,
         alloc: Global,
         place: &mut P,
         peer: SocketAddr,
+        earlier: EarlierDomains,
         second: u64,
     ) -> Result<Option<(SocketAddr, PeerState<F>)>, AllocError>
         requires { of_peer peer self.old.kept.entries ≡ None }
-        ensures begun { BeginsWith F.seen P.made_for self.old.reorder self.old.kept.cap peer result
-            self.old.kept.entries self.new.kept.entries }
+        ensures begun { BeginsWith F.seen P.made_for self.old.reorder self.old.kept.cap peer earlier
+            result self.old.kept.entries self.new.kept.entries }
         ensures limits { KeepsLimits self.old self.new }
     {
         let files = place.files(alloc, peer)?;
-        let earlier = place.earlier(alloc, peer);
         let session = PeerState::new(alloc, files, earlier, self.reorder, second);
         match self.kept.push(peer, session) {
             Ok(gone) => Ok(gone),

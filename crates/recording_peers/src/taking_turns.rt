@@ -1,12 +1,13 @@
 //! A session in its turn.
 
-ghost use Rattle.std.specs.Prelude.{◌≡◌};
+ghost use Rattle.std.specs.Prelude.{◌≡◌, drop};
 ghost use Rattle.recording_order.specs.Releases as releases;
-ghost use Rattle.recording_peers.specs.Calls.{Follows, TellsCounts};
+ghost use Rattle.recording_peers.specs.Calls.{Follows, TellsCounts, TellsResumed};
 
 use crate::peer_state::PeerState;
 use recording_files::{FileSeries, RecordFault};
 use recording_order::OrderCounts;
+use recording_peer::Resumption;
 use std::alloc::Global;
 
 impl<F: FileSeries> PeerState<F> {
@@ -40,5 +41,35 @@ impl<F: FileSeries> PeerState<F> {
             Ok(orders) => orders,
             Err(_) => Vec::new(alloc),
         }
+    }
+
+    /// Its domains that went on after an earlier run and weren't told, which are told now.
+    pub(crate) fn take_resumed(&mut self, alloc: Global) -> Vec<Resumption>
+        ensures resumed { TellsResumed self.old.recorder.told.resumed self.old.resumptions_told
+            result.items self.new.resumptions_told }
+        ensures others { self.new ≡ record self.old {
+          resumptions_told = self.new.resumptions_told;
+        } }
+    {
+        let resumed = self.recorder.resumed();
+        match Vec::from_slice(alloc, untold(resumed, self.resumptions_told)) {
+            Ok(more) => {
+                self.resumptions_told = resumed.len();
+                more
+            }
+            Err(_) => Vec::new(alloc),
+        }
+    }
+}
+
+/// Those after so many.
+#[tactic(auto, using(std::proofs::lemmas::List::drop_all))]
+pub fn untold(resumed: &[Resumption], told: usize) -> &[Resumption]
+    ensures { result.now ≡ drop told resumed.now }
+{
+    if told < resumed.len() {
+        &resumed[told..]
+    } else {
+        &[]
     }
 }

@@ -1,5 +1,5 @@
 -- A file of an earlier run, read by itself as a session: its report, its templates, and the last message of each domain.
-use Rattle.std.specs.Prelude.{◌≡◌, ℕ, false, List, length, nat_eq, Option, Some, IfSome}
+use Rattle.std.specs.Prelude.{◌≡◌, ℕ, false, List, length, nat_eq, Option, Some, IfSome, IsSome}
 use Rattle.std.specs.Ordering.{nat_cmp}
 use Rattle.std.specs.BTreeMap.{BTreeMap, get as get_at}
 use Rattle.indexmap.specs.IndexMap.{get}
@@ -35,3 +35,7 @@ pub record IsLeft (d : DomainsView) (domain : ℕ) (last : Option LastMessage) (
 -- and so each that is left
 pub record LeavesOnly (last : ℕ → Option LastMessage) (d : DomainsView) (left : BTreeMap ℕ EarlierDomain) : Type 0 where
   pub at : (domain : ℕ) → IfSome (get_at nat_cmp left domain) (IsLeft d domain (last domain))
+
+-- and each is left that has a last message
+abbrev pub LeavesEach : (ℕ → Option LastMessage) → BTreeMap ℕ EarlierDomain → Type 0
+LeavesEach last left = (domain : ℕ) → IsSome (last domain) → IsSome (get_at nat_cmp left domain)

@@ -1,11 +1,11 @@
 //! What an earlier run left of a peer, by its last file.
 
-ghost use Rattle.std.specs.Prelude.{◌≡◌, ℕ, false, nat_eq, None, Some, OnOk, IfOk};
+ghost use Rattle.std.specs.Prelude.{◌≡◌, ℕ, false, nat_eq, None, Some, OnOk, IfOk, IsSome};
 ghost use Rattle.std.specs.BTreeMap.{get};
 ghost use Rattle.std.specs.Ordering.{nat_cmp};
 ghost use Rattle.indexmap.specs.IndexMap.{get as index_get};
 ghost use Rattle.ipfix_message.specs.Domains.{DomainsView, History, StandsFor, template_for};
-ghost use Rattle.recording_resumption.specs.EarlierFiles.{LeavesOnly};
+ghost use Rattle.recording_resumption.specs.EarlierFiles.{LeavesEach, LeavesOnly};
 
 use crate::earlier::Earlier;
 use crate::earlier_domain::{EarlierDomain, EarlierDomains};
@@ -36,8 +36,12 @@ fn put_domain(
     domain: u32,
     left: &mut EarlierDomains,
 ) -> Result<(), AllocError>
-    ensures { LeavesOnly (index_get nat_eq last.now) domains.now left.old
+    ensures only { LeavesOnly (index_get nat_eq last.now) domains.now left.old
         → OnOk result (LeavesOnly (index_get nat_eq last.now) domains.now left.new) }
+    ensures put { IsSome (index_get nat_eq last.now domain)
+        → OnOk result (IsSome (get nat_cmp left.new domain)) }
+    ensures others { OnOk result ((q : ℕ)
+        → IsSome (get nat_cmp left.old q) → IsSome (get nat_cmp left.new q)) }
 {
     let Some(message) = last.get(&domain) else {
         return Ok(());
@@ -55,6 +59,8 @@ pub fn domains_left(alloc: Global, session: &EarlierSession) -> Result<EarlierDo
         → IfOk result (λ left. (domain : ℕ) → get nat_cmp left domain ≡ None) }
     ensures only { (d : DomainsView) → session.now.full.domains ≡ Some d
         → IfOk result (LeavesOnly (index_get nat_eq session.now.last) d) }
+    ensures each { (d : DomainsView) → session.now.full.domains ≡ Some d
+        → IfOk result (LeavesEach (index_get nat_eq session.now.last)) }
 {
     let mut left = BTreeMap::new(alloc);
     let Some(domains) = &session.full.domains else {

@@ -3,7 +3,7 @@
 use super::datagrams::*;
 use super::told::{Answer, Count, take};
 use recording_files::MemoryFiles;
-use recording_peer::PeerRecorder;
+use recording_peer::{PeerRecorder, Resumption};
 use recording_resumption::{EarlierDomains, EarlierReading, domains_left};
 use std::alloc::{AllocError, Global};
 use std::test::*;
@@ -69,6 +69,23 @@ fn templates_are_resumed(rt: HostRuntime) -> Result<(), Fail> {
     assert_eq!(rt; answer, Ok(recorded(3, 2, 0)));
     let text = text_of(alloc, &[RESUMED_256, RESUMED_257, SECOND_OF_1])?;
     assert_eq!(rt; files.unfinished.as_slice(), text.as_slice());
+    Ok(())
+}
+
+// Which domain went on is kept, with how many templates, once.
+#[test]
+fn a_domain_goes_on_once(rt: HostRuntime) -> Result<(), Fail> {
+    let alloc: Global = rt.alloc();
+    let mut peer = PeerRecorder::new(alloc, left_by(alloc, FIRST_OF_1)?);
+    let mut files = MemoryFiles::new(alloc, 100_000);
+    let _ = take(alloc, &mut peer, FROM_BEFORE, &mut files);
+    let _ = take(alloc, &mut peer, SECOND_OF_1, &mut files);
+    let _ = take(alloc, &mut peer, SECOND_OF_1, &mut files);
+    let once = Resumption {
+        domain: 1,
+        templates: 2,
+    };
+    assert_eq!(rt; peer.resumed(), [once].as_slice());
     Ok(())
 }
 

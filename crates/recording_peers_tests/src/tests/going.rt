@@ -18,6 +18,27 @@ fn longest_silent_goes(rt: HostRuntime) -> Result<(), Fail> {
     Ok(())
 }
 
+/// A message without sets.
+const BARE: &[u8] = &[0, 10, 0, 16, 0, 0, 0, 0, 0, 0, 0, 0, 0, 0, 0, 1];
+
+// A datagram of a new peer that leaves no template in force begins no session; nor does any where another would have
+// to end for it, and the place is busy.
+#[test]
+fn who_has_no_place(rt: HostRuntime) -> Result<(), Fail> {
+    let alloc = rt.alloc();
+    let mut peers = two_peers(&rt)?;
+    let bare = record(alloc, &mut peers, 1, BARE, 1000);
+    assert_eq!(rt; bare, (Answer::NoPlace, None));
+    assert!(rt; peers.is_empty());
+    record_busy(alloc, &mut peers, 1, FIRST_OF_1);
+    record_busy(alloc, &mut peers, 2, FIRST_OF_2);
+    let third = record_busy(alloc, &mut peers, 3, FIRST_OF_1);
+    assert_eq!(rt; third, (Answer::NoPlace, None));
+    let kept = record_busy(alloc, &mut peers, 1, BARE);
+    assert_eq!(rt; kept, (Answer::Taken, None));
+    Ok(())
+}
+
 // A peer that is silent goes, and one whose file can't be written.
 #[test]
 fn silent_and_not_written_go(rt: HostRuntime) -> Result<(), Fail> {

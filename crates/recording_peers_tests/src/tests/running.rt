@@ -17,6 +17,7 @@ use std::test::*;
 #[derive(Drop)]
 pub struct MemoryPlace {
     pub room: usize,
+    pub is_busy: bool,
 }
 
 impl PeerPlace<MemoryFiles> for MemoryPlace {
@@ -30,6 +31,12 @@ impl PeerPlace<MemoryFiles> for MemoryPlace {
     fn earlier(&mut self, alloc: Global, _peer: SocketAddr) -> EarlierDomains {
         BTreeMap::new(alloc)
     }
+
+    fn is_busy(&self) -> bool {
+        self.is_busy
+    }
+
+    fn give_back(&mut self, _alloc: Global, _peer: SocketAddr, _earlier: EarlierDomains) {}
 }
 
 /// The peer of this number.
@@ -67,6 +74,7 @@ pub fn peers_that_wait(rt: &HostRuntime, seconds: u64) -> Result<Peers<MemoryFil
 pub enum Answer {
     Taken,
     Ended,
+    NoPlace,
     NoMemory,
 }
 
@@ -79,7 +87,34 @@ pub fn record(
     datagram: &[u8],
     room: usize,
 ) -> (Answer, Option<SocketAddr>) {
-    let mut place = MemoryPlace { room };
+    let place = MemoryPlace {
+        room,
+        is_busy: false,
+    };
+    record_in(alloc, peers, place, number, datagram)
+}
+
+/// The same in a place that is busy.
+pub fn record_busy(
+    alloc: Global,
+    peers: &mut Peers<MemoryFiles>,
+    number: u8,
+    datagram: &[u8],
+) -> (Answer, Option<SocketAddr>) {
+    let place = MemoryPlace {
+        room: 1000,
+        is_busy: true,
+    };
+    record_in(alloc, peers, place, number, datagram)
+}
+
+fn record_in(
+    alloc: Global,
+    peers: &mut Peers<MemoryFiles>,
+    mut place: MemoryPlace,
+    number: u8,
+    datagram: &[u8],
+) -> (Answer, Option<SocketAddr>) {
     let Outcome { became, gone } = peers.record(alloc, &mut place, peer(number), datagram, 10);
     (answer_of(became), peer_of(gone))
 }
@@ -88,6 +123,7 @@ fn answer_of(became: Became<MemoryFiles>) -> Answer {
     match became {
         Became::Taken => Answer::Taken,
         Became::Ended(_) => Answer::Ended,
+        Became::NoPlace => Answer::NoPlace,
         Became::NoMemory => Answer::NoMemory,
     }
 }
@@ -115,7 +151,10 @@ pub fn receive_all(
     source: &mut ScriptDatagrams,
     peers: &mut Peers<MemoryFiles>,
 ) -> usize {
-    let mut place = MemoryPlace { room: 1000 };
+    let mut place = MemoryPlace {
+        room: 1000,
+        is_busy: false,
+    };
     let mut buffer = [0; 200];
     let mut count: usize = 0;
     for now in 0..4 {

@@ -7,6 +7,7 @@ returns g c = record {
   lines = _;
   are = record {
     became = c.record-became.result.became;
+    counted = c.count_placeless.ensures;
     gone = c.record-became.result.gone;
     records = c.record-became.ensures.records;
     limits = c.record-became.ensures.limits;

@@ -8,5 +8,8 @@ use Rattle.recording_datagrams.proofs.taking.tell_became.Goals as goal
 pub returns-in-Taken : goal.returns-in-Taken
 returns-in-Taken g c = record { lines = []; are = rw c.in-Taken.is refl; told = tells_nothing }
 
+pub returns-in-NoPlace : goal.returns-in-NoPlace
+returns-in-NoPlace g c = record { lines = []; are = rw c.in-NoPlace.is refl; told = tells_nothing }
+
 pub returns-in-NoMemory : goal.returns-in-NoMemory
 returns-in-NoMemory g c = record { lines = fault_line c.args.peer (faults.Message OutOfMemory); are = rw c.in-NoMemory.is refl; told = c.tell_no_memory.ensures }

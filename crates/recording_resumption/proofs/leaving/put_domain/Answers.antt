@@ -8,8 +8,8 @@ use Rattle.recording_resumption.specs.declared.last_message.LastMessage.{LastMes
 use Rattle.recording_resumption.proofs.LeftDomains.{one_more_left}
 use Rattle.recording_resumption.proofs.leaving.put_domain.Goals as goal
 
-pub returns : goal.returns
-returns c = λ before.
+pub returns-clause-only : goal.returns-clause-only
+returns-clause-only c = λ before.
     let last : ℕ → Option LastMessage = index_get nat_eq c.args.last.now in
     let found : index_get nat_eq c.args.last.now c.args.domain ≡ Some c.in-Some.message.now = search rules in
     let e : EarlierDomain = record { state = c.new-state.result; templates = c.in_ok-templates.templates } in

@@ -15,4 +15,5 @@ returns-clause-told c = λ filed counts.
           record { session = told.session; no_domains = told.no_domains; fault = told.fault };
       last = c.file_report-last.ensures ∙ last_reported c.args.self.told filed counts;
       advances = ap told_of now.noted ∙ told_of-reaches (givens (taken_in filed));
+      resumed = now.resumed;
     }

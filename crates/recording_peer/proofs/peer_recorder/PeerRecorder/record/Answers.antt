@@ -1,6 +1,7 @@
-use Rattle.std.proofs.Common.{◌≡◌, ℕ, Bool, cond, eqb, ◌++◌, ◌∷◌, [], List, refl, sym, ap, ap₂, subst, ◌∙◌}
+use Rattle.std.proofs.Common.{◌≡◌, ℕ, Bool, cond, eqb, ◌++◌, ◌∷◌, [], List, Option, length, refl, sym, ap, ap₂, subst, ◌∙◌}
 use Rattle.std.specs.Ordering.{nat_cmp}
 use Rattle.std.specs.BTreeMap.{get}
+use Rattle.std.specs.Option.{option_to_list}
 use Rattle.std.proofs.lemmas.Result.{err_from_is_err_and}
 use Rattle.ipfix_wire.specs.declared.header.Header.{Header}
 use Rattle.ipfix_message.specs.Domains.{History}
@@ -14,7 +15,8 @@ use Rattle.recording_resumption.specs.Resumption.{left_after}
 use Rattle.recording_files.specs.declared.message_count.MessageCount.{MessageCount}
 use Rattle.recording_files.specs.Files.{with_more}
 use Rattle.recording_files.specs.Recorders.{AreCountsOf, Counted, Told}
-use Rattle.recording_peer.specs.Peers.{Resumed, resumed_after, givens, known_after_all, all_given}
+use Rattle.recording_peer.specs.Peers.{Resumed, resumed_after, resumption_in, givens, known_after_all, all_given}
+use Rattle.recording_peer.specs.declared.resumption.Resumption.{Resumption}
 use Rattle.recording_peer.specs.Recording.{PeerTold, filed_with, left_listed, resumed_for, taken_before, taken_in}
 use Rattle.recording_peer.proofs.Leaving.{keeps_left, left_as_kept, left_as_listed, resumed_with}
 use Rattle.recording_peer.specs.Fronts.{taken_as}
@@ -24,11 +26,11 @@ use Rattle.recording_peer.proofs.Taking.{inside_of, represents, peer_with}
 use Rattle.recording_peer.proofs.Stopping.{stops_out, stops_cut}
 use Rattle.recording_peer.proofs.peer_recorder.PeerRecorder.record.Goals as goal
 
-abbrev counts_as : Told → ℕ → List (ℕ × Reach) → PeerTold
-counts_as c n r = record { counts = c; ignored = n; advances = r }
+abbrev counts_as : Told → ℕ → List (ℕ × Reach) → List Resumption → PeerTold
+counts_as c n r went_on = record { counts = c; ignored = n; advances = r; resumed = went_on }
 
-told_with : {c d : Told} {r s : List (ℕ × Reach)} (n : ℕ) → c ≡ d → r ≡ s → counts_as c n r ≡ counts_as d n s
-told_with n e f = rw (e, f) refl
+told_with : {c d : Told} {r s : List (ℕ × Reach)} {f g : List Resumption} (n : ℕ) → c ≡ d → r ≡ s → f ≡ g → counts_as c n r f ≡ counts_as d n s g
+told_with n e f g = rw (e, f, g) refl
 
 pub returns-in_err-count-clause-stopped : goal.returns-in_err-count-clause-stopped
 returns-in_err-count-clause-stopped g c = λ first filed p.
@@ -39,7 +41,7 @@ returns-in_err-count-clause-stopped g c = λ first filed p.
     let read = subst (λ (ds : History). IsReadingOf (resumed_for filed m).templates ds m c.args.reading.now p.given) (files_here filed) p.read in
     let memory = c.in_err-count.ensures (all_given (taken_before filed)) (all_given filed.here) (resumed_for filed m) p.given now.keeps due read in
     let e = err_from_is_err_and c.from_residual-in_err-count.result c.from_residual-in_err-count.ensures.1 in
-    rw (e.1, e.2) (stops_out c.in_err-count.field-0.0 first (g.F.FileSeries.seen c.args.files.now) _ filed (counts_as c.clear_waiting.new.self.told c.self.inside.ignored c.self.inside.advances.reaches) m memory now (told_with c.self.inside.ignored c.clear_waiting.ensures.told refl))
+    rw (e.1, e.2) (stops_out c.in_err-count.field-0.0 first (g.F.FileSeries.seen c.args.files.now) _ filed (counts_as c.clear_waiting.new.self.told c.self.inside.ignored c.self.inside.advances.reaches c.self.inside.resumed.items) m memory now (told_with c.self.inside.ignored c.clear_waiting.ensures.told refl refl))
 
 pub returns-in_err-append-clause-stopped : goal.returns-in_err-append-clause-stopped
 returns-in_err-append-clause-stopped g c = λ first filed p.
@@ -52,10 +54,10 @@ returns-in_err-append-clause-stopped g c = λ first filed p.
     let octets = c.take_datagram.new.out.items in
     let cut = c.in_err-append.ensures in
     let front : IsPrefix cut.0 octets = subst (λ (w : List ℕ). IsPrefix cut.0 w) c.deref.ensures.value cut.1 in
-    let told = told_with c.self.inside.ignored (c.in_ok-wait_for.ensures.told ∙ c.clear_waiting.ensures.told) c.in_ok-make_room.ensures.same in
+    let told = told_with c.self.inside.ignored (c.in_ok-wait_for.ensures.told ∙ c.clear_waiting.ensures.told) c.in_ok-make_room.ensures.same c.in_ok-reserve.ensures.items in
     let e = err_from_is_err_and c.from_residual-in_err-append.result c.from_residual-in_err-append.ensures.1 in
     rw (e.1, e.2) (stops_cut first (g.F.FileSeries.seen c.args.files.now) (g.F.FileSeries.seen c.append.new.self) _ c.take_datagram.new.recorder filed m (resumed_for filed m) r p.given octets cut.0 c.in_ok-count.count
-    (counts_as c.wait_for.new.self.told c.self.inside.ignored c.make_room.new.self.reaches) now p.read.taken k front cut.2 told)
+    (counts_as c.wait_for.new.self.told c.self.inside.ignored c.make_room.new.self.reaches c.reserve.new.self.items) now p.read.taken k front cut.2 told)
 
 pub returns-clause-recorded : goal.returns-clause-recorded
 returns-clause-recorded g c = λ first filed p.
@@ -80,12 +82,17 @@ returns-clause-recorded g c = λ first filed p.
     (subst (λ (cs : List MessageCount). AreCountsOf cs (x ∷ [])) (sym waits) (k.counts, tt)) in
     let noted = c.note.ensures (givens (taken_in filed)) x (c.in_ok-make_room.ensures.same ∙ now.counted.noted) (ap (λ (h : Header). h.domain) k.counts.header) (ap (λ (h : Header). h.sequence) k.counts.header) k.counts.records in
     let u = taken_as m (resumed_for filed m) (preparation_of r) k.front x in
+    let one_resumed : c.resumption-resumption.result ≡ resumption_in x.header.domain (length (resumed_for filed m).templates) =
+    c.resumption-resumption.ensures first v filed p.is
+    ∙ ap (λ (s : Resumed). resumption_in h.domain (length s.templates)) (sym (resumed_with filed m h c.requires.header))
+    ∙ ap (λ (k : Header). resumption_in k.domain (length (resumed_for filed m).templates)) (sym header) in
+    let went_on = c.note_resumed.ensures ∙ ap₂ (λ (rs : List Resumption) (o : Option Resumption). rs ++ option_to_list o) c.in_ok-reserve.ensures.items one_resumed in
     record {
       next = u;
       datagram = refl;
       counts = k.counts;
-      is = peer_with first v (g.F.FileSeries.seen c.append.new.self) _ (record { recorder = c.take_datagram.new.recorder; earlier = left_listed c.go_on.new.earlier.entries; withdrawn = kept c.keep_withdrawn.new.withdrawn.entries; told = counts_as c.count_waiting.new.self.told c.saturating_add-self-inside.result c.note.new.self.reaches; ended = c.self.inside.ended }) filed m (resumed_for filed m) r x c.take_datagram.new.out.items c.in_ok-count.count
-          now p.read.taken k (c.in_ok-append.ensures ∙ ap (with_more v) c.deref.ensures.value) counted c.saturating_add-self-inside.ensures p.read.withdrawals noted now.goes_on withdrawn (resumed_with filed m h c.requires.header ∙ ap (resumed_after filed.earlier (taken_in filed)) (sym header))
+      is = peer_with first v (g.F.FileSeries.seen c.append.new.self) _ (record { recorder = c.take_datagram.new.recorder; earlier = left_listed c.go_on.new.earlier.entries; withdrawn = kept c.keep_withdrawn.new.withdrawn.entries; told = counts_as c.count_waiting.new.self.told c.saturating_add-self-inside.result c.note.new.self.reaches c.note_resumed.new.resumed.items; ended = c.self.inside.ended }) filed m (resumed_for filed m) r x c.take_datagram.new.out.items c.in_ok-count.count
+          now p.read.taken k (c.in_ok-append.ensures ∙ ap (with_more v) c.deref.ensures.value) counted c.saturating_add-self-inside.ensures p.read.withdrawals noted went_on now.goes_on withdrawn (resumed_with filed m h c.requires.header ∙ ap (resumed_after filed.earlier (taken_in filed)) (sym header))
           (left_as_listed c.go_on.new.earlier filed.earlier (taken_in (filed_with filed u)) (keeps_left c.self.inside.earlier c.go_on.new.earlier filed u (left_as_kept c.self.inside.earlier filed.earlier (taken_in filed) now.left)
           (λ q. c.in_ok-go_on.ensures q ∙ ap₂ (λ (k : Header) (b : Bool). cond (eqb q k.domain) (left_after (get nat_cmp c.self.inside.earlier q) k b) (get nat_cmp c.self.inside.earlier q)) (sym header) defines)));
     }

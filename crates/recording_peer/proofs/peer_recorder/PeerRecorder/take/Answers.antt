@@ -21,7 +21,7 @@ returns-in-Ok-Ignored-clause-answers g c = λ first filed p.
     let v = g.F.FileSeries.seen c.args.files.now in
     let known = known_after_all (taken_in filed) in
     let now = inside_of c.self.view_is p in
-    let inside : PeerView = record { recorder = c.self.inside.recorder; earlier = left_listed c.self.inside.earlier.entries; withdrawn = kept c.self.inside.withdrawn.entries; told = record { counts = c.self.inside.counts.told; ignored = c.self.inside.ignored; advances = c.self.inside.advances.reaches }; ended = c.self.inside.ended } in
+    let inside : PeerView = record { recorder = c.self.inside.recorder; earlier = left_listed c.self.inside.earlier.entries; withdrawn = kept c.self.inside.withdrawn.entries; told = record { counts = c.self.inside.counts.told; ignored = c.self.inside.ignored; advances = c.self.inside.advances.reaches; resumed = c.self.inside.resumed.items }; ended = c.self.inside.ended } in
     let read = c.in-Ok-Ignored.ensures.reads first v filed p in
     let alone = subst (λ (r : Reading). AnswersOf (resumed_for filed m).templates known m r) c.in-Ok-Ignored.field-0-is read in
     record {

@@ -11,6 +11,8 @@ returns-in-Ok-clause-begun g c =
         record {
           session = c.new-session.ensures.session;
           made = subst (λ f. g.P.PeerPlace.made_for f c.args.peer) (sym c.new-session.ensures.files) c.in_ok-files.ensures.made;
+          earlier = c.new-session.ensures.earlier;
+          none_told = c.new-session.ensures.none_told;
         },
         ap (λ l. l.entries) c.in-Ok.ensures.entries ∙ put_new kept.cap c.args.peer kept.entries c.new-session.result c.requires,
       ),

@@ -1,15 +1,23 @@
-use Rattle.std.proofs.Common.{refl}
+use Rattle.std.proofs.Common.{refl, inl, inr}
 use Rattle.recording_peers.specs.Steps.{Reception}
 use Rattle.recording_peers.proofs.Tables.{begun}
 use Rattle.recording_peers.proofs.Recording.{recorded_new}
 use Rattle.recording_peers.proofs.peers.Peers.record_first.Goals as goal
+
+pub returns-then-lacks_room-clause-records : goal.returns-then-lacks_room-clause-records
+returns-then-lacks_room-clause-records g c =
+    record { nothing = record { begins = c.requires; same = refl; none_went = refl }; why = inr (c.lacks_room.ensures c.if-lacks_room.true) }
+
+pub returns-then-not-begins_peer-clause-records : goal.returns-then-not-begins_peer-clause-records
+returns-then-not-begins_peer-clause-records g c =
+    record { nothing = record { begins = c.requires; same = refl; none_went = refl }; why = inl (c.earlier-earlier.result, c.if-not-begins_peer.ensures) }
 
 pub returns-in-Some-clause-records : goal.returns-in-Some-clause-records
 returns-in-Some-clause-records g c =
     let new = c.in-Ok.ensures.begun in
     let r : Reception g.row.F.Denot = record { peer = c.args.peer; octets = c.args.datagram.now; second = c.args.second; became = c.in-Some.became; gone = c.in-Ok.gone } in
     recorded_new g.F.FileSeries.seen g.P.PeerPlace.made_for c.args.self.now.reorder c.args.self.now.kept.cap c.begin.new.self.kept.cap r
-    c.args.self.now.kept.entries c.begin.new.self.kept.entries c.take.new.self.kept.entries new.1.0 c.requires new.1.1 new.1.2 c.in-Ok.ensures.limits.room c.in-Some.ensures.taken new.0
+    c.args.self.now.kept.entries c.begin.new.self.kept.entries c.take.new.self.kept.entries new.1.0 c.requires (record { left = _; begins = new.1.1; by = c.if-not-begins_peer.ensures }) new.1.2 c.in-Ok.ensures.limits.room c.in-Some.ensures.taken new.0
 
 pub returns-in-None-clause-records : goal.returns-in-None-clause-records
 returns-in-None-clause-records g c =
