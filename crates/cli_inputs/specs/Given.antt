@@ -54,6 +54,7 @@ module _ (chosen : Chosen) where
     pub table : IsTable told.table
     pub workers : IsNumberGiven chosen (codes "workers") (Some told.pool.workers)
     pub ring : IsNumberGiven chosen (codes "ring") (Some told.pool.capacity)
+    pub receipt : option_map (λ path. path.now) told.receipt ≡ text_given chosen (codes "receipt")
     pub progress : told.progress ≡ progress_shown (count_given chosen (codes "progress"))
 
   pub record IsFiles (told : FilesArguments) : Type 0 where

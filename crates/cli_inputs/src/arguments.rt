@@ -7,7 +7,7 @@ ghost use Rattle.cli_words.specs.Arguments.{OneNumber, reading_of};
 use crate::formats::{dump_form, table_format};
 use cli_words::{
     Argument, BUFFER, Chosen, DIRECT, DUMP_FORMAT, ELEMENTS, EVERY, EXPORTER, FAULT, FILES_FROM,
-    FLOW_FILES, FOLDER, FROM, IDLE, INTO, LISTEN, PEERS, PLAN, PROGRESS, RECORD_IDLE,
+    FLOW_FILES, FOLDER, FROM, IDLE, INTO, LISTEN, PEERS, PLAN, PROGRESS, RECEIPT, RECORD_IDLE,
     RECORD_LISTEN, RECORD_SESSIONS, RECORD_VERBOSE, REORDER, RING, SESSIONS, STRICT, Subcommand,
     TABLE_FILES, TABLE_FORMAT, TIME, UDP, VERBOSE, WORD, WORKERS,
 };
@@ -56,6 +56,8 @@ pub struct TableArguments<'m, 'w> {
 pub struct CollectArguments<'m, 'w> {
     pub table: TableArguments<'m, 'w>,
     pub pool: Pool,
+    /// The path of the receipt, if there is to be one.
+    pub receipt: Option<&'w str>,
     pub progress: ShowProgress,
 }
 
@@ -214,6 +216,7 @@ fn read_collect<'m, 'w>(chosen: Chosen<'m, 'w>) -> Option<CollectArguments<'m, '
             workers: workers as usize,
             capacity: capacity as usize,
         },
+        receipt: chosen.text(RECEIPT),
         progress: match chosen.count(PROGRESS) {
             0 => ShowProgress::Nowhere,
             1 => ShowProgress::OnTerminal,

@@ -2,9 +2,10 @@
 
 use crate::arguments::{CollectArguments, ShowProgress, TableArguments};
 use crate::progress_output::{ProgressOutput, open_terminal};
+use crate::receipts::{PlanAndReceipt, ReceiptTo, load_with_receipt};
 use crate::timers::ask_for_short_sleeps;
 use flow_export::ExportFault;
-use input_files::load_elements;
+use input_files::{ReadText, load_elements};
 use input_sources::{LoadedPlan, WithReason, load_plan};
 use output_tables::write_export_fault;
 use report_writing::{CheckedWriter, Status};
@@ -35,12 +36,21 @@ pub fn table_output(
 /// The plan of a table, and the files of elements by which it is read. If a file has a fault, or there is no plan,
 /// standard error has a line.
 pub fn load_table_plan(rt: &HostRuntime, arguments: &TableArguments) -> Option<LoadedPlan> {
+    load_from(rt, rt, arguments)
+}
+
+/// The same from texts that are had so.
+pub fn load_from<T: ReadText>(
+    rt: &HostRuntime,
+    texts: &T,
+    arguments: &TableArguments,
+) -> Option<LoadedPlan> {
     let verbosity = arguments.verbosity;
     let mut err = CheckedWriter::new(rt.stderr());
     let files = arguments.element_files;
-    let elements = load_elements(rt, rt.alloc(), files, verbosity, &mut err)?;
+    let elements = load_elements(texts, rt.alloc(), files, verbosity, &mut err)?;
     load_plan(
-        rt,
+        texts,
         rt.alloc(),
         elements,
         arguments.plan,
@@ -51,21 +61,23 @@ pub fn load_table_plan(rt: &HostRuntime, arguments: &TableArguments) -> Option<L
 
 /// What `files` and `tcp` both collect by, and where their table and their progress go.
 #[derive(Drop)]
-pub struct Collecting {
+pub struct Collecting<'r> {
     /// The plan, with the elements by which it names its keys and counters, and texts name them again.
     pub loaded: LoadedPlan,
     pub out: BufWriter<WithReason<Stdout>>,
+    /// Where the receipt is put, and what it says beside the run, if there is to be one.
+    pub receipt: Option<ReceiptTo<'r>>,
     /// The terminal, if progress is shown there and there is one.
     pub terminal: Option<File>,
 }
 
 /// All of that. Threads that are started from now on sleep as exactly as the system can.
-pub fn prepare_collecting(
-    rt: &HostRuntime,
+pub fn prepare_collecting<'r>(
+    rt: &'r HostRuntime,
     arguments: &CollectArguments,
     err: &mut Stderr,
-) -> Result<Collecting, Status> {
-    let loaded = load_table_plan(rt, &arguments.table).ok_or(Status::NotOpened)?;
+) -> Result<Collecting<'r>, Status> {
+    let PlanAndReceipt { loaded, receipt } = load_with_receipt(rt, arguments, err)?;
     let out = table_output(rt, err)?;
     ask_for_short_sleeps(rt);
     let terminal = match arguments.progress {
@@ -75,6 +87,7 @@ pub fn prepare_collecting(
     Ok(Collecting {
         loaded,
         out,
+        receipt,
         terminal,
     })
 }

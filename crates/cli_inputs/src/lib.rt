@@ -8,6 +8,7 @@ mod inputs;
 mod listed_files;
 mod listening;
 mod progress_output;
+mod receipts;
 mod refused;
 mod timers;
 
@@ -23,4 +24,5 @@ pub use inputs::{
 pub use listed_files::{all_paths, check_paths, read_list};
 pub use listening::listen_on;
 pub use progress_output::ProgressOutput;
+pub use receipts::ReceiptTo;
 pub use refused::{WITH_REASONS, write_refused_output};

@@ -7,8 +7,8 @@ use crate::listen_options::{
     RECORD_VERBOSE, REORDER, SESSIONS, UDP,
 };
 use crate::options::{
-    DIRECT, DUMP_FORMAT, ELEMENTS, EXPORTER, FILES_FROM, MERGE_STRICT, PLAN, PROGRESS, RING,
-    STRICT, TABLE_FORMAT, TIME, VERBOSE, WORKERS,
+    DIRECT, DUMP_FORMAT, ELEMENTS, EXPORTER, FILES_FROM, MERGE_STRICT, PLAN, PROGRESS, RECEIPT,
+    RING, STRICT, TABLE_FORMAT, TIME, VERBOSE, WORKERS,
 };
 
 /// A command.
@@ -25,13 +25,14 @@ pub struct CommandWords {
 }
 
 /// The options of the commands that collect.
-const COLLECTING: [Argument; 9] = [
+const COLLECTING: [Argument; 10] = [
     PLAN,
     ELEMENTS,
     WORKERS,
     RING,
     TABLE_FORMAT,
     TIME,
+    RECEIPT,
     PROGRESS,
     VERBOSE,
     STRICT,

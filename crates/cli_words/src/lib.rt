@@ -21,9 +21,9 @@ pub use listen_options::{
     RECORD_VERBOSE, REORDER, SESSIONS, UDP,
 };
 pub use options::{
-    DIRECT, DUMP_FORMAT, ELEMENTS, EXPORTER, FILES_FROM, PLAN, PROGRESS, RING, STRICT,
+    DIRECT, DUMP_FORMAT, ELEMENTS, EXPORTER, FILES_FROM, PLAN, PROGRESS, RECEIPT, RING, STRICT,
     TABLE_FORMAT, TIME, VERBOSE, WORKERS,
 };
 pub use showing::show;
 pub use subcommands::Subcommand;
-pub use words::matches_of;
+pub use words::{VERSION, matches_of};

@@ -78,6 +78,13 @@ pub const TIME: Argument = Argument {
     help: "The export time in the messages of --format ipfix, in seconds since 1970-01-01 UTC",
 };
 
+pub const RECEIPT: Argument = Argument {
+    word: "receipt",
+    takes: Takes::Text("FILE"),
+    due: Due::Never,
+    help: "Write to FILE, when the table is written, what it was made of; a receipt that FILE has is replaced",
+};
+
 pub const PROGRESS: Argument = Argument {
     word: "progress",
     takes: Takes::Nothings,

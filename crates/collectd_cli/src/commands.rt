@@ -5,15 +5,16 @@ ghost use Rattle.flow_table.specs.Plans.{context_of};
 
 use cli_inputs::{
     CollectArguments, Collecting, DumpArguments, FilesArguments, MergeArguments, ProgressOutput,
-    TableArguments, TcpArguments, all_paths, buffered_output, check_exporters, check_paths,
-    listen_on, load_table_plan, place_exporters, prepare_collecting, progress_writer, read_list,
-    table_output, write_refused_output,
+    ReceiptTo, TableArguments, TcpArguments, all_paths, buffered_output, check_exporters,
+    check_paths, listen_on, load_table_plan, place_exporters, prepare_collecting, progress_writer,
+    read_list, table_output, write_refused_output,
 };
 use command_collect::{
     CollectJob, Connections, Engine, run_files_with, run_tcp_with, write_collect_fault, write_limit,
 };
 use command_dump::{DumpJob, run_dump_with, write_dump_fault};
 use command_merge::{MergeJob, run_merge_with};
+use command_receipt::{Ended, Receipted, SystemPlace, run_files_receipted, run_tcp_receipted};
 use flow_collect::{CollectFault, Pool};
 use input_sources::{FilesInTurn, LoadedPlan, OpenSource, SystemFiles, SystemListener, WithReason};
 use ipfix_dump::DumpFault;
@@ -81,18 +82,20 @@ pub fn files<R: Clock + Threads + Wait + Sync>(
     };
     let Collecting {
         loaded,
-        mut out,
+        out,
+        receipt,
         terminal,
     } = prepare_collecting(rt, &collect, &mut err)?;
     let engine = engine_of(direct, collect.pool);
     let job = collect_job(&loaded, &collect, engine, &exporters);
     let progress = progress_writer(collect.progress, &terminal, rt);
-    let status = if direct {
+    let to = TableTo { out, receipt };
+    let TableWritten { status, out } = if direct {
         let mut files = FilesInTurn::new(rt, rt.alloc());
-        collect_files(threads, rt, &mut files, &paths, &job, progress, &mut out)
+        collect_files(threads, rt, &mut files, &paths, &job, progress, to)
     } else {
         let mut files = SystemFiles::new(rt);
-        collect_files(threads, rt, &mut files, &paths, &job, progress, &mut out)
+        collect_files(threads, rt, &mut files, &paths, &job, progress, to)
     };
     write_refused_output(verbosity, &out, &mut err);
     write_refused_engine(status, verbosity, engine, paths.len(), &mut err);
@@ -113,19 +116,51 @@ fn collect_files<S: Source + Send + Drop, O: OpenSource<S>, R: Clock + Threads +
     paths: &[&str],
     job: &CollectJob,
     progress: Option<ProgressOutput>,
-    out: &mut BufWriter<WithReason<Stdout>>,
-) -> Status {
+    to: TableTo,
+) -> TableWritten {
     let mut err = CheckedWriter::new(rt.stderr());
-    run_files_with(
-        threads,
-        rt.alloc(),
-        files,
-        paths,
-        job,
-        progress,
-        out,
-        &mut err,
-    )
+    let alloc = rt.alloc();
+    let TableTo { mut out, receipt } = to;
+    let Some(ReceiptTo { place, made }) = receipt else {
+        let status = run_files_with(
+            threads, alloc, files, paths, job, progress, &mut out, &mut err,
+        );
+        return TableWritten { status, out };
+    };
+    let to = Receipted { out, made, place };
+    settled(run_files_receipted(threads, alloc, files, paths, job, progress, to, &mut err))
+}
+
+// Where a table is written, and its receipt, if there is to be one.
+#[derive(Drop)]
+struct TableTo<'r> {
+    out: BufWriter<WithReason<Stdout>>,
+    receipt: Option<ReceiptTo<'r>>,
+}
+
+// How a run ended, and where it wrote its table.
+#[derive(Drop)]
+struct TableWritten {
+    status: Status,
+    out: BufWriter<WithReason<Stdout>>,
+}
+
+// Leaves nothing of a receipt that there was to be.
+fn discard(receipt: Option<ReceiptTo>) {
+    match receipt {
+        Some(ReceiptTo { place, made: _made }) => place.discard(),
+        None => {}
+    }
+}
+
+// Leaves nothing of a receipt that wasn't put.
+fn settled(ended: Ended<BufWriter<WithReason<Stdout>>, SystemPlace>) -> TableWritten {
+    let Ended { status, out, place } = ended;
+    match status {
+        Status::Well | Status::SessionFault => {}
+        Status::NotOpened | Status::Failed => place.discard(),
+    }
+    TableWritten { status, out }
 }
 
 // What collects from files.
@@ -154,11 +189,18 @@ pub fn tcp<R: Clock + Threads + Wait + Sync>(
     } = *arguments;
     let Collecting {
         loaded,
-        mut out,
+        out,
+        receipt,
         terminal,
     } = prepare_collecting(rt, &collect, &mut err)?;
     let verbosity = collect.table.verbosity;
-    let listener = listen_on(rt, addr, verbosity, &mut err)?;
+    let listener = match listen_on(rt, addr, verbosity, &mut err) {
+        Ok(listener) => listener,
+        Err(status) => {
+            discard(receipt);
+            return Err(status);
+        }
+    };
     let mut listening = SystemListener::new(listener);
     let engine = Engine::Links(collect.pool);
     let connections = Connections {
@@ -166,19 +208,60 @@ pub fn tcp<R: Clock + Threads + Wait + Sync>(
         count: sessions,
         idle,
     };
-    let status = run_tcp_with(
+    let job = collect_job(&loaded, &collect, engine, &[]);
+    let progress = progress_writer(collect.progress, &terminal, rt);
+    let to = TableTo { out, receipt };
+    let TableWritten { status, out } = collect_connections(
         threads,
-        rt.alloc(),
+        rt,
         &mut listening,
         &connections,
-        &collect_job(&loaded, &collect, engine, &[]),
-        progress_writer(collect.progress, &terminal, rt),
-        &mut out,
-        &mut CheckedWriter::new(rt.stderr()),
+        &job,
+        progress,
+        to,
     );
     write_refused_output(verbosity, &out, &mut err);
     write_refused_engine(status, verbosity, engine, sessions, &mut err);
     Ok(status)
+}
+
+// Collects from these connections, with standard error for what is told.
+fn collect_connections<R: Clock + Threads + Wait + Sync>(
+    threads: &R,
+    rt: &HostRuntime,
+    listener: &mut SystemListener,
+    connections: &Connections,
+    job: &CollectJob,
+    progress: Option<ProgressOutput>,
+    to: TableTo,
+) -> TableWritten {
+    let mut err = CheckedWriter::new(rt.stderr());
+    let alloc = rt.alloc();
+    let TableTo { mut out, receipt } = to;
+    let Some(ReceiptTo { place, made }) = receipt else {
+        let status = run_tcp_with(
+            threads,
+            alloc,
+            listener,
+            connections,
+            job,
+            progress,
+            &mut out,
+            &mut err,
+        );
+        return TableWritten { status, out };
+    };
+    let to = Receipted { out, made, place };
+    settled(run_tcp_receipted(
+        threads,
+        alloc,
+        listener,
+        connections,
+        job,
+        progress,
+        to,
+        &mut err,
+    ))
 }
 
 /// `collectd merge`: the table of the exports in files to standard output.

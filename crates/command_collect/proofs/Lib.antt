@@ -1,5 +1,5 @@
-mod WentWell
-mod Ran
-mod Refused
-mod LinesTold
-mod Collected
+pub mod WentWell
+pub mod Ran
+pub mod Refused
+pub mod LinesTold
+pub mod Collected

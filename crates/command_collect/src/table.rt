@@ -94,8 +94,8 @@ pub fn run_with<S: Source + Send + Drop, W: Write, E: WriteLines, R: Threads + W
     status_of(job.verbosity.strict, &collected)
 }
 
-// Collects by the job's engine, with what sessions know by their origins.
-fn collect_job<S: Source + Send + Drop, R: Threads + Wait + Sync>(
+/// Collects by the job's engine, with what sessions know by their origins.
+pub fn collect_job<S: Source + Send + Drop, R: Threads + Wait + Sync>(
     rt: &R,
     alloc: Global,
     sources: Vec<S>,

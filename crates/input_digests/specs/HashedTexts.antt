@@ -2,6 +2,10 @@
 use Rattle.std.specs.Prelude.{◌≡◌, ◌<◌, ◌^◌, ℕ, All, List, Option, Some, length, take}
 use Rattle.std.specs.Io.KnownBytes.{Consumes}
 use Rattle.ipfix_session.specs.declared.report.FullReport.{FullReport}
+use Rattle.ipfix_message.specs.declared.record.DataRecord.{DataRecord}
+use Rattle.ipfix_session.specs.Drives.{IsGiven}
+use Rattle.ipfix_session.specs.Places.{ReportsInFull}
+use Rattle.ipfix_session.specs.Sources.{SourceView}
 use Rattle.sha2.specs.Sha256.{sha256}
 use Rattle.input_digests.specs.declared.front_digest.FrontDigest.{FrontDigest}
 use Rattle.input_digests.specs.FrontDigests.{HasRead}
@@ -21,3 +25,14 @@ IsOfCounted start report digest = (text : List ℕ) → start ≡ Some text → 
 -- such a digest is that of all that the source held
 abbrev pub AllCount : Option (List ℕ) → FullReport → Type 0
 AllCount start report = (text digest : List ℕ) → start ≡ Some text → length text < 2 ^ 64 → IsOfCounted start report digest → digest ≡ sha256 text
+
+-- a session of a source gave records, and its full report tells of all its messages that count
+pub record TellsSession {S : Type 0} (seen : S → SourceView) (limit : ℕ) (before after : S) (full : FullReport) : Type 0 where
+  pub records : List DataRecord
+  pub given : IsGiven seen limit before after full.report records
+  pub told : ReportsInFull full given.counted (length records)
+
+-- a digest is that of the messages that count of any session that brought a source, which held the one at the start, to where it is now
+abbrev pub IsOfSession : {S : Type 0} → (S → SourceView) → Option (List ℕ) → S → FullReport → List ℕ → Type 0
+IsOfSession {S} seen start now full digest =
+    (limit : ℕ) (before : S) → (seen before).text ≡ start → TellsSession seen limit before now full → IsOfCounted start full digest

@@ -1,6 +1,6 @@
 //! Driving a session while its messages are hashed.
 
-ghost use Rattle.std.specs.Prelude.{◌≡◌, [], IfOk, OnErr};
+ghost use Rattle.std.specs.Prelude.{◌≡◌, ℕ, [], IfOk, OnErr};
 ghost use Rattle.ipfix_session.specs.Drives.{DrivesInFull};
 ghost use Rattle.input_digests.specs.FrontDigests.{HasRead};
 ghost use Rattle.input_digests.specs.HashedTexts.{IsOfCounted};
@@ -49,23 +49,20 @@ fn drive_from<S: Source + Drop, K: Sink, T: Start>(
     limit: u64,
 ) -> HashedSession<S>
     requires empty { HasRead digest [] }
-    requires start { (S.seen source).text ≡ T.text }
+    requires start { (place : ℕ) → (S.seen source).text ≡ T.texts place }
     ensures drives { DrivesInFull S.seen K.seen limit source result.source sink.old sink.new
         result.report }
-    ensures digest { IsOfCounted T.text result.report result.sha256 }
+    ensures digest { IsOfCounted (S.seen source).text result.report result.sha256 }
 {
     let mut hashed: HashedSource<S, T> = HashedSource {
         source,
+        place: 0,
         digest,
         start: PhantomData,
     };
     let report = drive_in_full(alloc, &mut hashed, sink, limit);
     whole_octets_are_messages();
-    let HashedSource {
-        source,
-        digest,
-        start: _,
-    } = hashed;
+    let HashedSource { source, digest, .. } = hashed;
     let sha256 = digest.finish(report.stopped_at.octet).unwrap_or([0; 32]);
     HashedSession {
         source,

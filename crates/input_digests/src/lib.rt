@@ -9,4 +9,4 @@ pub mod laws;
 
 pub use driving::{HashedSession, drive_hashed};
 pub use front_digest::{FrontDigest, MOST_OPEN};
-pub use hashed_source::{HashedSource, Start};
+pub use hashed_source::{FinishedSource, HashedSource, Start};

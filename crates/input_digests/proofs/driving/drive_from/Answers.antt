@@ -1,4 +1,4 @@
-use Rattle.std.proofs.Common.{◌∙◌, subst, List, ℕ}
+use Rattle.std.proofs.Common.{◌∙◌, sym, subst, List, ℕ}
 use Rattle.std.specs.Prelude.{Option}
 use Rattle.std.proofs.Math.Logic.{∥∥₁_elim}
 use Rattle.std.proofs.Props.{props}
@@ -17,6 +17,6 @@ returns-clause-digest g c text start small =
     let after = c.drive_in_full-report.new.source in
     let driven = driven_part (λ (h : HashedSource g.row.S.Denot g.row.T.Denot g.S.Source g.T.Start). h.source) g.S.Source.seen g.K.Sink.seen c.args.limit _ _ _ _ _ _ c.drive_in_full-report.ensures in
     c.unwrap_or-sha256.ensures ∙ ∥∥₁_elim after.hashed (Prim.hlevel props) (λ h.
-    digested g.S.Source.seen g.K.Sink.seen c.args.limit _ _ _ _ c.drive_in_full-report.result after.digest text _ c.finish.result c.whole_octets_are_messages.ensures small (c.requires.start ∙ start) driven
-    (subst (λ (o : Option (List ℕ)). HasHashed after.digest o (g.S.Source.seen after.source).text) start h)
+    digested g.S.Source.seen g.K.Sink.seen c.args.limit _ _ _ _ c.drive_in_full-report.result after.digest text _ c.finish.result c.whole_octets_are_messages.ensures small start driven
+    (subst (λ (o : Option (List ℕ)). HasHashed after.digest o (g.S.Source.seen after.source).text) (sym (c.requires.start after.place) ∙ start) h)
     (record { is = c.finish.ensures.found; none = c.finish.ensures.none }))

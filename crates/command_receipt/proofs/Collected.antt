@@ -1,0 +1,59 @@
+-- How a command ended that collects with a receipt, by how its sources were had and run.
+use Rattle.std.proofs.Common.{◌≡◌, ℕ, List, ◌++◌, All, Option, inl, inr, length, subst}
+use Rattle.std.proofs.lemmas.Option.{IfSome_then}
+use Rattle.std.specs.declared.io.ErrorKind.{ErrorKind}
+use Rattle.ipfix_session.specs.Sources.{SourceView}
+use Rattle.report_writing.specs.Statuses.{number_of}
+use Rattle.report_writing.specs.declared.origin.Origin.{Origin}
+use Rattle.report_writing.proofs.Ended.{never_two, one_of_four}
+use Rattle.input_sources.specs.Had.{IsUnread}
+use Rattle.input_sources.specs.InputsTold.{opened_lines}
+use Rattle.command_collect.specs.Engines.{due_fault}
+use Rattle.command_collect.specs.Exporters.{in_context}
+use Rattle.command_collect.specs.declared.job.CollectJob.{CollectJob}
+use Rattle.command_collect.proofs.Ran.{ends_so}
+use Rattle.command_receipt.specs.Runs.{CollectsReceipted, RunsReceipted, TellsNoReceipt}
+use Rattle.command_receipt.specs.declared.run.Ended.{Ended}
+use Rattle.command_receipt.specs.declared.run.Receipted.{Receipted}
+
+module _ {S W P : Type 0} (contents : W → Option (List ℕ)) (holds : P → List ℕ → Type 0) (to : Receipted W P) (ended : Ended W P) (seen : S → SourceView) (failure : S → Option ErrorKind) (job : CollectJob) where
+  fault_told : (Told AreTold : List ℕ → Type 0) (sources : List S) (origins : List Origin) → ((lines : List ℕ) → Told lines → AreTold lines)
+      → TellsNoReceipt seen sources job origins (ended.out ≡ to.out) Told → TellsNoReceipt seen sources job origins (ended.out ≡ to.out) AreTold
+  fault_told Told AreTold sources origins otherwise (inl f) = inl (f.0, f.1, f.2, otherwise _ f.3)
+  fault_told Told AreTold sources origins otherwise (inr f) = inr (f.0, f.1, otherwise _ f.2)
+
+  -- a run that told its lines, said otherwise
+  retold : (Told AreTold : List ℕ → Type 0) (sources : List S) (origins : List Origin) → ((lines : List ℕ) → Told lines → AreTold lines)
+      → RunsReceipted contents holds to ended seen failure job Told sources origins → RunsReceipted contents holds to ended seen failure job AreTold sources origins
+  retold Told AreTold sources origins otherwise r =
+      record {
+        statuses = r.statuses;
+        table = λ ran.
+            ends_so seen job.verbosity.strict job.plan.now job.engine (number_of ended.status) _ _ (in_context job sources origins)
+            (λ c ends. ((ends.0.0, record { ended = ends.0.1.ended; are_ended = ends.0.1.are_ended; told = otherwise _ ends.0.1.told }), ends.1)) (r.table ran);
+        failed = λ three. fault_told Told AreTold sources origins otherwise (r.failed three);
+        refused = IfSome_then (due_fault job.engine (length sources)) r.refused (λ fault refused. (refused.0, refused.1, otherwise _ refused.2));
+      }
+
+  module _ (AreHad : List S → Type 0) (AreOrigins : List S → List Origin → Type 0) (first : List ℕ) (TellsNotHad : Type 0) (AreTold : List ℕ → Type 0) where
+    -- sources were had, and run; what the run told follows what was told of them
+    pub collected : (Told : List ℕ → Type 0) (sources had : List S) (origins shown : List Origin) → sources ≡ had → AreHad had → All (IsUnread seen) had → AreOrigins had origins → shown ≡ origins
+        → ((lines : List ℕ) → Told lines → AreTold (first ++ (opened_lines job.verbosity origins ++ lines))) → RunsReceipted contents holds to ended seen failure job Told sources shown
+        → CollectsReceipted contents holds to ended seen failure job AreHad AreOrigins first TellsNotHad AreTold
+    collected Told sources had origins shown same are_had unread are_origins same_origins behind r =
+        record {
+          statuses = one_of_four (number_of ended.status) r.statuses;
+          ran = λ ran. record {
+            sources = sources;
+            had = rw same are_had;
+            unread = rw same unread;
+            runs = record {
+              origins = origins;
+              are_origins = rw same are_origins;
+              told = retold Told (λ lines. AreTold (first ++ (opened_lines job.verbosity origins ++ lines))) sources origins behind
+                  (subst (λ (os : List Origin). RunsReceipted contents holds to ended seen failure job Told sources os) same_origins r);
+            };
+          };
+          not_had = never_two (number_of ended.status) r.statuses;
+          stopped = never_two (number_of ended.status) r.statuses;
+        }

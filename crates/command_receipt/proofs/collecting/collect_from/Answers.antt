@@ -1,0 +1,35 @@
+use Rattle.std.proofs.Common.{rules, ◌≡◌, ◌∙◌, sym, ap, map, length, List}
+use Rattle.std.specs.Prelude.{vec_len}
+use Rattle.std.proofs.lemmas.List.{length-map}
+use Rattle.flow_collect.specs.InFull.{IsGivenInContext}
+use Rattle.input_digests.specs.declared.hashed_source.HashedSource.{HashedSource}
+use Rattle.command_collect.specs.Engines.{CollectsBy, due_fault}
+use Rattle.command_collect.specs.Exporters.{in_context}
+use Rattle.command_receipt.proofs.Parts.{collects_parts, too_large_parts}
+use Rattle.command_receipt.proofs.Placed.{as_many_each, digests_are}
+use Rattle.command_receipt.proofs.Refusals.{fault_of_part}
+use Rattle.command_receipt.proofs.collecting.collect_from.Goals as goal
+
+pub returns-in-Err-clause-faults : goal.returns-in-Err-clause-faults
+returns-in-Err-clause-faults g c =
+    let part = λ (h : HashedSource g.row.S.Denot g.row.T.Denot g.S.Source g.T.Start). h.source in
+    let job = c.args.job.now in
+    let many : vec_len c.in-Ok.hashed ≡ vec_len c.args.sources = c.in-Ok.hashed.ok.0 ∙ sym (length-map c.in-Ok.hashed.items part) ∙ ap length c.in-Ok.ensures ∙ sym c.args.sources.ok.0 in
+    fault_of_part _ _ _ _ c.in-Err.fault (ap (due_fault job.engine) many) (too_large_parts part g.S.Source.seen job job.plan.now c.in-Ok.hashed.items c.args.sources.items c.args.origins.now c.in-Ok.ensures) c.in-Err.ensures.faults
+
+pub finish_run-requires : goal.finish_run-requires
+finish_run-requires g c = as_many_each _ _ _ _ _ c.in-Ok-collect_job.ensures.ok.headline.given
+
+pub returns-in-Ok-finish_run-clause-ok : goal.returns-in-Ok-finish_run-clause-ok
+returns-in-Ok-finish_run-clause-ok g c =
+    let part = λ (h : HashedSource g.row.S.Denot g.row.T.Denot g.S.Source g.T.Start). h.source in
+    let job = c.args.job.now in
+    let run = c.in-Ok-finish_run.ensures in
+    collects_parts part g.S.Source.seen job.engine job job.plan.now c.in-Ok.hashed.items c.args.sources.items c.args.origins.now c.in-Ok-collect_job.collected c.in-Ok-finish_run.run'.collected
+    c.in-Ok.ensures run.sources run.sessions run.table c.in-Ok-collect_job.ensures.ok
+
+pub returns-in-Ok-finish_run-clause-digests : goal.returns-in-Ok-finish_run-clause-digests
+returns-in-Ok-finish_run-clause-digests g c =
+    let job = c.args.job.now in
+    let ok : CollectsBy job.engine (IsGivenInContext g.S.Source.seen) (in_context job c.args.sources.items c.args.origins.now) job.plan.now c.in-Ok-finish_run.run'.collected = returns-in-Ok-finish_run-clause-ok g c in
+    digests_are g.S.Source.seen job g.T.Start.texts 0 c.args.sources.items job.exporters.now c.args.origins.now _ _ ok.headline.records _ c.requires.start ok.headline.given c.in-Ok-finish_run.ensures.digests

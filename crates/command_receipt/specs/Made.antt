@@ -1,0 +1,34 @@
+-- The receipt of a run.
+use Rattle.std.specs.Prelude.{◌≡◌, ◌↔◌, ℕ, Bool, List, map, IsTrue, string_bytes}
+use Rattle.ipfix_session.specs.declared.report.FullReport.{FullReport}
+use Rattle.flow_table.specs.declared.table.Table.{Table}
+use Rattle.report_sessions.specs.Spotless.{IsSpotless}
+use Rattle.table_receipts.specs.Texts.{receipt_text}
+use Rattle.table_receipts.specs.Values.{InputValue, ReceiptValue, file_value}
+use Rattle.command_collect.specs.declared.job.CollectJob.{CollectJob}
+use Rattle.command_receipt.specs.Tables.{counts_of, table_of}
+use Rattle.command_receipt.specs.declared.making.MadeWith.{MadeWith}
+use Rattle.command_receipt.specs.declared.hashed_table.TextDigest.{TextDigest}
+
+-- what the table was made with and of, and what it is
+abbrev pub receipt_of : MadeWith → CollectJob → List InputValue → TextDigest → Table → Bool → ReceiptValue
+receipt_of made job inputs text table complete = record {
+  collectd = string_bytes made.collectd;
+  plan = string_bytes made.plan;
+  elements = map file_value made.elements.items;
+  inputs = inputs;
+  records = counts_of table.tally;
+  table = table_of job.elements.now job.plan.now.counters job.output text table;
+  complete = complete;
+}
+
+-- it is complete exactly if a strict run of these sessions would end well
+pub record IsReceiptOf (made : MadeWith) (job : CollectJob) (inputs : List InputValue) (fulls : List FullReport) (text : TextDigest) (table : Table) (r : ReceiptValue) : Type 0 where
+  pub value : r ≡ receipt_of made job inputs text table r.complete
+  pub complete : IsTrue r.complete ↔ IsSpotless fulls table.tally table.missing
+
+-- the text of the receipt was put
+pub record IsPutReceipt (Holds : List ℕ → Type 0) (made : MadeWith) (job : CollectJob) (inputs : List InputValue) (fulls : List FullReport) (text : TextDigest) (table : Table) : Type 0 where
+  pub receipt : ReceiptValue
+  pub is : IsReceiptOf made job inputs fulls text table receipt
+  pub put : Holds (receipt_text receipt)

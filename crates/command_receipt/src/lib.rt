@@ -1,0 +1,25 @@
+//! Collecting with a receipt, which says what the table was made of.
+#![tactic(auto)]
+
+mod collecting;
+mod fault;
+mod files;
+mod hashed_table;
+mod hashing;
+mod inputs;
+mod making;
+mod once;
+mod place;
+mod run;
+mod system_place;
+mod table_part;
+mod tcp;
+
+pub use fault::{ReceiptFault, RunFault, write_run_fault};
+pub use files::run_files_receipted;
+pub use hashed_table::TextDigest;
+pub use making::MadeWith;
+pub use place::ReceiptPlace;
+pub use run::{Ended, Receipted, run_receipted};
+pub use system_place::SystemPlace;
+pub use tcp::run_tcp_receipted;
