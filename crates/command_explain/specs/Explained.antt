@@ -4,14 +4,14 @@ use Rattle.std.specs.List.{flat_map}
 use Rattle.std.specs.Option.{option_map, option_or}
 use Rattle.std.specs.Str.{str_to_ascii_lowercase, str_eq_ignore_ascii_case}
 use Rattle.ipfix_dump.specs.Faults as dumps
-use Rattle.ipfix_dump.specs.declared.fault.DumpFault.{DumpFault}
 use Rattle.ipfix_dump.specs.declared.fault.DumpFault.TheVariants.{WriteFailed}
+use Rattle.report_writing.specs.FaultLines.{fault_text}
 use Rattle.command_explain.specs.declared.ending_fault.EndingFault.{EndingFault}
 use Rattle.command_explain.specs.EndingFaults.{number_of, name_of}
 use Rattle.command_explain.specs.declared.faults.TheConstants.{FAULTS}
 use Rattle.command_explain.specs.declared.run_faults.TheConstants.{RUN_FAULTS}
 use Rattle.command_explain.specs.Guide.{texts_of}
-use Rattle.command_explain.specs.RunFaults.{place, run_fault_of, run_fault_line, run_fault_text}
+use Rattle.command_explain.specs.RunFaults.{run_fault_of, run_fault_line, run_fault_text}
 
 -- two texts differ in the case of letters at most
 abbrev pub IsSameWord : List ℕ → List ℕ → Type 0
@@ -49,9 +49,12 @@ abbrev pub answer : Option (List ℕ) → Option (List ℕ)
 answer None = Some list_text
 answer (Some word) = option_or (option_map explanation_text (named word)) (option_map run_fault_text (run_fault_of word))
 
--- the line of a fault of writing, and the line that tells that it couldn't be written: the same fault as that of a dump
-unfoldable pub line_of_writing : DumpFault → List ℕ
-line_of_writing fault = place (codes "collectd: explain") (dumps.number_of fault) ++ (codes " " ++ (dumps.name_of fault ++ codes "\n"))
+-- ---- what is told where nothing was written
 
+-- no fault has this number or name
+abbrev pub none_line : List ℕ
+none_line = codes "error: no fault has this number or name; 'collectd explain' lists them\n"
+
+-- it couldn't be written: the same fault as that of a dump
 abbrev pub failed_line : List ℕ
-failed_line = line_of_writing WriteFailed
+failed_line = codes "collectd: explain" ++ fault_text (dumps.number_of WriteFailed) (dumps.name_of WriteFailed)

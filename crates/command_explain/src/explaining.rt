@@ -5,18 +5,18 @@ ghost use Rattle.std.specs.List.{flat_map};
 ghost use Rattle.std.specs.Option.{option_map};
 ghost use Rattle.std.specs.Io.KnownBytes.{Appends};
 ghost use Rattle.command_explain.specs.declared.ending_fault.EndingFault.{EndingFault};
-ghost use Rattle.command_explain.specs.Explained.{IsWordOf, answer, explanation_text, failed_line, fault_line, line_of_writing, list_text, named, names, rule_lines};
+ghost use Rattle.command_explain.specs.Explained.{IsWordOf, answer, explanation_text, failed_line, fault_line, list_text, named, names, none_line, rule_lines};
+ghost use Rattle.report_writing.specs.Told.{AreToldTo};
+ghost use Rattle.report_writing.specs.Writing.{Tells};
 
 use crate::ending_fault::EndingFault;
 use crate::faults::FAULTS;
 use crate::guide::Explanation;
-use crate::run_explaining::{
-    explain_run_fault, run_fault_named, write_number, write_run_fault_lines,
-};
+use crate::run_explaining::{explain_run_fault, run_fault_named, write_run_fault_lines};
 use crate::run_faults::RUN_FAULTS;
 use ipfix_dump::DumpFault;
 use itoa::Buffer;
-use report_writing::Status;
+use report_writing::{Status, WriteLines, write_fault};
 use std::io::{self, Write};
 
 /// The fault that ends a session and that a word names: by its number in decimal, or by its name in any letter case.
@@ -107,7 +107,7 @@ fn write_fault_lines<W: Write>(faults: &[EndingFault], out: &mut W) -> io::Resul
 /// Answers `Well` if it was written; `NotOpened` if the word names no fault, and then nothing was
 /// written; `Failed` if it couldn't be written. Unless all was well it writes a line to `err`, whose
 /// own faults are passed over.
-pub fn run_explain<W: Write, E: Write>(word: Option<&str>, out: &mut W, err: &mut E) -> Status
+pub fn run_explain<W: Write, E: WriteLines>(word: Option<&str>, out: &mut W, err: &mut E) -> Status
     ensures statuses { (result ≡ Status.Well) ⊎ (result ≡ Status.NotOpened)
         ⊎ (result ≡ Status.Failed) }
     ensures written { result ≡ Status.Well
@@ -116,6 +116,13 @@ pub fn run_explain<W: Write, E: Write>(word: Option<&str>, out: &mut W, err: &mu
     ensures unknown { (result ≡ Status.NotOpened)
         ↔ (answer (option_map (λ w. w.now) word.entry) ≡ None) }
     ensures untouched { result ≡ Status.NotOpened → out.new ≡ out.old }
+    // What was told: nothing, or one line.
+    ensures untold { result ≡ Status.Well → err.new ≡ err.old }
+    ensures none_told { result ≡ Status.NotOpened
+        → AreToldTo E.contents E.failed err.old err.new none_line }
+    ensures failed { result ≡ Status.Failed
+        → AreToldTo E.contents E.failed err.old err.new failed_line }
+    ensures kept { E.failed err.old → E.failed err.new }
 {
     match word {
         None => status_of(list_faults(out), err),
@@ -123,10 +130,7 @@ pub fn run_explain<W: Write, E: Write>(word: Option<&str>, out: &mut W, err: &mu
             (Some(fault), _) => status_of(explain(fault, out), err),
             (None, Some(fault)) => status_of(explain_run_fault(fault, out), err),
             (None, None) => {
-                let _ = writeln!(
-                    err,
-                    "error: no fault has this number or name; 'collectd explain' lists them"
-                );
+                let _ = write_none(err);
                 Status::NotOpened
             }
         },
@@ -134,9 +138,13 @@ pub fn run_explain<W: Write, E: Write>(word: Option<&str>, out: &mut W, err: &mu
 }
 
 // The exit status of what was written.
-fn status_of<E: Write>(written: io::Result<()>, err: &mut E) -> Status
+fn status_of<E: WriteLines>(written: io::Result<()>, err: &mut E) -> Status
     ensures statuses { (result ≡ Status.Well) ⊎ (result ≡ Status.Failed) }
     ensures well { result ≡ Status.Well → IsOk written }
+    ensures untold { result ≡ Status.Well → err.new ≡ err.old }
+    ensures failed { result ≡ Status.Failed
+        → AreToldTo E.contents E.failed err.old err.new failed_line }
+    ensures kept { E.failed err.old → E.failed err.new }
 {
     match written {
         Ok(()) => Status::Well,
@@ -147,19 +155,20 @@ fn status_of<E: Write>(written: io::Result<()>, err: &mut E) -> Status
     }
 }
 
-// The line that the explanation could not be written.
-fn write_failed<E: Write>(err: &mut E) -> io::Result<()>
-    ensures { OnOk result (Appends (E.contents err.old) (E.contents err.new) failed_line) }
+// The line that says that a word names no fault.
+fn write_none<E: WriteLines>(err: &mut E) -> io::Result<()>
+    ensures { Tells E.contents E.failed err.old err.new result none_line }
 {
-    write_fault_of_writing(DumpFault::WriteFailed, err)
+    writeln!(
+        err,
+        "error: no fault has this number or name; 'collectd explain' lists them"
+    )
 }
 
-#[tactic(auto, unfolding(crate::specs::Explained::line_of_writing))]
-fn write_fault_of_writing<E: Write>(fault: DumpFault, err: &mut E) -> io::Result<()>
-    ensures { OnOk result (Appends (E.contents err.old) (E.contents err.new)
-        (line_of_writing fault)) }
+// The line that says that the explanation could not be written.
+fn write_failed<E: WriteLines>(err: &mut E) -> io::Result<()>
+    ensures { Tells E.contents E.failed err.old err.new result failed_line }
 {
-    write_number("collectd: explain", fault.number(), err)?;
-    let name = fault.name();
-    writeln!(err, " {name}")
+    let fault = DumpFault::WriteFailed;
+    write_fault("explain", fault.number(), fault.name(), err)
 }

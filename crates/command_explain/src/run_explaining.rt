@@ -113,7 +113,7 @@ fn write_place<W: Write>(fault: RunFault, out: &mut W) -> io::Result<()>
 
 /// Writes how the lines of a family begin that have a fault of this number.
 #[tactic(auto, unfolding(crate::specs::RunFaults::place))]
-pub fn write_number<W: Write>(family: &str, number: u8, out: &mut W) -> io::Result<()>
+fn write_number<W: Write>(family: &str, number: u8, out: &mut W) -> io::Result<()>
     ensures { OnOk result (Appends (W.contents out.old) (W.contents out.new)
         (place family.now number)) }
 {

@@ -6,6 +6,7 @@ ghost use Rattle.input_sources.specs.Had.{IsUnread};
 
 use crate::accepting::{Accepted, Listener};
 use ipfix_session::{FromReader, Source};
+use network_prefixes::peer_address;
 use report_writing::Reason;
 use std::net::{TcpListener, TcpStream};
 use std::time::Duration;
@@ -26,7 +27,7 @@ impl SystemListener {
         }
     }
 
-    // The next connection, of which nothing was read.
+    // The next connection, of which nothing was read. Over IPv6, a peer that has an IPv4 address is told by that.
     fn accept_next(&self, idle: Option<Duration>) -> Result<Accepted<FromReader<TcpStream>>, Reason>
         ensures closed { self.now.listener ≡ None → IsErr result }
         ensures no_time { IfSome idle (λ limit. as_nanos limit ≡ 0 → IsErr result) }
@@ -43,7 +44,7 @@ impl SystemListener {
         match stream.set_read_timeout(idle) {
             Ok(()) => Ok(Accepted {
                 source: FromReader::new(stream),
-                peer,
+                peer: peer_address(peer),
             }),
             Err(error) => Err(Reason::of(&error)),
         }
