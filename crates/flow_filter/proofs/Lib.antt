@@ -1,4 +1,4 @@
-mod Chains
+pub mod Chains
 mod Decimals
 mod Families
 mod Said

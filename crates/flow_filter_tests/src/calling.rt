@@ -21,16 +21,16 @@ pub struct Counted {
     pub filtered: u64,
 }
 
-/// The data records of an input that a filter counts, and how many others there are.
+/// The data records of an input that a filter counts, all without one, and how many others there are.
 pub fn counted_in<R: Read + Drop>(
     alloc: Global,
-    filter: &Filter,
+    filter: Option<&Filter>,
     input: R,
 ) -> Result<Counted, SessionFault>
     ensures records { IfOk result (λ r. (text : List ℕ) → R.remaining input ≡ Some text
-        → r.records.items ≡ counted filter.now (records_of text)) }
+        → r.records.items ≡ counted filter.entry (records_of text)) }
     ensures others { IfOk result (λ r. (text : List ℕ) → R.remaining input ≡ Some text
-        → r.filtered ≡ left_out filter.now (records_of text)) }
+        → r.filtered ≡ left_out filter.entry (records_of text)) }
 {
     driven_is_given::<FromReader<R>, FilterSink<VecSink>>();
     no_fault_is_all::<FromReader<R>>();

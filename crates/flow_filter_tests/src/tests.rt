@@ -169,7 +169,7 @@ fn a_sink_leaves_out_what_does_not_pass(rt: HostRuntime) -> Result<(), Fail> {
         conditions: Vec::new(alloc),
     };
     filter.conditions.push(Condition::new(alloc, ElementId::iana(7), PORT, Side::In, &["80"])?)?;
-    let mut sink = FilterSink::new(&filter, VecSink::new(alloc));
+    let mut sink = FilterSink::new(Some(&filter), VecSink::new(alloc));
     assert!(rt; sink.put(record(alloc, &[(7, &[0, 80])])?).is_ok());
     assert!(rt; sink.put(record(alloc, &[(7, &[0, 53])])?).is_ok());
     let mut options = record(alloc, &[(7, &[0, 53])])?;

@@ -148,7 +148,3 @@ pub record IsPlanError (known : List Known) (octets : List ℕ) (error : PlanTex
   pub place : Tells known octets error
   pub fault : IsUtf8 octets → Fails (fault_of error) (plan_of_text known octets)
   pub not_utf8 : ¬ (IsUtf8 octets) → fault_of error ≡ faults.NotToml
-
--- some text says the plan, where these files name elements
-abbrev pub IsReadWith : List Known → PlanValue → Type 0
-IsReadWith known plan = ∥ ((text : List ℕ) × (plan_of_text known text ≡ Ok plan)) ∥₁

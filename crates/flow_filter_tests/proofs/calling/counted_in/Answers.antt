@@ -1,4 +1,4 @@
-use Rattle.std.proofs.Common.{◌≡◌, ◌++◌, ◌∷◌, [], List, Option, Some, None, sym, ap, ◌∙◌, append_assoc}
+use Rattle.std.proofs.Common.{◌≡◌, ◌++◌, ◌∷◌, [], List, Bor, Option, Some, None, sym, ap, ◌∙◌, append_assoc}
 use Rattle.std.specs.Prelude.{◌≢◌}
 use Rattle.std.specs.List.{FoldsTo}
 use Rattle.std.proofs.lemmas.List.{append-nil}
@@ -29,14 +29,14 @@ returns-in-None-clause-records g c = λ text is.
     let told = c.no_fault_is_all.ensures READ_LIMIT c.new-source.result c.drive-report.new.source c.drive-report.result took.records text
     took.given c.in-None.is (ap (λ (v : SourceView). v.text) c.new-source.ensures.unread ∙ is) in
     let inner = c.counted_records_are_taken.ensures.taken c.new-sink.result c.drive-report.new.sink took.records took.takes in
-    let some = counted c.new-sink.result.filter.now took.records in
+    let some = counted c.new-sink.result.filter took.records in
     c.counted_by.ensures.records
     ∙ kept_all (λ (p : VecSink) (x : DataRecord) (q : VecSink). q.records.items ≡ p.records.items ++ x ∷ []) (λ (p : VecSink). p.records.items) (λ p x q e. e)
     c.new-sink.result.sink some c.drive-report.new.sink.sink inner.chain
     ∙ ap (λ (s : VecSink). s.records.items ++ some) c.new-sink.ensures.2
     ∙ ap (λ (l : List DataRecord). l ++ some) c.new.ensures.records
-    ∙ ap (λ (f : Filter). counted f took.records) c.new-sink.ensures.0
-    ∙ ap (λ (rs : List DataRecord). counted c.args.filter.now rs) told.1
+    ∙ ap (λ (f : Option (Bor Filter)). counted f took.records) c.new-sink.ensures.0
+    ∙ ap (λ (rs : List DataRecord). counted c.args.filter rs) told.1
 
 pub returns-in-None-clause-others : goal.returns-in-None-clause-others
 returns-in-None-clause-others g c = λ text is.
@@ -46,5 +46,5 @@ returns-in-None-clause-others g c = λ text is.
     took.given c.in-None.is (ap (λ (v : SourceView). v.text) c.new-source.ensures.unread ∙ is) in
     c.counted_by.ensures.others
     ∙ c.counted_records_are_taken.ensures.filtered c.new-sink.result c.drive-report.new.sink took.records took.takes c.new-sink.ensures.1
-    ∙ ap (λ (f : Filter). left_out f took.records) c.new-sink.ensures.0
-    ∙ ap (λ (rs : List DataRecord). left_out c.args.filter.now rs) told.1
+    ∙ ap (λ (f : Option (Bor Filter)). left_out f took.records) c.new-sink.ensures.0
+    ∙ ap (λ (rs : List DataRecord). left_out c.args.filter rs) told.1

@@ -1,0 +1,4 @@
+pub mod Members
+pub mod Sided
+pub mod Listed
+pub mod Told

@@ -1,0 +1,4 @@
+-- What public contracts cite.
+pub mod Wheres
+pub mod FilteredPlans
+pub mod Errors
