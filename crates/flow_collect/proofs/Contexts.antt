@@ -1,31 +1,36 @@
--- Sessions in context.
-use Rattle.std.proofs.Common.{◌≡◌, ℕ, true, List, [], ◌∷◌, ◌++◌, Option, None, Some, Result, Err, refl, sym, ap, ◌∙◌, subst, map, append-nil, inl, inr}
+-- Sessions in context, and which of their records count.
+use Rattle.std.proofs.Common.{◌≡◌, ℕ, Bool, true, List, [], ◌∷◌, ◌++◌, filter, Option, None, Some, Result, Err, refl, sym, ap, ◌∙◌, subst, map, append-nil, inl, inr}
 use Rattle.std.specs.Prelude.{◌⊎◌, All, IfNone, IfSome, IsSome, Vec, vec_len}
+use Rattle.std.specs.Borrow.{Bor}
 use Rattle.std.specs.Int.{w32, to_be_bytes}
 use Rattle.std.specs.List.{AllZip, FoldsTo, flat_map}
 use Rattle.std.specs.Option.{ForSome}
 use Rattle.std.proofs.lemmas.Bool.{false≢true}
 use Rattle.std.proofs.lemmas.Option.{IfSome_then}
 use Rattle.std.proofs.lemmas.List.{map-append}
-use Rattle.std.proofs.lemmas.List.Elements.{All-cons, All-head, All-nil, All-tail}
+use Rattle.std.proofs.lemmas.List.Elements.{All-cons, All-head, All-nil, All-tail, filter-append}
 use Rattle.ipfix_message.specs.Fields.{Field}
 use Rattle.ipfix_message.specs.declared.record.DataRecord.{DataRecord}
 use Rattle.ipfix_session.specs.Given.{records_of, stop_of, IsPrefix}
 use Rattle.ipfix_session.specs.Sinks.{SinkView}
 use Rattle.ipfix_session.specs.Sources.{SourceView}
-use Rattle.ipfix_session.specs.declared.report.FullReport.{FullReport}
 use Rattle.ipfix_session.specs.declared.stop.Stop.TheVariants.{Clean}
 use Rattle.ipfix_session.proofs.Driven.{given_all_of}
+use Rattle.flow_filter.specs.Sinks.{counted, left_out, is_let_by, TakesCounted}
+use Rattle.flow_filter.specs.declared.filter.Filter.{Filter}
+use Rattle.flow_filter.specs.declared.sink.FilterSink.{FilterSink}
+use Rattle.flow_filter.proofs.Chains.{counted_chain, left_out_new}
 use Rattle.flow_table.specs.Bags.{IsSameBag}
 use Rattle.flow_table.specs.Plans.{PlanValue}
 use Rattle.flow_table.specs.Tables.{IsTooLarge}
 use Rattle.flow_table.proofs.Bags.{too_large_bag}
-use Rattle.flow_collect.specs.Contexts.{alone, all_with_context, named, origin_fields, records_in_context, sources_of, with_context}
+use Rattle.flow_collect.specs.Contexts.{alone, all_in_context, all_with_context, counted_in, left_out_in, named, origin_fields, records_in_context, sources_of, with_context}
 use Rattle.flow_collect.specs.Headline.{all_of}
-use Rattle.flow_collect.specs.InFull.{IsGivenInContext, IsGivenInFull}
+use Rattle.flow_collect.specs.InFull.{fulls_in, IsGivenInContext, IsGivenInFull}
 use Rattle.flow_collect.specs.Places.{Each4}
 use Rattle.flow_collect.specs.Refusals.{AreTooLarge, AreTooLargeInContext, HasFaults, HasFaultsInContext, IsLate, fault_of_arguments}
 use Rattle.flow_collect.specs.Texts.{AreTexts, HasNoFault}
+use Rattle.flow_collect.specs.declared.collected.FilteredReport.{FilteredReport}
 use Rattle.flow_collect.specs.declared.collected.Pool.{Pool}
 use Rattle.flow_collect.specs.declared.context_sink.ContextSink.{ContextSink}
 use Rattle.flow_collect.specs.declared.fault.CollectFault.{CollectFault}
@@ -61,7 +66,21 @@ module _ {K : Type 0} (took : K → DataRecord → K → Type 0) where
         }
       ]
 
--- ---- nothing is wanted
+-- ---- a sink behind a filter, which a sink that appends puts into
+
+module _ {S K : Type 0} (view : SinkView K) where
+  -- it took those that count, and the others were left out
+  pub kept_counted : (s : InContext S) (first last : ContextSink (FilterSink K)) (q : List DataRecord) → first.context ≡ s.context → first.sink.filter ≡ s.filter → first.sink.filtered ≡ 0
+      → FoldsTo (TakesInContext (TakesCounted view)) first q last → last.lost ≡ None
+      → FoldsTo view.took first.sink.sink (counted_in s q) last.sink.sink × (last.sink.filtered ≡ left_out_in s q)
+  kept_counted s first last q context same none c lost =
+      let keep = kept (TakesCounted view) first last q c lost in
+      let there = subst (λ (k : SessionContext). FoldsTo (TakesCounted view) first.sink (all_with_context k q) last.sink) context keep.chain in (
+        counted_chain view s.filter (all_with_context s.context q) first.sink last.sink same there,
+        left_out_new view first.sink last.sink (all_with_context s.context q) none there ∙ ap (λ f. left_out f (all_with_context s.context q)) same,
+      )
+
+-- ---- nothing is wanted, and all count
 
 fields_unwanted : (wanted : Context) (exporter : Option Exporter) (domain : List ℕ) → wanted ≡ NO_CONTEXT.wanted → origin_fields wanted exporter ++ named wanted.observation_domain_id OBSERVATION_DOMAIN_ID domain ≡ []
 fields_unwanted wanted None domain none = rw none refl
@@ -79,14 +98,22 @@ all_with_unwanted c (r ∷ q) none =
     let first = with_unwanted c r none in
     let rest = all_with_unwanted c q none in cc
 
--- nothing is wanted of what the session of a source knows
+counted_all : (q : List DataRecord) → counted None q ≡ q
+counted_all [] = refl
+counted_all (r ∷ q) = ap (λ (l : List DataRecord). r ∷ l) (counted_all q)
+
+-- nothing is wanted of what the session of a source knows, and all of its records count
 abbrev pub IsUnwanted : {S : Type 0} → InContext S → Type 0
-IsUnwanted s = s.context.wanted ≡ NO_CONTEXT.wanted
+IsUnwanted s = (s.context.wanted ≡ NO_CONTEXT.wanted) × (s.filter ≡ None)
+
+pub counted_unwanted : {S : Type 0} (s : InContext S) (q : List DataRecord) → IsUnwanted s → counted_in s q ≡ q
+counted_unwanted s q none =
+    ap (λ f. counted f (all_with_context s.context q)) none.1 ∙ counted_all (all_with_context s.context q) ∙ all_with_unwanted s.context q none.0
 
 pub records_plain : {S : Type 0} (given : List (InContext S)) (texts : List (List ℕ)) (Reads : S → List ℕ → Type 0) → All IsUnwanted given → AllZip Reads (sources_of given) texts → records_in_context given texts ≡ map records_of texts
 records_plain [] [] Reads none t = refl
 records_plain (s ∷ given) (text ∷ texts) Reads none t =
-    let first = all_with_unwanted s.context (records_of text) (All-head IsUnwanted s given none) in
+    let first = counted_unwanted s (records_of text) (All-head IsUnwanted s given none) in
     let rest = records_plain given texts Reads (All-tail IsUnwanted s given none) t.1 in cc
 records_plain [] (text ∷ texts) Reads none t = absurd t
 records_plain (s ∷ given) [] Reads none t = absurd t
@@ -102,64 +129,88 @@ module _ {S : Type 0} where
 
   alone_unwanted : (sources : List S) → All IsUnwanted (map alone sources)
   alone_unwanted [] = All-nil IsUnwanted
-  alone_unwanted (s ∷ sources) = All-cons IsUnwanted (alone s) (map alone sources) refl (alone_unwanted sources)
+  alone_unwanted (s ∷ sources) = All-cons IsUnwanted (alone s) (map alone sources) (refl, refl) (alone_unwanted sources)
 
 -- ---- all sessions
+
+prefix_filter : {X : Type 0} (p : X → Bool) (xs ys : List X) → IsPrefix xs ys → IsPrefix (filter p xs) (filter p ys)
+prefix_filter p xs ys h = (filter p h.0, ap (filter p) h.1 ∙ filter-append p xs h.0)
 
 prefix_map : {X Y : Type 0} (f : X → Y) (xs ys : List X) → IsPrefix xs ys → IsPrefix (map f xs) (map f ys)
 prefix_map f xs ys p = (map f p.0, ap (map f) p.1 ∙ map-append f xs p.0)
 
 module _ {S : Type 0} (seen : S → SourceView) where
   -- without what sessions know
-  pub owns : (befores : List (InContext S)) (afters : List S) (fulls : List FullReport) (qs : List (List DataRecord)) → Each4 (IsGivenInContext seen) befores afters fulls qs
-      → (own : List (List DataRecord)) × Each4 (IsGivenInFull seen) (sources_of befores) afters fulls own
+  pub owns : (befores : List (InContext S)) (afters : List S) (fulls : List FilteredReport) (qs : List (List DataRecord)) → Each4 (IsGivenInContext seen) befores afters fulls qs
+      → (own : List (List DataRecord)) × Each4 (IsGivenInFull seen) (sources_of befores) afters (fulls_in fulls) own
   owns [] [] [] [] e = ([], tt)
   owns (s ∷ befores) (a ∷ afters) (f ∷ fulls) (q ∷ qs) e =
       let rest = owns befores afters fulls qs e.1 in (e.0.own ∷ rest.0, (e.0.given, rest.1))
   owns befores afters fulls qs e = absurd e
 
-  pub given_plain : (befores : List (InContext S)) (afters : List S) (fulls : List FullReport) (qs : List (List DataRecord)) → All IsUnwanted befores → Each4 (IsGivenInContext seen) befores afters fulls qs
-      → Each4 (IsGivenInFull seen) (sources_of befores) afters fulls qs
+  -- where all have one filter
+  pub record OfCounted (f : Option (Bor Filter)) (befores : List (InContext S)) (afters : List S) (fulls : List FilteredReport) (qs : List (List DataRecord)) : Type 0 where
+    pub own : List (List DataRecord)
+    pub given : Each4 (IsGivenInFull seen) (sources_of befores) afters (fulls_in fulls) own
+    pub all : all_of qs ≡ counted f (all_in_context befores own)
+
+  pub of_counted : (f : Option (Bor Filter)) (befores : List (InContext S)) (afters : List S) (fulls : List FilteredReport) (qs : List (List DataRecord)) → All (λ (s : InContext S). s.filter ≡ f) befores
+      → Each4 (IsGivenInContext seen) befores afters fulls qs → OfCounted f befores afters fulls qs
+  of_counted f [] [] [] [] same e = record { own = []; given = tt; all = refl }
+  of_counted f (s ∷ befores) (a ∷ afters) (r ∷ fulls) (q ∷ qs) same e =
+      let HasIt = λ (s : InContext S). s.filter ≡ f in
+      let rest = of_counted f befores afters fulls qs (All-tail HasIt s befores same) e.1 in
+      let these = all_with_context s.context e.0.own in
+      let first : q ≡ counted f these = e.0.records_are ∙ ap (λ (g : Option (Bor Filter)). counted g these) (All-head HasIt s befores same) in
+      record {
+        own = e.0.own ∷ rest.own;
+        given = (e.0.given, rest.given);
+        all = ap (λ (l : List DataRecord). l ++ all_of qs) first ∙ ap (λ (l : List DataRecord). counted f these ++ l) rest.all ∙ sym (filter-append (is_let_by f) these (all_in_context befores rest.own));
+      }
+  of_counted f befores afters fulls qs same e = absurd e
+
+  pub given_plain : (befores : List (InContext S)) (afters : List S) (fulls : List FilteredReport) (qs : List (List DataRecord)) → All IsUnwanted befores → Each4 (IsGivenInContext seen) befores afters fulls qs
+      → Each4 (IsGivenInFull seen) (sources_of befores) afters (fulls_in fulls) qs
   given_plain [] [] [] [] none e = tt
   given_plain (s ∷ befores) (a ∷ afters) (f ∷ fulls) (q ∷ qs) none e =
-      let same = e.0.records_are ∙ all_with_unwanted s.context e.0.own (All-head IsUnwanted s befores none) in
-      (subst (IsGivenInFull seen s.source a f) (sym same) e.0.given, given_plain befores afters fulls qs (All-tail IsUnwanted s befores none) e.1)
+      let same = e.0.records_are ∙ counted_unwanted s e.0.own (All-head IsUnwanted s befores none) in
+      (subst (IsGivenInFull seen s.source a f.full) (sym same) e.0.given, given_plain befores afters fulls qs (All-tail IsUnwanted s befores none) e.1)
   given_plain befores afters fulls qs none e = absurd e
 
-  pub given_alone : (sources : List S) (befores : List (InContext S)) (afters : List S) (fulls : List FullReport) (qs : List (List DataRecord)) → befores ≡ map alone sources → Each4 (IsGivenInContext seen) befores afters fulls qs
-      → Each4 (IsGivenInFull seen) sources afters fulls qs
+  pub given_alone : (sources : List S) (befores : List (InContext S)) (afters : List S) (fulls : List FilteredReport) (qs : List (List DataRecord)) → befores ≡ map alone sources → Each4 (IsGivenInContext seen) befores afters fulls qs
+      → Each4 (IsGivenInFull seen) sources afters (fulls_in fulls) qs
   given_alone sources befores afters fulls qs are e =
       let there = subst (λ (l : List (InContext S)). Each4 (IsGivenInContext seen) l afters fulls qs) are e in
-      subst (λ (l : List S). Each4 (IsGivenInFull seen) l afters fulls qs) (sources_alone sources) (given_plain (map alone sources) afters fulls qs (alone_unwanted sources) there)
+      subst (λ (l : List S). Each4 (IsGivenInFull seen) l afters (fulls_in fulls) qs) (sources_alone sources) (given_plain (map alone sources) afters fulls qs (alone_unwanted sources) there)
 
   -- if no session has a fault, the records are those of the whole texts
   pub whole_in_context : ((s : S) → (seen s).ended ≡ true → ForSome (seen s).text (λ xs. xs ≡ []))
-      → (befores : List (InContext S)) (afters : List S) (fulls : List FullReport) (qs : List (List DataRecord)) (texts : List (List ℕ)) → Each4 (IsGivenInContext seen) befores afters fulls qs
-      → AreTexts seen (sources_of befores) texts → All (λ (full : FullReport). HasNoFault full.report) fulls → (qs ≡ records_in_context befores texts) × All (λ text. stop_of text ≡ Clean) texts
+      → (befores : List (InContext S)) (afters : List S) (fulls : List FilteredReport) (qs : List (List DataRecord)) (texts : List (List ℕ)) → Each4 (IsGivenInContext seen) befores afters fulls qs
+      → AreTexts seen (sources_of befores) texts → All (λ (told : FilteredReport). HasNoFault told.full.report) fulls → (qs ≡ records_in_context befores texts) × All (λ text. stop_of text ≡ Clean) texts
   whole_in_context at_end [] [] [] [] [] e t n = (refl, All-nil (λ text. stop_of text ≡ Clean))
   whole_in_context at_end (s ∷ befores) (a ∷ afters) (f ∷ fulls) (q ∷ qs) (text ∷ texts) e t n =
-      let NoFault = λ (full : FullReport). HasNoFault full.report in
-      let (clean, whole) = given_all_of seen _ s.source a f.report e.0.own text (at_end a) e.0.given.given (All-head NoFault f fulls n) t.0 in
-      let first : q ≡ all_with_context s.context (records_of text) = e.0.records_are ∙ ap (all_with_context s.context) whole in
+      let NoFault = λ (told : FilteredReport). HasNoFault told.full.report in
+      let (clean, whole) = given_all_of seen _ s.source a f.full.report e.0.own text (at_end a) e.0.given.given (All-head NoFault f fulls n) t.0 in
+      let first : q ≡ counted_in s (records_of text) = e.0.records_are ∙ ap (counted_in s) whole in
       let (are, others) = whole_in_context at_end befores afters fulls qs texts e.1 t.1 (All-tail NoFault f fulls n) in
       (cc, All-cons (λ text. stop_of text ≡ Clean) text texts clean others)
   whole_in_context at_end [] [] [] [] (text ∷ texts) e t n = absurd t
   whole_in_context at_end (s ∷ befores) (a ∷ afters) (f ∷ fulls) (q ∷ qs) [] e t n = absurd t
   whole_in_context at_end befores afters fulls qs texts e t n = absurd e
 
-  pub first_in_context : (befores : List (InContext S)) (afters : List S) (fulls : List FullReport) (qs : List (List DataRecord)) (texts : List (List ℕ)) → Each4 (IsGivenInContext seen) befores afters fulls qs
+  pub first_in_context : (befores : List (InContext S)) (afters : List S) (fulls : List FilteredReport) (qs : List (List DataRecord)) (texts : List (List ℕ)) → Each4 (IsGivenInContext seen) befores afters fulls qs
       → AreTexts seen (sources_of befores) texts → AllZip IsPrefix qs (records_in_context befores texts)
   first_in_context [] [] [] [] [] e t = tt
   first_in_context (s ∷ befores) (a ∷ afters) (f ∷ fulls) (q ∷ qs) (text ∷ texts) e t =
-      let own = first_of_text seen s.source a f.report e.0.own text e.0.given.given t.0 in
-      let here = prefix_map (with_context s.context) e.0.own (records_of text) own in
-      (subst (λ (l : List DataRecord). IsPrefix l (all_with_context s.context (records_of text))) (sym e.0.records_are) here, first_in_context befores afters fulls qs texts e.1 t.1)
+      let own = first_of_text seen s.source a f.full.report e.0.own text e.0.given.given t.0 in
+      let here = prefix_filter (is_let_by s.filter) _ _ (prefix_map (with_context s.context) e.0.own (records_of text) own) in
+      (subst (λ (l : List DataRecord). IsPrefix l (counted_in s (records_of text))) (sym e.0.records_are) here, first_in_context befores afters fulls qs texts e.1 t.1)
   first_in_context [] [] [] [] (text ∷ texts) e t = absurd t
   first_in_context (s ∷ befores) (a ∷ afters) (f ∷ fulls) (q ∷ qs) [] e t = absurd t
   first_in_context befores afters fulls qs texts e t = absurd e
 
   -- if the records that sessions gave are too large, in whatever order, those of the whole texts are
-  pub too_large_due : (plan : PlanValue) (befores : List (InContext S)) (afters : List S) (fulls : List FullReport) (qs : List (List DataRecord)) (rs : List DataRecord)
+  pub too_large_due : (plan : PlanValue) (befores : List (InContext S)) (afters : List S) (fulls : List FilteredReport) (qs : List (List DataRecord)) (rs : List DataRecord)
       → Each4 (IsGivenInContext seen) befores afters fulls qs → IsSameBag rs (all_of qs) → IsTooLarge plan rs → AreTooLargeInContext seen plan befores
   too_large_due plan befores afters fulls qs rs given same large = λ texts t.
       too_large_lists plan (λ (q : List DataRecord). q) qs (records_in_context befores texts) (first_in_context befores afters fulls qs texts given t) (too_large_bag plan rs (all_of qs) same large)

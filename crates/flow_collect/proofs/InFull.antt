@@ -32,9 +32,10 @@ use Rattle.flow_table.specs.Plans.{PlanValue}
 use Rattle.flow_table.proofs.FlatTables.{is_same_table}
 use Rattle.flow_collect.specs.Headline.{Answer, Headline, IsGivenBy, all_of}
 use Rattle.flow_collect.specs.Contexts.{alone, sources_of}
-use Rattle.flow_collect.specs.InFull.{FullAnswer, FullHeadline, IsBalanced, IsGivenInContext, IsGivenInFull, HasBalanced, IsWithoutRest, reports_in}
+use Rattle.flow_collect.specs.InFull.{FullAnswer, FullHeadline, IsBalanced, IsGivenInContext, IsGivenInFull, HasBalanced, IsWithoutRest, fulls_in, reports_in}
 use Rattle.flow_collect.specs.Places.{Each4}
 use Rattle.flow_collect.specs.Texts.{EachGave, GaveThese, WasReadOut}
+use Rattle.flow_collect.specs.declared.collected.FilteredReport.{FilteredReport}
 use Rattle.flow_collect.specs.declared.collected.Pool.{Pool}
 use Rattle.flow_collect.specs.declared.session_context.InContext.{InContext}
 use Rattle.flow_collect.proofs.Contexts.{given_alone, owns}
@@ -113,8 +114,11 @@ balanced_of ms reports of_domains r b = rw (r, b) (balanced_in ms (domains_of ms
 -- ---- a run without the rest
 
 -- as many reports, without the rest
-abbrev pub short_sessions : {Z : Type 0} → Vec FullReport Z → Vec SessionReport Z
-short_sessions v = record { ptr = v.ptr; len = v.len; cap = v.cap; alloc = v.alloc; items = reports_in v.items; ok = (v.ok.0 ∙ sym (length-map v.items (λ (full : FullReport). full.report)), v.ok.1); small = v.small }
+pub as_many_short : (l : List FilteredReport) → length (reports_in (fulls_in l)) ≡ length l
+as_many_short l = length-map (fulls_in l) (λ (full : FullReport). full.report) ∙ length-map l (λ (told : FilteredReport). told.full)
+
+abbrev pub short_sessions : {Z : Type 0} → Vec FilteredReport Z → Vec SessionReport Z
+short_sessions v = record { ptr = v.ptr; len = v.len; cap = v.cap; alloc = v.alloc; items = reports_in (fulls_in v.items); ok = (v.ok.0 ∙ sym (as_many_short v.items), v.ok.1); small = v.small }
 
 -- each run in full has one
 abbrev pub short_run : {S : Type 0} → FullAnswer S → Answer S
@@ -123,12 +127,12 @@ short_run c = record { sessions = short_sessions c.sessions; links = c.links; so
 -- ---- all sessions
 
 module _ {S : Type 0} (seen : S → SourceView) where
-  has_balanced : (before : InContext S) (after : S) (full : FullReport) (records : List DataRecord) → IsGivenInContext seen before after full records → HasBalanced seen before after full records
-  has_balanced before after full records c =
+  has_balanced : (before : InContext S) (after : S) (told : FilteredReport) (records : List DataRecord) → IsGivenInContext seen before after told records → HasBalanced seen before after told records
+  has_balanced before after told records c =
       let g = c.given in
-      record { given = c; balanced = balanced_of g.given.counted full.report.domains.items full.balances.items g.told.counts.reports.domains g.told.counts.balances }
+      record { given = c; balanced = balanced_of g.given.counted told.full.report.domains.items told.full.balances.items g.told.counts.reports.domains g.told.counts.balances }
 
-  pub balanced_each : (befores : List (InContext S)) (afters : List S) (fulls : List FullReport) (qs : List (List DataRecord)) → Each4 (IsGivenInContext seen) befores afters fulls qs → Each4 (HasBalanced seen) befores afters fulls qs
+  pub balanced_each : (befores : List (InContext S)) (afters : List S) (fulls : List FilteredReport) (qs : List (List DataRecord)) → Each4 (IsGivenInContext seen) befores afters fulls qs → Each4 (HasBalanced seen) befores afters fulls qs
   balanced_each [] [] [] [] e = tt
   balanced_each (s ∷ befores) (a ∷ afters) (f ∷ fulls) (q ∷ qs) e = (has_balanced s a f q e.0, balanced_each befores afters fulls qs e.1)
   balanced_each befores afters fulls qs e = absurd e
@@ -154,10 +158,10 @@ module _ {S : Type 0} (seen : S → SourceView) where
       outer_two (λ (full : FullReport) (q : List DataRecord) (b : List ℕ). WasReadOut full.report → IsFullReport full b) (λ (full : FullReport) (b : List ℕ). WasReadOut full.report → IsFullReport full b) (λ full q b is. is) fulls qs bs
       (last_two_beside (IsGivenInFull seen) (λ s a b. GaveThese (seen s) (seen a) b) (λ full q b. WasReadOut full.report → IsFullReport full b) full_of_octets befores afters fulls qs bs e t)
 
-  pub full_each : (befores : List (InContext S)) (afters : List S) (fulls : List FullReport) (qs : List (List DataRecord)) (bs : List (List ℕ)) → Each4 (IsGivenInContext seen) befores afters fulls qs
-      → EachGave seen (sources_of befores) afters bs → AllZip (λ full b. WasReadOut full.report → IsFullReport full b) fulls bs
+  pub full_each : (befores : List (InContext S)) (afters : List S) (fulls : List FilteredReport) (qs : List (List DataRecord)) (bs : List (List ℕ)) → Each4 (IsGivenInContext seen) befores afters fulls qs
+      → EachGave seen (sources_of befores) afters bs → AllZip (λ full b. WasReadOut full.report → IsFullReport full b) (fulls_in fulls) bs
   full_each befores afters fulls qs bs e t =
-      let own = owns seen befores afters fulls qs e in full_each_own (sources_of befores) afters fulls own.0 bs own.1 t
+      let own = owns seen befores afters fulls qs e in full_each_own (sources_of befores) afters (fulls_in fulls) own.0 bs own.1 t
 
   pub headline_short : (sources : List S) (befores : List (InContext S)) (plan : PlanValue) (pool : Pool) (c : FullAnswer S) (short : Answer S) → befores ≡ map alone sources → FullHeadline seen befores plan pool c → IsWithoutRest c short
       → Headline seen sources plan pool short
@@ -165,6 +169,6 @@ module _ {S : Type 0} (seen : S → SourceView) where
       record {
         records = h.records;
         received = rw w.links_are h.received;
-        given = rw (w.sources_are, w.sessions_are) (given_short sources c.sources.items c.sessions.items h.records (given_alone seen sources befores c.sources.items c.sessions.items h.records are h.given));
+        given = rw (w.sources_are, w.sessions_are) (given_short sources c.sources.items (fulls_in c.sessions.items) h.records (given_alone seen sources befores c.sources.items c.sessions.items h.records are h.given));
         added_up = record { table_is = is_same_table plan (all_of h.records) c.table short.table w.same h.added_up.table_is; not_too_large = h.added_up.not_too_large };
       }

@@ -1,5 +1,5 @@
--- What a session knows beside a record, as fields that follow the record's own.
-use Rattle.std.specs.Prelude.{◌≡◌, ℕ, Bool, true, false, List, [], ◌∷◌, ◌++◌, map, take, bytes_eq, Option, Some, None, if◌then◌else◌}
+-- What a session knows beside a record, as fields that follow the record's own, and which of its records count.
+use Rattle.std.specs.Prelude.{ℕ, Bool, true, false, List, [], ◌∷◌, ◌++◌, map, take, bytes_eq, Option, Some, None, if◌then◌else◌}
 use Rattle.std.specs.Int.{w32, to_be_bytes}
 use Rattle.std.specs.Net.Addr.{ipv4_octets, ipv6_octets, ipv6_segments, low_octets}
 use Rattle.std.specs.declared.net.ipv6_addr.Ipv6Addr.{Ipv6Addr}
@@ -9,6 +9,7 @@ use Rattle.ipfix_wire.specs.declared.specifier.ElementId.{ElementId}
 use Rattle.ipfix_message.specs.Fields.{Field}
 use Rattle.ipfix_message.specs.declared.record.DataRecord.{DataRecord}
 use Rattle.ipfix_session.specs.Given.{records_of}
+use Rattle.flow_filter.specs.Sinks.{counted, left_out}
 use Rattle.flow_table.specs.declared.context.Context.{Context}
 use Rattle.flow_table.specs.declared.context.TheConstants.{EXPORTER, EXPORTER_IPV4_ADDRESS, EXPORTER_IPV6_ADDRESS, OBSERVATION_DOMAIN_ID}
 use Rattle.flow_collect.specs.declared.session_context.Exporter.{Exporter}
@@ -59,11 +60,24 @@ module _ {S : Type 0} where
   abbrev pub sources_of : List (InContext S) → List S
   sources_of sources = map (λ (s : InContext S). s.source) sources
 
-  -- a source of whose session nothing is known beside its records
+  -- a source of whose session nothing is known beside its records, which all count
   abbrev pub alone : S → InContext S
-  alone source = record { source = source; context = NO_CONTEXT }
+  alone source = record { source = source; context = NO_CONTEXT; filter = None }
 
-  -- the records of these texts, each with what the session of its source knows
+  -- those of a session's own records that its filter counts, each with what the session knows
+  abbrev pub counted_in : InContext S → List DataRecord → List DataRecord
+  counted_in s own = counted s.filter (all_with_context s.context own)
+
+  -- how many of them it does not count
+  abbrev pub left_out_in : InContext S → List DataRecord → ℕ
+  left_out_in s own = left_out s.filter (all_with_context s.context own)
+
+  -- the records of these texts that count, each with what the session of its source knows
   abbrev pub records_in_context : List (InContext S) → List (List ℕ) → List (List DataRecord)
-  records_in_context (s ∷ sources) (text ∷ texts) = all_with_context s.context (records_of text) ∷ records_in_context sources texts
+  records_in_context (s ∷ sources) (text ∷ texts) = counted_in s (records_of text) ∷ records_in_context sources texts
   records_in_context sources texts = []
+
+  -- the records of all sessions, session after session, each with what its session knows, whether it counts or not
+  abbrev pub all_in_context : List (InContext S) → List (List DataRecord) → List DataRecord
+  all_in_context (s ∷ sources) (own ∷ owns) = all_with_context s.context own ++ all_in_context sources owns
+  all_in_context sources owns = []

@@ -25,9 +25,9 @@ pub record IsNewShare (plan : PlanValue) (links : List LinkName) (share : Worker
   pub paired : All (IsPaired links) share.link_ends.items
 
 module _ {S : Type 0} where
-  -- the source, and what its session knows
+  -- the source, what its session knows, and which of its records count
   abbrev pub given_to : Start S → InContext S
-  given_to start = record { source = start.source; context = start.context }
+  given_to start = record { source = start.source; context = start.context; filter = start.filter }
 
   abbrev pub start_link : Start S → LinkName
   start_link start = start.sender.link

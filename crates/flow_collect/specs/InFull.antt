@@ -1,5 +1,6 @@
 -- What a worker gets if sessions report in full, and what a run is without the rest.
-use Rattle.std.specs.Prelude.{◌≡◌, ◌+◌, ◌-◌, ◌%◌, ◌^◌, ◌<◌, List, ◌∷◌, length, map}
+use Rattle.std.specs.Prelude.{◌≡◌, ◌+◌, ◌-◌, ◌%◌, ◌^◌, ◌<◌, List, ◌∷◌, length, map, All, Option}
+use Rattle.std.specs.Borrow.{Bor}
 use Rattle.std.specs.List.{AllZip}
 use Rattle.ipfix_message.specs.Domains.{Message}
 use Rattle.ipfix_message.specs.declared.record.DataRecord.{DataRecord}
@@ -14,20 +15,28 @@ use Rattle.ipfix_session.specs.declared.report.SessionReport.{SessionReport}
 use Rattle.flow_table.specs.Plans.{PlanValue}
 use Rattle.flow_table.specs.SameTables.{IsSameTable}
 use Rattle.flow_table.specs.declared.table.Table.{Table}
-use Rattle.flow_collect.specs.Contexts.{all_with_context}
-use Rattle.flow_collect.specs.Headline.{Answer, HeadlineWith, IsGivenBy, SerialHeadlineWith}
+use Rattle.flow_filter.specs.Sinks.{counted}
+use Rattle.flow_filter.specs.declared.filter.Filter.{Filter}
+use Rattle.flow_collect.specs.Contexts.{all_in_context, counted_in, left_out_in, sources_of}
+use Rattle.flow_collect.specs.Headline.{Answer, HeadlineWith, IsAddedUp, IsGivenBy, SerialHeadlineWith}
+use Rattle.flow_collect.specs.Places.{Each4}
 use Rattle.flow_collect.specs.declared.collected.Pool.{Pool}
 use Rattle.flow_collect.specs.declared.collected.Collected.{Collected}
+use Rattle.flow_collect.specs.declared.collected.FilteredReport.{FilteredReport}
 use Rattle.flow_collect.specs.declared.collected.Serial.{Serial}
 use Rattle.flow_collect.specs.declared.session_context.InContext.{InContext}
 
 -- what `collect_flat` answers
 abbrev pub FullAnswer : Type 0 → Type 0
-FullAnswer S = Collected S FullReport Table
+FullAnswer S = Collected S FilteredReport Table
 
 -- what `collect_direct` answers
 abbrev pub FullSerialAnswer : Type 0 → Type 0
-FullSerialAnswer S = Serial S FullReport Table
+FullSerialAnswer S = Serial S FilteredReport Table
+
+-- the reports in full, without how many records were left out
+abbrev pub fulls_in : List FilteredReport → List FullReport
+fulls_in reports = map (λ (told : FilteredReport). told.full) reports
 
 -- the reports as they are without the rest
 abbrev pub reports_in : List FullReport → List SessionReport
@@ -50,11 +59,13 @@ module _ {S : Type 0} (seen : S → SourceView) where
     pub given : IsGivenBy seen before after full.report records
     pub told : ReportsInFull full given.counted (length records)
 
-  -- and with context: these are the records that the source gave, each with what its session knows after its own fields
-  pub record IsGivenInContext (before : InContext S) (after : S) (full : FullReport) (records : List DataRecord) : Type 0 where
+  -- and with context: of the records that the source gave, each with what its session knows after its own fields, these are
+  -- the ones that the session's filter counts, each once and in order; and the report tells how many others there were
+  pub record IsGivenInContext (before : InContext S) (after : S) (told : FilteredReport) (records : List DataRecord) : Type 0 where
     pub own : List DataRecord
-    pub given : IsGivenInFull before.source after full own
-    pub records_are : records ≡ all_with_context before.context own
+    pub given : IsGivenInFull before.source after told.full own
+    pub records_are : records ≡ counted_in before own
+    pub filtered_is : told.filtered ≡ left_out_in before own
 
   -- the headline, if a worker gets these records
   abbrev pub FullHeadline : List (InContext S) → PlanValue → Pool → FullAnswer S → Type 0
@@ -64,14 +75,26 @@ module _ {S : Type 0} (seen : S → SourceView) where
   abbrev pub FullSerialHeadline : List (InContext S) → PlanValue → FullSerialAnswer S → Type 0
   FullSerialHeadline sources plan s = SerialHeadlineWith IsGivenInContext sources plan s
 
+  -- a run without links, of sessions that all have this filter
+  pub record HasOneFilter (f : Option (Bor Filter)) (sources : List (InContext S)) (plan : PlanValue) (s : FullSerialAnswer S) : Type 0 where
+    pub headline : FullSerialHeadline sources plan s
+    pub same : All (λ (source : InContext S). source.filter ≡ f) sources
+
+  -- of all records that the sources gave, each with what its session knows, the table is the aggregate of those that this
+  -- filter counts
+  pub record IsOfCounted (f : Option (Bor Filter)) (sources : List (InContext S)) (plan : PlanValue) (s : FullSerialAnswer S) : Type 0 where
+    pub own : List (List DataRecord)
+    pub given : Each4 IsGivenInFull (sources_of sources) s.sources.items (fulls_in s.sessions.items) own
+    pub added_up : IsAddedUp plan (counted f (all_in_context sources own)) s.table
+
   -- each domain's ledger balances, of the messages that the report counts
-  pub record HasBalanced (before : InContext S) (after : S) (full : FullReport) (records : List DataRecord) : Type 0 where
-    pub given : IsGivenInContext before after full records
-    pub balanced : AllZip (IsBalanced given.given.given.counted) full.report.domains.items full.balances.items
+  pub record HasBalanced (before : InContext S) (after : S) (told : FilteredReport) (records : List DataRecord) : Type 0 where
+    pub given : IsGivenInContext before after told records
+    pub balanced : AllZip (IsBalanced given.given.given.counted) told.full.report.domains.items told.full.balances.items
 
 -- the same run, with reports that aren't in full, and a table that says the same
 pub record IsWithoutRest {S : Type 0} (c : FullAnswer S) (short : Answer S) : Type 0 where
-  pub sessions_are : short.sessions.items ≡ reports_in c.sessions.items
+  pub sessions_are : short.sessions.items ≡ reports_in (fulls_in c.sessions.items)
   pub links_are : short.links ≡ c.links
   pub sources_are : short.sources ≡ c.sources
   pub same : IsSameTable c.table short.table

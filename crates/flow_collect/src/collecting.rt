@@ -1,12 +1,13 @@
 //! Collecting in threads. What is handed from call to call, and what each holds then:
 //!
 //! ```text
-//! deal         makes of each source, with its context, a Start: its number, both, and its link's sender, unused;
+//! deal         makes of each source, with its context and its filter, a Start: its number, these, and its link's sender,
+//!              unused;
 //!              makes for each link a LinkEnd: the session's number, and the receiver, unused;
 //!              makes for each worker a WorkerShare: its number, its ends of links, and the table of no records.
 //!
 //! in_threads   gives each Start to a thread of its own, which hands back an EndedSession: the
-//!              source as it was left, the report, and the sender, with all records and then Last sent;
+//!              source as it was left, the report, and the sender, with all records that count and then Last sent;
 //!              gives each WorkerShare to a thread of its own, which hands it back with Last taken from each
 //!              end, and the table of all records that came over them.
 //!              A thread that couldn't send or take all hands back nothing: the run has no answer.
@@ -24,7 +25,7 @@ ghost use Rattle.flow_collect.specs.Dealt.{IsCapacity};
 ghost use Rattle.flow_collect.specs.InFull.{FullHeadline};
 ghost use Rattle.flow_collect.specs.Refusals.{fault_of_arguments, AreTooLargeInContext, HasFaultsInContext};
 
-use crate::collected::{Collected, MAX_SESSIONS, MAX_WORKERS, Pool};
+use crate::collected::{Collected, FilteredReport, MAX_SESSIONS, MAX_WORKERS, Pool};
 use crate::dealing::deal;
 use crate::fault::CollectFault;
 use crate::gate::Gate;
@@ -34,14 +35,14 @@ use crate::shortage::Shortage;
 use crate::threads::in_threads;
 use flow_link::MAX_CAPACITY;
 use flow_table::{FlatTable, Plan};
-use ipfix_session::{FullReport, Source};
+use ipfix_session::Source;
 use std::alloc::Global;
 use std::sync::Wait;
 use std::thread::Threads;
 
-/// Does what [`collect`](crate::collect) does, appends what a session knows to each of its records, and reports
-/// each session in full: with what its domains passed over, the gaps after their unknown sets, and the place where
-/// it stopped. The rows of the table are made as they are asked for. The faults are the same; `OutOfMemory` may
+/// Does what [`collect`](crate::collect) does, appends what a session knows to each of its records, leaves out those
+/// that its filter does not count, and reports each session in full: with what its domains passed over, the gaps after
+/// their unknown sets, the place where it stopped, and how many records were left out. The rows of the table are made as they are asked for. The faults are the same; `OutOfMemory` may
 /// come of appending, too.
 pub fn collect_flat<S: Source + Send + Drop, G: Gate + Sync, R: Threads + Wait + Sync>(
     rt: &R,
@@ -50,13 +51,13 @@ pub fn collect_flat<S: Source + Send + Drop, G: Gate + Sync, R: Threads + Wait +
     plan: &Plan,
     pool: Pool,
     gate: &G,
-) -> Result<Collected<S, FullReport, FlatTable>, CollectFault>
-    // The headline, with each session's context, and each report in full.
-    ensures ok { IfOk result (FullHeadline S.seen sources.items plan.now pool) }
+) -> Result<Collected<S, FilteredReport, FlatTable>, CollectFault>
+    // The headline, with each session's context and filter, and each report in full.
+    ensures ok { IfOk result (FullHeadline S.seen sources.entry.items plan.now pool) }
     // The table fits the plan, as an export asks.
     ensures fits { IfOk result (λ c. FitsPlan plan.now c.table) }
     // Exactly the first fault of the arguments, if they have one; `SumTooLarge` only if it is due.
-    ensures faults { HasFaultsInContext S.seen sources plan.now pool result }
+    ensures faults { HasFaultsInContext S.seen sources.entry plan.now pool result }
 {
     if let Some(fault) = judge(pool, sources.len()) {
         return Err(fault);
@@ -102,10 +103,10 @@ fn collect_judged<S: Source + Send + Drop, G: Gate + Sync, R: Threads + Wait + S
     plan: &Plan,
     pool: Pool,
     gate: &G,
-) -> Result<Option<Collected<S, FullReport, FlatTable>>, Shortage>
+) -> Result<Option<Collected<S, FilteredReport, FlatTable>>, Shortage>
     requires { IsCapacity pool.capacity }
-    ensures { IfOk result (λ answer. MatchOption answer (AreTooLargeInContext S.seen plan.now sources.items)
-        (λ c. FullHeadline S.seen sources.items plan.now pool c × FitsPlan plan.now c.table)) }
+    ensures { IfOk result (λ answer. MatchOption answer (AreTooLargeInContext S.seen plan.now sources.entry.items)
+        (λ c. FullHeadline S.seen sources.entry.items plan.now pool c × FitsPlan plan.now c.table)) }
 {
     let (starts, shares) = deal(alloc, sources, plan, pool)?;
     let (ended, worked) = in_threads(rt, alloc, gate, starts, shares)?;

@@ -16,14 +16,14 @@ use std::collections::VecDeque;
 
 /// Makes a link for each source. Its sending end stands in the first part, in the order of the
 /// sources. Its receiving end goes to the shares of the workers, by turns.
-pub fn deal<S: Drop>(
+pub fn deal<'a, S: Drop>(
     alloc: Global,
-    sources: Vec<InContext<S>>,
+    sources: Vec<InContext<'a, S>>,
     plan: &Plan,
     pool: Pool,
-) -> Result<(VecDeque<Start<S>>, VecDeque<WorkerShare>), Shortage>
+) -> Result<(VecDeque<Start<'a, S>>, VecDeque<WorkerShare>), Shortage>
     requires { IsCapacity pool.capacity }
-    ensures dealt { IfOk result (λ d. IsDealt plan.now pool.capacity sources.items
+    ensures dealt { IfOk result (λ d. IsDealt plan.now pool.capacity sources.entry.items
         d.0.items d.1.items) }
     ensures workers { IfOk result (λ d. length d.1.items ≡ pool.workers) }
 {
@@ -67,15 +67,15 @@ fn empty_share(alloc: Global, plan: &Plan, worker: usize) -> Result<WorkerShare,
 
 // A new link: its sender goes to the source, and its receiver to the first share, which goes to the
 // end.
-fn deal_one<S: Drop>(
+fn deal_one<'a, S: Drop>(
     alloc: Global,
     capacity: usize,
-    given: InContext<S>,
-    starts: &mut VecDeque<Start<S>>,
+    given: InContext<'a, S>,
+    starts: &mut VecDeque<Start<'a, S>>,
     shares: &mut VecDeque<WorkerShare>,
 ) -> Result<(), Shortage>
     requires { IsCapacity capacity }
-    ensures { OnOk result (DealsOne capacity given starts.old.items shares.old.items
+    ensures { OnOk result (DealsOne capacity given.entry starts.old.items shares.old.items
         starts.new.items shares.new.items) }
 {
     let (sender, receiver) = new_link(alloc, capacity)?;
@@ -83,12 +83,17 @@ fn deal_one<S: Drop>(
         return Err(Shortage::NoThread);
     };
     let session = starts.len();
-    let InContext { source, context } = given;
+    let InContext {
+        source,
+        context,
+        filter,
+    } = given;
     let link_end = new_link_end(session, receiver);
     starts.push_back(Start {
         session,
         source,
         context,
+        filter,
         sender,
     })?;
     share.link_ends.push(link_end)?;

@@ -5,20 +5,20 @@ ghost use Rattle.flow_table.specs.Fitting.{FitsPlan};
 ghost use Rattle.flow_collect.specs.InFull.{FullSerialHeadline};
 ghost use Rattle.flow_collect.specs.Refusals.{fault_of_lots, AreTooLargeInContext, HasFaultsInLots};
 
-use crate::collected::{MAX_WORKERS, Serial};
+use crate::collected::{FilteredReport, MAX_WORKERS, Serial};
 use crate::fault::CollectFault;
 use crate::lots::{Lot, drive_lots};
 use crate::session_context::InContext;
 use flow_table::{FlatTable, Plan, TableFault};
-use ipfix_session::{FullReport, Source};
+use ipfix_session::Source;
 use std::alloc::{AllocError, Global};
 use std::thread::Threads;
 
 /// Collects without links, from any number of sources: cuts them into at most `lots` lots of neighbours, as even
 /// as can be, drives the sources of a lot one after another on one thread, the lots side by side, and merges the
 /// lots' tables by halves. A lot for which no thread can be had is driven on this one. What a session knows is
-/// appended to each of its records. Each session is reported in full, and the rows of the table are made as they
-/// are asked for.
+/// appended to each of its records, and of these the table is of those that its filter counts. Each session is reported
+/// in full, and the rows of the table are made as they are asked for.
 ///
 /// It reads a source at most [`READ_LIMIT`](crate::READ_LIMIT) times. A session's own fault stands in its report. Each
 /// thread has ended when it returns.
@@ -32,13 +32,13 @@ pub fn collect_direct<S: Source + Send + Drop, R: Threads + Sync>(
     sources: Vec<InContext<S>>,
     plan: &Plan,
     lots: usize,
-) -> Result<Serial<S, FullReport, FlatTable>, CollectFault>
+) -> Result<Serial<S, FilteredReport, FlatTable>, CollectFault>
     // The headline, without links, with each session's context, and each report in full.
-    ensures ok { IfOk result (FullSerialHeadline S.seen sources.items plan.now) }
+    ensures ok { IfOk result (FullSerialHeadline S.seen sources.entry.items plan.now) }
     // The table fits the plan, as an export asks.
     ensures fits { IfOk result (λ s. FitsPlan plan.now s.table) }
     // Exactly the first fault of the arguments, if they have one; `SumTooLarge` only if it is due.
-    ensures faults { HasFaultsInLots S.seen sources plan.now lots result }
+    ensures faults { HasFaultsInLots S.seen sources.entry plan.now lots result }
     // There is always a thread: this one.
     ensures has_thread { IsErrOf result CollectFault.NoThread → ⊥ }
 {
@@ -73,9 +73,9 @@ fn collect_lots<S: Source + Send + Drop, R: Threads + Sync>(
     sources: Vec<InContext<S>>,
     plan: &Plan,
     lots: usize,
-) -> Result<Option<Serial<S, FullReport, FlatTable>>, AllocError>
-    ensures { IfOk result (λ answer. MatchOption answer (AreTooLargeInContext S.seen plan.now sources.items)
-        (λ s. FullSerialHeadline S.seen sources.items plan.now s × FitsPlan plan.now s.table)) }
+) -> Result<Option<Serial<S, FilteredReport, FlatTable>>, AllocError>
+    ensures { IfOk result (λ answer. MatchOption answer (AreTooLargeInContext S.seen plan.now sources.entry.items)
+        (λ s. FullSerialHeadline S.seen sources.entry.items plan.now s × FitsPlan plan.now s.table)) }
 {
     // A lot has at least one source.
     let lots = lots.min(sources.len());

@@ -22,7 +22,7 @@ mod threads;
 mod without_rest;
 mod worker;
 
-pub use collected::{Collected, MAX_SESSIONS, MAX_WORKERS, Pool, Serial};
+pub use collected::{Collected, FilteredReport, MAX_SESSIONS, MAX_WORKERS, Pool, Serial};
 pub use collecting::{collect_flat, refusal};
 pub use context_fields::ContextFields;
 pub use direct::{collect_direct, direct_refusal};

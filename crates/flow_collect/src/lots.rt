@@ -6,22 +6,24 @@ ghost use Rattle.ipfix_message.specs.declared.record.DataRecord.{DataRecord};
 ghost use Rattle.flow_table.specs.Partials.{plan_of};
 ghost use Rattle.flow_collect.specs.Serials.{LotRan, MergesLots, RunsOne};
 
+use crate::collected::FilteredReport;
 use crate::context_fields::ContextFields;
 use crate::context_sink::ContextSink;
 use crate::session_context::InContext;
+use flow_filter::FilterSink;
 use flow_table::{Partial, Plan, TableFault};
 use ipfix_message::DataRecord;
-use ipfix_session::{FullReport, READ_LIMIT, Sink, Source, drive_in_full};
+use ipfix_session::{READ_LIMIT, Sink, Source, drive_in_full};
 use std::alloc::{AllocError, Global};
 use std::collections::VecDeque;
 use std::thread::{Threads, join};
 
 /// Sources that were driven, what each session tells of itself, in the same order, and the table of all
-/// their records.
+/// their records that count.
 #[derive(Drop)]
 pub struct Lot<S> {
     pub sources: Vec<S>,
-    pub sessions: Vec<FullReport>,
+    pub sessions: Vec<FilteredReport>,
     pub partial: Partial,
 }
 
@@ -56,7 +58,7 @@ pub fn drive_lots<S: Source + Send + Drop, R: Threads + Sync>(
     plan: &Plan,
     lots: usize,
 ) -> Result<Lot<S>, AllocError>
-    ensures { IfOk result (LotRan S.seen sources.items plan.now) }
+    ensures { IfOk result (LotRan S.seen sources.entry.items plan.now) }
 {
     if lots < 2 || sources.len() < 2 {
         return drive_in_turn(alloc, sources, plan);
@@ -65,11 +67,11 @@ pub fn drive_lots<S: Source + Send + Drop, R: Threads + Sync>(
     let high = low.split_off(size_of_half(low.len(), lots))?;
     let front = move || -> Result<Lot<S>, AllocError>
         requires { IsSync R.row }
-        ensures { IfOk result (LotRan S.seen low.items plan.entry.now) }
+        ensures { IfOk result (LotRan S.seen low.entry.items plan.entry.now) }
     { drive_lots(rt, alloc, low, plan, lots / 2) };
     let back = move || -> Result<Lot<S>, AllocError>
         requires { IsSync R.row }
-        ensures { IfOk result (LotRan S.seen high.items plan.entry.now) }
+        ensures { IfOk result (LotRan S.seen high.entry.items plan.entry.now) }
     { drive_lots(rt, alloc, high, plan, lots - lots / 2) };
     let (first, second) = join(rt, front, back);
     let mut all = first?;
@@ -87,14 +89,14 @@ fn size_of_half(sources: usize, lots: usize) -> usize
     sources / lots * half + half.min(sources % lots)
 }
 
-/// Drives one source after another to its end, its first fault or 2^40 reads, and adds all records, each with its
-/// session's context, to one table.
+/// Drives one source after another to its end, its first fault or 2^40 reads, and adds all records that count, each
+/// with its session's context, to one table.
 pub fn drive_in_turn<S: Source + Drop>(
     alloc: Global,
     sources: Vec<InContext<S>>,
     plan: &Plan,
 ) -> Result<Lot<S>, AllocError>
-    ensures { IfOk result (LotRan S.seen sources.items plan.now) }
+    ensures { IfOk result (LotRan S.seen sources.entry.items plan.now) }
 {
     let Ok(partial) = Partial::new(alloc, plan) else {
         return Err(AllocError);
@@ -117,26 +119,29 @@ fn drive_one<S: Source + Drop>(
     next: InContext<S>,
     lot: Lot<S>,
 ) -> Result<Lot<S>, AllocError>
-    ensures { IfOk result (RunsOne S.seen next lot) }
+    ensures { IfOk result (RunsOne S.seen next.entry lot) }
 {
     let InContext {
         mut source,
         context,
+        filter,
     } = next;
     let Lot {
         mut sources,
         mut sessions,
         partial,
     } = lot;
+    let table = TableSink { partial };
     let fields = ContextFields::new(alloc, context)?;
-    let mut sink = ContextSink::new(fields, TableSink { partial });
-    let report = drive_in_full(alloc, &mut source, &mut sink, READ_LIMIT);
+    let mut sink = ContextSink::new(fields, FilterSink::new(filter, table));
+    let full = drive_in_full(alloc, &mut source, &mut sink, READ_LIMIT);
     if sink.lost.is_some() || sink.refused > 0 {
         return Err(AllocError);
     }
+    let filtered = sink.sink.filtered;
     sources.push(source)?;
-    sessions.push(report)?;
-    let TableSink { partial } = sink.sink;
+    sessions.push(FilteredReport { full, filtered })?;
+    let TableSink { partial } = sink.sink.sink;
     Ok(Lot {
         sources,
         sessions,

@@ -3,6 +3,7 @@
 ghost use Rattle.std.specs.Prelude.{◌≡◌, ◌≤◌, ◌++◌, length, map, IfOk, OnOk};
 ghost use Rattle.flow_collect.specs.Contexts.{alone, context_fields, exporter_at, exporter_fields, mapped, named};
 
+use flow_filter::Filter;
 use flow_table::{
     Context, EXPORTER, EXPORTER_IPV4_ADDRESS, EXPORTER_IPV6_ADDRESS, OBSERVATION_DOMAIN_ID,
 };
@@ -130,18 +131,20 @@ fn mapped_octets(address: [u8; 4]) -> [u8; 16]
     [0, 0, 0, 0, 0, 0, 0, 0, 0, 0, 255, 255, a, b, c, d]
 }
 
-/// A source, and what its session knows beside a record.
+/// A source, what its session knows beside a record, and which of its records count.
 #[derive(Drop)]
-pub struct InContext<S> {
+pub struct InContext<'a, S> {
     pub source: S,
     pub context: SessionContext,
+    /// Which records count, by their own fields and those of the context. Without a filter all do.
+    pub filter: Option<&'a Filter>,
 }
 
-/// The sources, each in no context.
-pub fn in_no_context<S: Drop>(
+/// The sources, each in no context and without a filter.
+pub fn in_no_context<'a, S: Drop>(
     alloc: Global,
     sources: Vec<S>,
-) -> Result<Vec<InContext<S>>, AllocError>
+) -> Result<Vec<InContext<'a, S>>, AllocError>
     ensures { IfOk result (λ all. all.items ≡ map alone sources.items) }
 {
     let mut waiting = VecDeque::from_vec(sources);
@@ -150,6 +153,7 @@ pub fn in_no_context<S: Drop>(
         all.push(InContext {
             source,
             context: NO_CONTEXT,
+            filter: None,
         })?;
     }
     Ok(all)

@@ -3,37 +3,41 @@
 ghost use Rattle.std.specs.Prelude.{◌≡◌, [], IfOk};
 ghost use Rattle.flow_collect.specs.Sessions.{SessionRan};
 
+use crate::collected::FilteredReport;
 use crate::context_fields::ContextFields;
 use crate::context_sink::ContextSink;
 use crate::gate::Gate;
 use crate::link_sink::LinkSink;
 use crate::session_context::SessionContext;
 use crate::shortage::Shortage;
+use flow_filter::{Filter, FilterSink};
 use flow_link::Sender;
-use ipfix_session::{FullReport, READ_LIMIT, Source, drive_in_full};
+use ipfix_session::{READ_LIMIT, Source, drive_in_full};
 use std::alloc::Global;
 use std::sync::Wait;
 
 /// What a session's thread is given.
 #[derive(Drop)]
-pub struct Start<S> {
+pub struct Start<'a, S> {
     /// The session's number, counted from 0.
     pub session: usize,
     pub source: S,
     /// What the session knows beside a record.
     pub context: SessionContext,
+    /// Which of its records count.
+    pub filter: Option<&'a Filter>,
     pub sender: Sender,
 }
 
 /// What a session's thread hands back once all went over its link, and Last after it.
 #[derive(Drop)]
 pub struct EndedSession<S> {
-    pub report: FullReport,
+    pub report: FilteredReport,
     pub source: S,
     pub sender: Sender,
 }
 
-/// Runs a session to its end, and then sends Last, whatever ended it.
+/// Runs a session to its end, sends the records that count, and then Last, whatever ended it.
 ///
 /// The fault is `OutOfMemory` if a record's context could not be appended; `NoThread` if the receiver was gone
 /// before Last.
@@ -44,19 +48,21 @@ pub fn run_session<S: Source + Drop, G: Gate, R: Wait>(
     start: Start<S>,
 ) -> Result<EndedSession<S>, Shortage>
     requires { start.sender.sent ≡ [] }
-    ensures { IfOk result (SessionRan S.seen start) }
+    ensures { IfOk result (SessionRan S.seen start.entry) }
 {
     let Start {
         session,
         source,
         context,
+        filter,
         sender,
     } = start;
     let mut source = source;
+    let link = LinkSink::new(rt, gate, session, sender);
     let fields = ContextFields::new(alloc, context)?;
-    let mut sink = ContextSink::new(fields, LinkSink::new(rt, gate, session, sender));
-    let report = drive_in_full(alloc, &mut source, &mut sink, READ_LIMIT);
-    let sent = sink.sink.send_last();
+    let mut sink = ContextSink::new(fields, FilterSink::new(filter, link));
+    let full = drive_in_full(alloc, &mut source, &mut sink, READ_LIMIT);
+    let sent = sink.sink.sink.send_last();
     if let Some(shortage) = sink.lost {
         return Err(shortage);
     }
@@ -64,8 +70,11 @@ pub fn run_session<S: Source + Drop, G: Gate, R: Wait>(
         return Err(Shortage::NoThread);
     }
     Ok(EndedSession {
-        report,
+        report: FilteredReport {
+            full,
+            filtered: sink.sink.filtered,
+        },
         source,
-        sender: sink.sink.sender,
+        sender: sink.sink.sink.sender,
     })
 }

@@ -1,7 +1,7 @@
 //! Once all threads have been joined: the links are settled, and the tables merged.
 
+use crate::collected::FilteredReport;
 use flow_link::Settled;
-use ipfix_session::FullReport;
 
 mod finishing;
 mod gathering;
@@ -12,7 +12,7 @@ pub use finishing::finish_all;
 // What is known of the sessions, in order.
 #[derive(Drop)]
 struct Parts<S> {
-    sessions: Vec<FullReport>,
+    sessions: Vec<FilteredReport>,
     links: Vec<Settled>,
     sources: Vec<S>,
 }

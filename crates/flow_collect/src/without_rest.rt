@@ -3,16 +3,16 @@
 ghost use Rattle.std.specs.Prelude.{◌≡◌, IfOk};
 ghost use Rattle.flow_table.specs.Fitting.{FitsPlan};
 ghost use Rattle.flow_collect.specs.Headline.{Headline};
-ghost use Rattle.flow_collect.specs.InFull.{IsWithoutRest, reports_in};
+ghost use Rattle.flow_collect.specs.InFull.{IsWithoutRest, fulls_in, reports_in};
 ghost use Rattle.flow_collect.specs.Refusals.{HasFaults};
 
-use crate::collected::{Collected, Pool};
+use crate::collected::{Collected, FilteredReport, Pool};
 use crate::collecting::{collect_flat, refusal};
 use crate::fault::CollectFault;
 use crate::gate::Gate;
 use crate::session_context::in_no_context;
 use flow_table::{FlatTable, Plan};
-use ipfix_session::{FullReport, SessionReport, Source};
+use ipfix_session::{SessionReport, Source};
 use std::alloc::{AllocError, Global};
 use std::collections::VecDeque;
 use std::sync::Wait;
@@ -58,7 +58,7 @@ pub fn collect<S: Source + Send + Drop, G: Gate + Sync, R: Threads + Wait + Sync
 
 fn without_rest<S: Drop>(
     alloc: Global,
-    collected: Collected<S, FullReport, FlatTable>,
+    collected: Collected<S, FilteredReport, FlatTable>,
 ) -> Result<Collected<S>, AllocError>
     ensures { IfOk result (λ short. IsWithoutRest collected short) }
 {
@@ -78,23 +78,23 @@ fn without_rest<S: Drop>(
     })
 }
 
-fn report_of(full: FullReport) -> SessionReport
-    ensures { result ≡ full.report }
+fn report_of(told: FilteredReport) -> SessionReport
+    ensures { result ≡ told.full.report }
 {
-    full.report
+    told.full.report
 }
 
 /// The reports without the rest.
 pub fn short_reports(
     alloc: Global,
-    sessions: Vec<FullReport>,
+    sessions: Vec<FilteredReport>,
 ) -> Result<Vec<SessionReport>, AllocError>
-    ensures { IfOk result (λ reports. reports.items ≡ reports_in sessions.items) }
+    ensures { IfOk result (λ reports. reports.items ≡ reports_in (fulls_in sessions.items)) }
 {
     let mut waiting = VecDeque::from_vec(sessions);
     let mut reports = Vec::new(alloc);
-    while let Some(full) = waiting.pop_front() {
-        reports.push(report_of(full))?;
+    while let Some(told) = waiting.pop_front() {
+        reports.push(report_of(told))?;
     }
     Ok(reports)
 }

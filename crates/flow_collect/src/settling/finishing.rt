@@ -8,12 +8,11 @@ ghost use Rattle.flow_collect.specs.Finished.{HasTaken, ended_link, link_ends_of
 use super::Parts;
 use super::gathering::gather;
 use super::pairing::settle_all;
-use crate::collected::Collected;
+use crate::collected::{Collected, FilteredReport};
 use crate::session_thread::EndedSession;
 use crate::shortage::Shortage;
 use crate::worker::WorkerShare;
 use flow_table::{FlatTable, TableFault};
-use ipfix_session::FullReport;
 use std::alloc::Global;
 use std::collections::VecDeque;
 use std::thread::Threads;
@@ -24,7 +23,7 @@ pub fn finish_all<S: Drop, R: Threads + Sync>(
     alloc: Global,
     ended: VecDeque<EndedSession<S>>,
     worked: VecDeque<WorkerShare>,
-) -> Result<Option<Collected<S, FullReport, FlatTable>>, Shortage>
+) -> Result<Option<Collected<S, FilteredReport, FlatTable>>, Shortage>
     requires taken { (plan : PlanValue) × All (HasTaken plan) worked.items }
     requires paired { All (IsPaired (map ended_link ended.items)) (link_ends_of worked.items) }
     ensures { (plan : PlanValue) → All (HasTaken plan) worked.items

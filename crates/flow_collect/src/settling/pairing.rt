@@ -5,11 +5,11 @@ ghost use Rattle.flow_collect.specs.Dealt.{IsPaired};
 ghost use Rattle.flow_collect.specs.Finished.{ended_link, SettledAll, SettlesOne};
 
 use super::Parts;
+use crate::collected::FilteredReport;
 use crate::session_thread::EndedSession;
 use crate::shortage::Shortage;
 use crate::worker::LinkEnd;
 use flow_link::{Settled, settle};
-use ipfix_session::FullReport;
 use std::alloc::{AllocError, Global};
 use std::collections::VecDeque;
 
@@ -78,7 +78,7 @@ fn settle_one<S: Drop>(
 
 fn push_all<S: Drop>(
     parts: &mut Parts<S>,
-    report: FullReport,
+    report: FilteredReport,
     link: Settled,
     source: S,
 ) -> Result<(), AllocError>

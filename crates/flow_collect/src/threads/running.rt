@@ -21,16 +21,16 @@ use std::thread;
 use std::thread::{Scope, Threads};
 
 /// Runs each session and each worker in a thread of its own, and joins them all.
-pub fn in_threads<S: Source + Send + Drop, G: Gate + Sync, R: Threads + Wait + Sync>(
+pub fn in_threads<'f, S: Source + Send + Drop, G: Gate + Sync, R: Threads + Wait + Sync>(
     rt: &R,
     alloc: Global,
     gate: &G,
-    starts: VecDeque<Start<S>>,
+    starts: VecDeque<Start<'f, S>>,
     shares: VecDeque<WorkerShare>,
 ) -> Result<(VecDeque<EndedSession<S>>, VecDeque<WorkerShare>), Shortage>
     requires unused { All (λ start. start.sender.sent ≡ []) starts.items }
     requires shares { All IsUnused shares.items }
-    ensures sessions { IfOk result (λ r. AllZip (SessionRan S.seen) starts.items r.0.items) }
+    ensures sessions { IfOk result (λ r. AllZip (SessionRan S.seen) starts.entry.items r.0.items) }
     ensures workers { IfOk result (λ r. AllZip WorkerRan shares.items r.1.items) }
 {
     thread::scope(
@@ -40,7 +40,7 @@ pub fn in_threads<S: Source + Send + Drop, G: Gate + Sync, R: Threads + Wait + S
             requires unused { All (λ start. start.sender.sent ≡ []) starts.items }
             requires shares { All IsUnused shares.items }
             ensures sessions { IfOk result
-                (λ r. AllZip (SessionRan S.seen) starts.items r.0.items) }
+                (λ r. AllZip (SessionRan S.seen) starts.entry.items r.0.items) }
             ensures workers { IfOk result (λ r. AllZip WorkerRan shares.items r.1.items) }
         { run_all(scope, rt, alloc, gate, starts, shares) },
     )
@@ -48,17 +48,17 @@ pub fn in_threads<S: Source + Send + Drop, G: Gate + Sync, R: Threads + Wait + S
 
 // The workers start first. If a thread can't be started, the ends that are left are dropped, so
 // that those which run end by themselves.
-fn run_all<'s, 'e, S: Source + Send + Drop + 's, G: Gate + Sync, R: Threads + Wait + Sync>(
+fn run_all<'s, 'e, 'f: 's, S: Source + Send + Drop + 's, G: Gate + Sync, R: Threads + Wait + Sync>(
     scope: &'s Scope<'s, &'e ()>,
     rt: &'s R,
     alloc: Global,
     gate: &'s G,
-    starts: VecDeque<Start<S>>,
+    starts: VecDeque<Start<'f, S>>,
     shares: VecDeque<WorkerShare>,
 ) -> Result<(VecDeque<EndedSession<S>>, VecDeque<WorkerShare>), Shortage>
     requires unused { All (λ start. start.sender.sent ≡ []) starts.items }
     requires shares { All IsUnused shares.items }
-    ensures sessions { IfOk result (λ r. AllZip (SessionRan S.seen) starts.items r.0.items) }
+    ensures sessions { IfOk result (λ r. AllZip (SessionRan S.seen) starts.entry.items r.0.items) }
     ensures workers { IfOk result (λ r. AllZip WorkerRan shares.items r.1.items) }
 {
     let for_workers = room(alloc, shares.len())?;

@@ -17,11 +17,11 @@ use std::thread::{Promise, PromisedHandle, Scope, Threads};
 
 /// What a session's thread promises: it runs what it was given.
 #[derive(Drop)]
-pub struct SessionOf<S> {
-    pub start: Snapshot<Start<S>>,
+pub struct SessionOf<'a, S> {
+    pub start: Snapshot<Start<'a, S>>,
 }
 
-impl<S: Source> Promise<Result<EndedSession<S>, Shortage>> for SessionOf<S> {
+impl<'a, S: Source> Promise<Result<EndedSession<S>, Shortage>> for SessionOf<'a, S> {
     ghost kept_by = { λ p r. IfOk r (SessionRan S.seen p.start.value) };
 }
 
@@ -30,6 +30,7 @@ impl<S: Source> Promise<Result<EndedSession<S>, Shortage>> for SessionOf<S> {
 pub fn start_sessions<
     's,
     'e,
+    'f: 's,
     S: Source + Send + Drop + 's,
     G: Gate + Sync,
     R: Threads + Wait + Sync,
@@ -38,18 +39,18 @@ pub fn start_sessions<
     rt: &'s R,
     alloc: Global,
     gate: &'s G,
-    starts: VecDeque<Start<S>>,
-    room: VecDeque<PromisedHandle<Result<EndedSession<S>, Shortage>, SessionOf<S>>>,
+    starts: VecDeque<Start<'f, S>>,
+    room: VecDeque<PromisedHandle<Result<EndedSession<S>, Shortage>, SessionOf<'f, S>>>,
 ) -> (
-    VecDeque<PromisedHandle<Result<EndedSession<S>, Shortage>, SessionOf<S>>>,
+    VecDeque<PromisedHandle<Result<EndedSession<S>, Shortage>, SessionOf<'f, S>>>,
     bool,
 )
     requires unused { All (λ start. start.sender.sent ≡ []) starts.items }
     requires room { (room.items ≡ []) × (deque_len room ≡ 0)
         × (deque_len starts ≤ deque_capacity room) }
-    ensures count { deque_len result.0 ≤ deque_len starts }
+    ensures count { deque_len result.0 ≤ deque_len starts.entry }
     ensures started { IsTrue result.1
-        → AllZip (λ start h. h.promise.start.value ≡ start) starts.items result.0.items }
+        → AllZip (λ start h. h.promise.start.value ≡ start) starts.entry.items result.0.items }
 {
     let mut starts = starts;
     let mut handles = room;

@@ -139,7 +139,7 @@ fn only_what_is_wanted_is_appended(rt: HostRuntime) -> Result<(), Fail> {
 fn three_sessions(
     alloc: Global,
     wanted: Context,
-) -> Result<Vec<InContext<ScriptSource>>, AllocError> {
+) -> Result<Vec<InContext<'static, ScriptSource>>, AllocError> {
     let mut sources = Vec::new(alloc);
     for exporter in [Some(Exporter::Ipv4(IPV4)), Some(Exporter::Ipv6(IPV6)), None] {
         let mut one = sources_of(alloc, &[&[ONE_FLOW]])?;
@@ -147,6 +147,7 @@ fn three_sessions(
             sources.push(InContext {
                 source,
                 context: SessionContext { exporter, wanted },
+                filter: None,
             })?;
         }
     }

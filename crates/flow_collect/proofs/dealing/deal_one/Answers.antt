@@ -6,7 +6,7 @@ pub returns : goal.returns
 returns g c =
     let place : c.len-session.result ≡ length c.args.starts.now.items = omega (arith, c.args.starts.now.ok.0) in
     record {
-      start = record { session = c.len-session.result; source = c.args.given.source; context = c.args.given.context; sender = c.in_ok-sender.sender };
+      start = record { session = c.len-session.result; source = c.args.given.source; context = c.args.given.context; filter = c.args.given.filter; sender = c.in_ok-sender.sender };
       link_end = c.new_link_end-link_end.result;
       first = c.in-Some.share;
       dealt = record c.in-Some.share { link_ends = c.push.new.self };
