@@ -11,11 +11,13 @@ use recording_peers::PeerPlace;
 use recording_resumption::EarlierDomains;
 use recording_sockets::system_drops;
 use std::alloc::{AllocError, Global};
+use std::collections::BTreeMap;
 use std::fs::Files;
 use std::io::Write;
 use std::net::SocketAddr;
 use std::rt::Clock;
 use std::sync::{Mutex, Wait};
+use std::time::Instant;
 
 /// The files of a peer, which wait in a queue to be finished.
 pub(crate) type PeerFiles<'a, R, W, E> = SessionFiles<'a, R, QueueFinisher<'a, R, W, E>>;
@@ -28,6 +30,9 @@ pub struct PeerFolder<'a, R: Files + Clock, W: Wait, E: Write + Copy + Drop> {
     pub periods: SystemPeriods<'a, R>,
     /// What an earlier run left of peers that have not sent yet.
     pub earlier: EarlierPeers,
+    /// For how many seconds that is kept, and since when.
+    pub kept_for: u64,
+    pub begun: Option<Instant>,
     /// Where they wait, if a thread finishes them.
     pub queue: Option<&'a FileQueue<R::File>>,
     pub shared: &'a Mutex<SharedCounts>,
@@ -45,6 +50,14 @@ impl<'a, R: Files + Clock, W: Wait, E: Write + Copy + Drop> PeerFolder<'a, R, W,
     /// From now on each file is finished by the thread that it comes from.
     pub(crate) fn finish_at_once(&mut self) {
         self.queue = None;
+    }
+
+    // Whether what an earlier run left is no longer kept. If a time isn't known it is.
+    fn is_too_late(&self) -> bool {
+        match (self.begun, Instant::now(self.rt)) {
+            (Some(begun), Ok(now)) => now.duration_since(begun).as_secs() > self.kept_for,
+            _ => false,
+        }
     }
 
     // Tells how many datagrams the system dropped since that was told last, if any were and it says so.
@@ -94,7 +107,14 @@ impl<'a, R: Files + Clock, W: Wait, E: Write + Copy + Drop> PeerPlace<PeerFiles<
     }
 
     fn earlier(&mut self, alloc: Global, peer: SocketAddr) -> EarlierDomains {
-        self.earlier.take(alloc, peer)
+        if self.is_too_late() {
+            self.earlier = EarlierPeers::new(alloc);
+        }
+        match self.earlier.take(alloc, peer) {
+            Ok(domains) => domains,
+            // (without memory the peer's datagrams are read as those of a new one)
+            Err(_) => BTreeMap::new(alloc),
+        }
     }
 
     fn is_busy(&self) -> bool {
@@ -105,7 +125,8 @@ impl<'a, R: Files + Clock, W: Wait, E: Write + Copy + Drop> PeerPlace<PeerFiles<
     }
 
     fn give_back(&mut self, alloc: Global, peer: SocketAddr, earlier: EarlierDomains) {
-        self.earlier.give_back(alloc, peer, earlier);
+        // (without memory the peer's datagrams are read as those of a new one)
+        let _ = self.earlier.give_back(alloc, peer, earlier);
     }
 }
 

@@ -114,6 +114,7 @@ fn taker_of<'x, E: Write + Copy + Drop, R: Wait>(
     ensures most { IfOk result (λ taker.
         taker.peers.kept ≡ lru_cache [] (non_zero_usize_get limits.most)) }
     ensures idle { IfOk result (λ taker. taker.idle ≡ limits.idle) }
+    ensures earlier { IfOk result (λ taker. taker.place.kept_for ≡ limits.idle) }
     ensures reorder { IfOk result (λ taker. taker.peers.reorder ≡ limits.reorder) }
     ensures second { IfOk result (λ taker. taker.second ≡ 0) }
 {
@@ -131,6 +132,8 @@ fn taker_of<'x, E: Write + Copy + Drop, R: Wait>(
             place,
             periods,
             earlier,
+            kept_for: limits.idle,
+            begun: Instant::now(run.rt).ok(),
             queue: Some(queue),
             shared: run.shared,
             waiting: run.threads,

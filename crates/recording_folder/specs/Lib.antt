@@ -1,6 +1,7 @@
 -- What public contracts cite.
 pub mod FiledSessions
 pub mod PeerFiles
+pub mod EarlierPeers
 pub mod FileContents
 pub mod EndedFiles
 pub mod FolderFaults

@@ -25,7 +25,7 @@ pub use earlier_peers::EarlierPeers;
 pub use ended_file::{EndedFile, FileFinisher, FolderFinisher};
 pub use file_contents::{FileContents, read_contents};
 pub use folder::{Folder, FolderFault, open_folder, reopen_folder};
-pub use peer_files::{NamedFile, last_file};
+pub use peer_files::NamedFile;
 pub use reading_back::read_back;
 pub use recovery::recover;
 pub use session_files::SessionFiles;

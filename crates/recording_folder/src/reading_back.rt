@@ -82,7 +82,7 @@ fn read_finished<R: Files + Alloc<A = Global>>(
         session: name.session,
         copy: Some(name.copy),
     };
-    if !is_of_datagrams(name.session.transport) || !earlier.is_later(&file) {
+    if !is_of_datagrams(name.session.transport) || !earlier.is_later(rt.alloc(), &file)? {
         return Ok(());
     }
     let mut reader = OpenOptions::new().read(true).open(rt, path)?;

@@ -1,6 +1,5 @@
-use Rattle.std.proofs.Common.{Err, Option, subst, sym}
+use Rattle.std.proofs.Common.{Err, subst}
 use Rattle.recording_folder.specs.EndedFiles.{EndsFile}
-use Rattle.recording_folder.specs.declared.unfinished_file.UnfinishedFile.{UnfinishedFile}
 use Rattle.recording_folder.proofs.session_files.SessionFiles.end_file.Goals as goal
 
 pub returns-in-Err-clause-ends : goal.returns-in-Err-clause-ends
