@@ -1,7 +1,8 @@
 //! The commands. Each answers how it ended; an error says how if the library was not called.
 
 ghost use Rattle.std.specs.Prelude.{◌≡◌, MatchBool};
-ghost use Rattle.flow_table.specs.Plans.{context_of};
+ghost use Rattle.std.specs.Option.{option_map};
+ghost use Rattle.flow_filtered_plan.specs.FilteredPlans.{context_of, filter_of};
 
 use cli_inputs::{
     CollectArguments, Collecting, DumpArguments, FilesArguments, MergeArguments, ProgressOutput,
@@ -284,18 +285,18 @@ pub fn merge(rt: &HostRuntime, arguments: &MergeArguments) -> Result<Status, Sta
     Ok(status)
 }
 
-// What a merge is to do.
+// What a merge is to do. Rows were filtered when they were collected: the plan's conditions say nothing of them.
 fn merge_job<'a>(loaded: &'a LoadedPlan, table: &TableArguments) -> MergeJob<'a>
     // It names the plan's keys and counters by the elements that the plan was read with.
     ensures names { result.elements.now ≡ loaded.now.elements }
-    ensures plan { result.plan.now ≡ loaded.now.plan }
+    ensures plan { result.plan.now ≡ loaded.now.read.plan }
     // The rest is as the command is told.
     ensures output { result.output ≡ table.now.output }
     ensures verbosity { result.verbosity ≡ table.now.verbosity }
 {
     MergeJob {
         elements: &loaded.elements,
-        plan: &loaded.plan,
+        plan: &loaded.read.plan,
         output: table.output,
         verbosity: table.verbosity,
     }
@@ -310,9 +311,10 @@ fn collect_job<'a>(
 ) -> CollectJob<'a>
     // It names the plan's keys and counters by the elements that the plan was read with.
     ensures names { result.elements.now ≡ loaded.now.elements }
-    ensures plan { result.plan.now ≡ loaded.now.plan }
-    // It wants what these keys name of context.
-    ensures wanted { result.wanted ≡ context_of loaded.now.plan }
+    ensures plan { result.plan.now ≡ loaded.now.read.plan }
+    // It wants what these keys and the plan's conditions name of context, and these conditions are its filter.
+    ensures wanted { result.wanted ≡ context_of loaded.now.read }
+    ensures filter { option_map (λ f. f.now) result.filter ≡ filter_of loaded.now.read }
     ensures exporters { result.exporters.now ≡ exporters.now }
     // The rest is as the command is told.
     ensures engine { result.engine ≡ engine }
@@ -321,11 +323,12 @@ fn collect_job<'a>(
 {
     CollectJob {
         elements: &loaded.elements,
-        plan: &loaded.plan,
+        plan: &loaded.read.plan,
         engine,
         output: collect.table.output,
         verbosity: collect.table.verbosity,
-        wanted: loaded.plan.context(),
+        wanted: loaded.read.context(),
+        filter: loaded.read.conditions(),
         exporters,
     }
 }

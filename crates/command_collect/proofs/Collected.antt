@@ -1,11 +1,13 @@
 -- How a command ended that collects, by how its sources were had and run.
-use Rattle.std.proofs.Common.{◌≡◌, ℕ, List, [], ◌++◌, All, Option, inl, inr, length, subst}
+use Rattle.std.proofs.Common.{◌≡◌, ℕ, List, [], ◌++◌, All, Option, None, inl, inr, length, subst}
 use Rattle.std.proofs.lemmas.Option.{IfSome_then}
 use Rattle.std.specs.declared.io.ErrorKind.{ErrorKind}
+use Rattle.ipfix_session.specs.Ledger.{capped}
 use Rattle.ipfix_session.specs.Sources.{SourceView}
 use Rattle.report_writing.specs.declared.origin.Origin.{Origin}
 use Rattle.report_writing.specs.declared.verbosity.TheConstants.{NOTHING_MORE}
 use Rattle.report_writing.proofs.Ended.{never_two, one_of_four}
+use Rattle.flow_collect.specs.InFull.{fulls_in}
 use Rattle.flow_collect.specs.declared.session_context.TheConstants.{NO_CONTEXT}
 use Rattle.input_sources.specs.Had.{IsUnread}
 use Rattle.input_sources.specs.InputsTold.{opened_lines}
@@ -13,6 +15,7 @@ use Rattle.output_tables.proofs.BuiltIn.{written_built_in}
 use Rattle.command_collect.specs.Collects.{Collects, CollectsJob, CollectsPlainly}
 use Rattle.command_collect.specs.Engines.{due_fault}
 use Rattle.command_collect.specs.Exporters.{in_context}
+use Rattle.command_collect.specs.Gathered.{all_filtered}
 use Rattle.command_collect.specs.Runs.{RunsJob, RunsPlainly}
 use Rattle.command_collect.specs.declared.job.CollectJob.{CollectJob}
 use Rattle.command_collect.proofs.LinesTold.{behind_nothing, fault_told, is_strict, plain_lines}
@@ -36,16 +39,16 @@ module _ {S W : Type 0} (seen : S → SourceView) (failure : S → Option ErrorK
       }
 
   -- a run that has no options
-  pub runs_plainly : (AreTold : List ℕ → Type 0) (sources : List S) (origins : List Origin) → job.elements.now ≡ [] → job.verbosity ≡ NOTHING_MORE → job.wanted ≡ NO_CONTEXT.wanted → RunsJob contents old new AreTold seen failure sources job origins status
+  pub runs_plainly : (AreTold : List ℕ → Type 0) (sources : List S) (origins : List Origin) → job.elements.now ≡ [] → job.verbosity ≡ NOTHING_MORE → job.wanted ≡ NO_CONTEXT.wanted → job.filter ≡ None → RunsJob contents old new AreTold seen failure sources job origins status
       → RunsPlainly contents old new AreTold seen sources job.plan.now job.engine job.output status
-  runs_plainly AreTold sources origins no_files plain none r =
+  runs_plainly AreTold sources origins no_files plain none all r =
       let given = in_context job sources origins in
-      let plainly = plainly_given job sources origins none in
+      let plainly = plainly_given job sources origins none all in
       record {
         statuses = r.statuses;
         table = λ ran.
             table_short seen job.verbosity.strict job.plan.now job.engine status given sources plainly _ _ (is_strict job plain)
-            (λ c ends. (written_built_in job.elements.now job.plan.now job.output _ _ c.table no_files ends.0, subst AreTold (plain_lines job plain origins c.sessions.items c.table ends.1.ended ends.1.are_ended.reports) ends.1.told)) (r.table ran);
+            (λ c ends. (written_built_in job.elements.now job.plan.now job.output _ _ c.table no_files ends.0, subst AreTold (plain_lines job plain all origins (fulls_in c.sessions.items) c.table (capped (all_filtered c.sessions.items)) ends.1.ended ends.1.are_ended.reports) ends.1.told)) (r.table ran);
         failed = λ three.
             fault_told (new ≡ old) _ _ _ _ AreTold AreTold (fault_plain seen job.verbosity.strict job.plan.now job.engine status given sources plainly (length sources))
             (not_exported_short seen job.verbosity.strict job.plan.now job.engine status given sources plainly job.output (new ≡ old)) (λ lines told. told) (r.failed three);
@@ -78,8 +81,8 @@ module _ {S W : Type 0} (seen : S → SourceView) (failure : S → Option ErrorK
         }
 
     -- where nothing more is told
-    pub collects_plainly : job.elements.now ≡ [] → job.verbosity ≡ NOTHING_MORE → job.wanted ≡ NO_CONTEXT.wanted → first ≡ [] → EndsJob → CollectsPlainly seen AreHad TellsNotHad contents old new AreTold status job.plan.now job.engine job.output
-    collects_plainly no_files plain unwanted none ends =
+    pub collects_plainly : job.elements.now ≡ [] → job.verbosity ≡ NOTHING_MORE → job.wanted ≡ NO_CONTEXT.wanted → job.filter ≡ None → first ≡ [] → EndsJob → CollectsPlainly seen AreHad TellsNotHad contents old new AreTold status job.plan.now job.engine job.output
+    collects_plainly no_files plain unwanted all none ends =
         record {
           statuses = ends.statuses;
           ran = λ ran.
@@ -89,7 +92,7 @@ module _ {S W : Type 0} (seen : S → SourceView) (failure : S → Option ErrorK
                 sources = r.sources;
                 had = r.had;
                 unread = r.unread;
-                runs = runs_plainly AreTold r.sources behind.origins no_files plain unwanted (retold (λ lines. AreTold (first ++ (opened_lines job.verbosity behind.origins ++ lines))) AreTold r.sources behind.origins
+                runs = runs_plainly AreTold r.sources behind.origins no_files plain unwanted all (retold (λ lines. AreTold (first ++ (opened_lines job.verbosity behind.origins ++ lines))) AreTold r.sources behind.origins
                     (λ lines told. subst AreTold (behind_nothing job plain first none behind.origins lines) told) behind.told);
               };
           not_had = ends.not_had;

@@ -1,5 +1,6 @@
 pub mod WentWell
 pub mod Ran
+mod LeftOut
 pub mod Refused
 pub mod LinesTold
 pub mod Collected

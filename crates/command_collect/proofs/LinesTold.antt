@@ -1,5 +1,5 @@
 -- Lines that were told one after another.
-use Rattle.std.proofs.Common.{◌≡◌, ℕ, ◌+◌, List, [], ◌∷◌, ◌++◌, map, Option, Result, Ok, Err, refl, ap, ap₂, ◌∙◌, subst, inl, inr, append-nil, false}
+use Rattle.std.proofs.Common.{◌≡◌, ℕ, ◌+◌, List, [], ◌∷◌, ◌++◌, map, Option, None, Result, Ok, Err, refl, ap, ap₂, ◌∙◌, subst, inl, inr, append-nil, false}
 use Rattle.std.specs.Prelude.{OnOk, OnErr}
 use Rattle.std.specs.List.{flat_map, enumerate_from}
 use Rattle.std.specs.Io.KnownBytes.{Appends}
@@ -15,7 +15,7 @@ use Rattle.flow_table.specs.declared.tally.Tally.{Tally}
 use Rattle.report_sessions.specs.EndedSessions.{EndedSession}
 use Rattle.report_sessions.specs.MissingLines.{missing_told}
 use Rattle.report_writing.specs.OpeningLines.{if_verbose, opened_line}
-use Rattle.report_sessions.specs.ReportLines.{report_lines, tally_line}
+use Rattle.report_sessions.specs.ReportLines.{report_lines, tally_line, tally_line_with}
 use Rattle.report_writing.specs.Told.{AreTold}
 use Rattle.report_writing.specs.Writing.{Tells}
 use Rattle.report_writing.specs.declared.origin.Origin.{Origin}
@@ -24,7 +24,7 @@ use Rattle.report_writing.specs.declared.verbosity.TheConstants.{NOTHING_MORE}
 use Rattle.report_writing.proofs.LinesTold.{both_told, told_then}
 use Rattle.report_sessions.proofs.Untold.{told_plain}
 use Rattle.input_sources.specs.InputsTold.{opened_lines, StopsAt, TellsPeers}
-use Rattle.command_collect.specs.Told.{run_lines, table_told, TellsFault}
+use Rattle.command_collect.specs.Told.{if_filtered, run_lines, table_told, TellsFault}
 use Rattle.command_collect.specs.declared.job.CollectJob.{CollectJob}
 
 -- the fault of a run that failed, said otherwise
@@ -45,12 +45,12 @@ tells_both contents has_failed old mid new x answer xs ys first then =
     record { told = on_ok answer (contents old) (contents mid) (contents new) xs ys first.told then.told; failed = then.failed; kept = λ failed. then.kept (first.kept failed) }
 
 -- what is told of a table, by its tally and by what records lack
-pub table_lines : {T E : Type 0} (answer : Result T E) (job : CollectJob) (table : Table) (tally : Tally) (missing : Missing) (old mid new : Option (List ℕ)) → tally ≡ table.tally → missing ≡ table.missing
-    → Appends old mid (tally_line tally) → OnOk answer (Appends mid new (missing_told job.verbosity job.elements.now job.plan.now missing)) → OnOk answer (Appends old new (table_told job table))
-table_lines answer job table tally missing old mid new is_tally is_missing first rest =
+pub table_lines : {T E : Type 0} (answer : Result T E) (job : CollectJob) (table : Table) (filtered : ℕ) (tally : Tally) (missing : Missing) (old mid new : Option (List ℕ)) → tally ≡ table.tally → missing ≡ table.missing
+    → Appends old mid (tally_line_with (if_filtered job filtered) tally) → OnOk answer (Appends mid new (missing_told job.verbosity job.elements.now job.plan.now missing)) → OnOk answer (Appends old new (table_told job table filtered))
+table_lines answer job table filtered tally missing old mid new is_tally is_missing first rest =
     let lack = λ (y : Missing). missing_told job.verbosity job.elements.now job.plan.now y in
-    subst (λ (l : List ℕ). OnOk answer (Appends old new l)) (ap₂ (λ (x : Tally) (y : Missing). tally_line x ++ lack y) is_tally is_missing)
-    (on_ok answer old mid new (tally_line tally) (lack missing) first rest)
+    subst (λ (l : List ℕ). OnOk answer (Appends old new l)) (ap₂ (λ (x : Tally) (y : Missing). tally_line_with (if_filtered job filtered) x ++ lack y) is_tally is_missing)
+    (on_ok answer old mid new (tally_line_with (if_filtered job filtered) tally) (lack missing) first rest)
 
 -- without options nothing is told of it
 pub none_opened : (verbosity : Verbosity) → verbosity.verbose ≡ false → (n : ℕ) (origins : List Origin) → flat_map (λ (x : ℕ × Origin). if_verbose verbosity (opened_line x.0 x.1)) (enumerate_from n origins) ≡ []
@@ -69,15 +69,16 @@ module _ (job : CollectJob) (plain : job.verbosity ≡ NOTHING_MORE) where
   pub not_verbose : (line : List ℕ) → if_verbose job.verbosity line ≡ []
   not_verbose line = rw is_verbose refl
 
-  plain_table : (table : Table) → table_told job table ≡ tally_line table.tally
-  plain_table table =
+  plain_table : job.filter ≡ None → (table : Table) (filtered : ℕ) → table_told job table filtered ≡ tally_line table.tally
+  plain_table all table filtered =
       let nothing : missing_told job.verbosity job.elements.now job.plan.now table.missing ≡ [] = rw (is_verbose, is_strict) refl in
-      ap (λ (l : List ℕ). tally_line table.tally ++ l) nothing ∙ append-nil _
+      let counts : tally_line_with (if_filtered job filtered) table.tally ≡ tally_line table.tally = rw all refl in
+      ap (λ (l : List ℕ). tally_line_with (if_filtered job filtered) table.tally ++ l) nothing ∙ append-nil _ ∙ counts
 
   -- and of sessions only their reports
-  pub plain_lines : (origins : List Origin) (fulls : List FullReport) (table : Table) (ended : List EndedSession) → map (λ (e : EndedSession). e.full) ended ≡ fulls → run_lines job origins table ended ≡ report_lines (reports_in fulls) ++ tally_line table.tally
-  plain_lines origins fulls table ended are =
-      ap₂ (λ (l m : List ℕ). l ++ m) (told_plain job.verbosity is_verbose is_strict job.elements.now origins ended fulls are) (plain_table table)
+  pub plain_lines : job.filter ≡ None → (origins : List Origin) (fulls : List FullReport) (table : Table) (filtered : ℕ) (ended : List EndedSession) → map (λ (e : EndedSession). e.full) ended ≡ fulls → run_lines job origins table filtered ended ≡ report_lines (reports_in fulls) ++ tally_line table.tally
+  plain_lines all origins fulls table filtered ended are =
+      ap₂ (λ (l m : List ℕ). l ++ m) (told_plain job.verbosity is_verbose is_strict job.elements.now origins ended fulls are) (plain_table all table filtered)
 
   -- what follows nothing
   pub behind_nothing : (first : List ℕ) → first ≡ [] → (origins : List Origin) (lines : List ℕ) → first ++ (opened_lines job.verbosity origins ++ lines) ≡ lines

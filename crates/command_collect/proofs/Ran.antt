@@ -1,18 +1,23 @@
 -- What a run wrote, from the headline and from what the export wrote; and what it is without the rest.
-use Rattle.std.proofs.Common.{◌≡◌, ℕ, ◌+◌, length, Bool, true, false, List, [], ◌∷◌, Option, All, ap, refl, sym, subst, suc}
+use Rattle.std.proofs.Common.{◌≡◌, ℕ, length, Bool, true, false, List, [], ◌∷◌, Option, None, All, ap, refl, sym, subst, suc}
 use Rattle.std.specs.Prelude.{◌↔◌}
 use Rattle.std.specs.List.{AllZip}
 use Rattle.std.specs.Option.{ForSome}
 use Rattle.std.proofs.lemmas.List.Elements.{All-cons, All-nil}
 use Rattle.std.specs.declared.net.ip_addr.IpAddr.{IpAddr}
 use Rattle.ipfix_message.specs.declared.record.DataRecord.{DataRecord}
+use Rattle.std.specs.declared.alloc.Global.{Global}
+use Rattle.std.specs.declared.vec.Vec.{Vec}
 use Rattle.ipfix_session.specs.Given.{IsPrefix}
+use Rattle.ipfix_session.specs.Ledger.{capped}
 use Rattle.ipfix_session.specs.Sources.{SourceView}
+use Rattle.ipfix_session.specs.declared.report.FullReport.{FullReport}
 use Rattle.report_writing.specs.declared.origin.Origin.{Origin}
 use Rattle.flow_table.specs.Plans.{PlanValue}
+use Rattle.flow_table.specs.declared.table.Table.{Table}
 use Rattle.flow_collect.specs.Contexts.{sources_of}
 use Rattle.flow_collect.specs.Headline.{IsAddedUp, IsGivenBy, SerialAnswer, all_of}
-use Rattle.flow_collect.specs.InFull.{FullSerialAnswer, FullSerialHeadline, IsGivenInContext, IsGivenInFull}
+use Rattle.flow_collect.specs.InFull.{FullSerialAnswer, FullSerialHeadline, IsGivenInContext, IsGivenInFull, fulls_in}
 use Rattle.flow_collect.specs.Places.{Each4}
 use Rattle.flow_collect.specs.Refusals.{AreTooLarge, AreTooLargeInContext}
 use Rattle.flow_collect.specs.Texts.{AreTexts}
@@ -22,27 +27,34 @@ use Rattle.flow_collect.specs.declared.session_context.TheConstants.{NO_CONTEXT}
 use Rattle.flow_collect.proofs.Contexts.{IsUnwanted, first_in_context, given_plain, records_plain, too_large_plain, whole_in_context}
 use Rattle.flow_collect.proofs.InFull.{given_short, short_sessions}
 use Rattle.flow_export.specs.declared.fault.ExportFault.{ExportFault}
+use Rattle.flow_table.specs.AddedUp.{rows_in}
+use Rattle.std.specs.declared.io.ErrorKind.{ErrorKind}
+use Rattle.output_tables.specs.TableTexts.{IsNotWritten, Writes}
+use Rattle.report_sessions.specs.EndedSessions.{TellsEnded}
 use Rattle.output_tables.specs.declared.output.Output.{Output}
 use Rattle.command_collect.specs.Engines.{CollectsBy}
 use Rattle.command_collect.specs.Exporters.{in_context, in_places, other_origins, others_told}
-use Rattle.command_collect.specs.Runs.{AddsUpWhole, HaveNoFault, IsCollectFault, IsNotExported, IsOfWhole, WentWell, WritesTable, plain_texts, texts_in_context}
+use Rattle.command_collect.specs.Runs.{AddsUpWhole, EndedWell, HaveNoFault, IsCollectFault, IsNotExported, IsOfWhole, WritesAndTellsJob, WritesTable, plain_texts, texts_in_context}
+use Rattle.command_collect.specs.Gathered.{all_filtered, IsGathered}
+use Rattle.command_collect.specs.Told.{run_lines}
 use Rattle.command_collect.specs.declared.engine.Engine.{Engine}
+use Rattle.command_collect.specs.declared.gathered.Gathered.{Gathered}
 use Rattle.command_collect.specs.declared.job.CollectJob.{CollectJob}
-use Rattle.command_collect.proofs.WentWell.{NoFault, well_plainly}
+use Rattle.command_collect.proofs.WentWell.{NoFault, no_fault_each, well_plainly}
 
 -- these sources, and nothing is wanted of what their sessions know
 pub record IsPlain {S : Type 0} (given : List (InContext S)) (sources : List S) : Type 0 where
   pub sources_are : sources_of given ≡ sources
   pub unwanted : All IsUnwanted given
 
-pub plainly_given : {S : Type 0} (job : CollectJob) (sources : List S) (origins : List Origin) → job.wanted ≡ NO_CONTEXT.wanted → IsPlain (in_context job sources origins) sources
-plainly_given job sources origins none = each job sources job.exporters.now origins none
+pub plainly_given : {S : Type 0} (job : CollectJob) (sources : List S) (origins : List Origin) → job.wanted ≡ NO_CONTEXT.wanted → job.filter ≡ None → IsPlain (in_context job sources origins) sources
+plainly_given job sources origins none all = each job sources job.exporters.now origins none all
   where
-    each : {S : Type 0} (job : CollectJob) (sources : List S) (told : List (Option IpAddr)) (origins : List Origin) → job.wanted ≡ NO_CONTEXT.wanted → IsPlain (in_places job sources told origins) sources
-    each job [] told origins none = record { sources_are = refl; unwanted = All-nil IsUnwanted }
-    each job (s ∷ sources) told origins none =
-        let rest = each job sources (others_told told) (other_origins origins) none in
-        record { sources_are = ap (λ (l : List _). s ∷ l) rest.sources_are; unwanted = All-cons IsUnwanted _ _ none rest.unwanted }
+    each : {S : Type 0} (job : CollectJob) (sources : List S) (told : List (Option IpAddr)) (origins : List Origin) → job.wanted ≡ NO_CONTEXT.wanted → job.filter ≡ None → IsPlain (in_places job sources told origins) sources
+    each job [] told origins none all = record { sources_are = refl; unwanted = All-nil IsUnwanted }
+    each job (s ∷ sources) told origins none all =
+        let rest = each job sources (others_told told) (other_origins origins) none all in
+        record { sources_are = ap (λ (l : List _). s ∷ l) rest.sources_are; unwanted = All-cons IsUnwanted _ _ (none, all) rest.unwanted }
 
 -- the same run, with reports that aren't in full
 abbrev pub short_run : {S : Type 0} → FullSerialAnswer S → SerialAnswer S
@@ -53,19 +65,40 @@ pub as_many : {S : Type 0} (job : CollectJob) (sources : List S) (told : List (O
 as_many job [] told origins = refl
 as_many job (s ∷ sources) told origins = ap suc (as_many job sources (others_told told) (other_origins origins))
 
+-- what is said of what was gathered is said of what was collected
+pub of_gathered : {S : Type 0} (P : List S → List FullReport → Table → ℕ → Type 0) (c : FullSerialAnswer S) (g : Gathered S) → IsGathered c g → P g.run.sources.items g.run.sessions.items g.run.table g.filtered
+    → P c.sources.items (fulls_in c.sessions.items) c.table (capped (all_filtered c.sessions.items))
+of_gathered {S = S} P c g is p =
+    let fulls = fulls_in c.sessions.items in
+    subst (λ (n : ℕ). P c.sources.items fulls c.table n) is.filtered_is
+    (subst (λ (t : Table). P c.sources.items fulls t g.filtered) is.table_is
+    (subst (λ (l : List FullReport). P c.sources.items l g.run.table g.filtered) is.sessions_are
+    (subst (λ (v : Vec S Global). P v.items g.run.sessions.items g.run.table g.filtered) is.sources_are p)))
+
+pub tells_gathered : {S W : Type 0} (contents : W → Option (List ℕ)) (old new : W) (AreTold : List ℕ → Type 0) (failure : S → Option ErrorKind) (job : CollectJob) (origins : List Origin) (c : FullSerialAnswer S) (g : Gathered S) → IsGathered c g
+    → Writes job.elements.now job.plan.now job.output (contents old) (contents new) g.run.table → TellsEnded failure g.run.sources.items g.run.sessions.items (run_lines job origins g.run.table g.filtered) AreTold
+    → WritesAndTellsJob contents old new AreTold failure job origins c
+tells_gathered {S = S} contents old new AreTold failure job origins c g is writes tells =
+    of_gathered (λ (sources : List S) (fulls : List FullReport) (table : Table) (n : ℕ).
+    Writes job.elements.now job.plan.now job.output (contents old) (contents new) table × TellsEnded failure sources fulls (run_lines job origins table n) AreTold) c g is (writes, tells)
+
+pub not_written_of : {S : Type 0} (output : Output) (IsUntouched : Type 0) (fault : ExportFault) (c : FullSerialAnswer S) (g : Gathered S) → IsGathered c g → IsNotWritten output (length (rows_in g.run.table)) IsUntouched fault
+    → IsNotWritten output (length (rows_in c.table)) IsUntouched fault
+not_written_of output IsUntouched fault c g is not = subst (λ (t : Table). IsNotWritten output (length (rows_in t)) IsUntouched fault) is.table_is not
+
 module _ {S : Type 0} (seen : S → SourceView) where
   pub adds_up_whole : ((s : S) → (seen s).ended ≡ true → ForSome (seen s).text (λ xs. xs ≡ [])) → (c : FullSerialAnswer S) (sources : List (InContext S)) (plan : PlanValue)
-      → FullSerialHeadline seen sources plan c → All NoFault c.sessions.items → AddsUpWhole (texts_in_context seen) sources plan c.table
+      → FullSerialHeadline seen sources plan c → All NoFault (fulls_in c.sessions.items) → AddsUpWhole (texts_in_context seen) sources plan c.table
   adds_up_whole at_end c sources plan h none = λ texts t.
-      let (are, clean) = whole_in_context seen at_end sources c.sources.items c.sessions.items h.records texts h.given t none in
+      let (are, clean) = whole_in_context seen at_end sources c.sources.items c.sessions.items h.records texts h.given t (no_fault_each c.sessions.items none) in
       record { whole = clean; added_up = subst (λ (rs : List (List DataRecord)). IsAddedUp plan (all_of rs) c.table) are h.added_up }
 
   module _ (strict : Bool) (plan : PlanValue) (engine : Engine) (status : ℕ) where
     abbrev pub Full : (FullSerialAnswer S → Type 0) → List (InContext S) → Type 0
-    Full Ends sources = WritesTable (texts_in_context seen) (IsGivenInContext seen) (WentWell strict) plan engine status Ends sources
+    Full Ends sources = WritesTable (texts_in_context seen) (IsGivenInContext seen) (EndedWell strict) plan engine status Ends sources
 
     pub writes_table : (Ends : FullSerialAnswer S → Type 0) (sources : List (InContext S)) (c : FullSerialAnswer S)
-        → CollectsBy engine (IsGivenInContext seen) sources plan c → ((status ≡ 0) ↔ WentWell strict c.sessions.items c.table) → (status ≡ 0 → AddsUpWhole (texts_in_context seen) sources plan c.table) → Ends c
+        → CollectsBy engine (IsGivenInContext seen) sources plan c → ((status ≡ 0) ↔ EndedWell strict c.sessions.items c.table) → (status ≡ 0 → AddsUpWhole (texts_in_context seen) sources plan c.table) → Ends c
         → Full Ends sources
     writes_table Ends sources c h status_is whole ends =
         record {
@@ -92,8 +125,8 @@ module _ {S : Type 0} (seen : S → SourceView) where
       collects_short c b =
           let h = b.headline in
           let own = given_plain seen given c.sources.items c.sessions.items h.records plain.unwanted h.given in
-          let there = subst (λ (l : List S). Each4 (IsGivenInFull seen) l c.sources.items c.sessions.items h.records) plain.sources_are own in
-          record { headline = record { records = h.records; given = given_short seen sources c.sources.items c.sessions.items h.records there; added_up = h.added_up }; came = b.came }
+          let there = subst (λ (l : List S). Each4 (IsGivenInFull seen) l c.sources.items (fulls_in c.sessions.items) h.records) plain.sources_are own in
+          record { headline = record { records = h.records; given = given_short seen sources c.sources.items (fulls_in c.sessions.items) h.records there; added_up = h.added_up }; came = b.came }
 
       pub not_exported_short : (output : Output) (IsUntouched : Type 0) (fault : ExportFault)
           → IsNotExported (texts_in_context seen) (IsGivenInContext seen) plan engine output IsUntouched given fault → IsNotExported (plain_texts seen) (IsGivenBy seen) plan engine output IsUntouched sources fault
@@ -114,7 +147,7 @@ module _ {S : Type 0} (seen : S → SourceView) where
             first = λ texts t.
                 let there = texts_there texts t in
                 subst (λ (l : List (List DataRecord)). AllZip IsPrefix w.collects.headline.records l) (records_plain given texts _ plain.unwanted there) (w.first texts there);
-            status_is = well_plainly status strict w.collected.sessions.items w.collected.table loose w.status_is;
+            status_is = well_plainly status strict (fulls_in w.collected.sessions.items) w.collected.table loose w.status_is;
             whole = λ well texts t.
                 let there = texts_there texts t in
                 subst (IsOfWhole plan w.collected.table texts) (records_plain given texts _ plain.unwanted there) (w.whole well texts there);

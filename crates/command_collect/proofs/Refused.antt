@@ -1,5 +1,5 @@
 -- Arguments and engines that have a fault.
-use Rattle.std.proofs.Common.{◌≡◌, ℕ, Bool, true, false, List, Option, Some, None, Result, Ok, Err, length, refl, sym, ap, ◌∙◌, subst}
+use Rattle.std.proofs.Common.{◌≡◌, ℕ, Bool, true, false, List, Option, Some, None, Result, Ok, Err, refl, sym, ap, ◌∙◌, subst}
 use Rattle.std.proofs.lemmas.Option.{IfSome_then}
 use Rattle.std.specs.Prelude.{◌||◌, is_some, if◌then◌else◌, ◌==◌, nat_lt, IfSome, IfNone}
 use Rattle.flow_collect.specs.Refusals.{AreTooLargeInContext, HasFaultsOf, IsLate}
@@ -7,7 +7,7 @@ use Rattle.ipfix_session.specs.Sources.{SourceView}
 use Rattle.flow_table.specs.Plans.{PlanValue}
 use Rattle.flow_collect.specs.declared.session_context.InContext.{InContext}
 use Rattle.flow_collect.specs.declared.fault.CollectFault.{CollectFault}
-use Rattle.flow_collect.specs.declared.fault.CollectFault.TheVariants.{Workers, Sessions, Link, SumTooLarge}
+use Rattle.flow_collect.specs.declared.fault.CollectFault.TheVariants.{Workers, Sessions, Link, OutOfMemory, SumTooLarge}
 use Rattle.flow_collect.specs.declared.collected.TheConstants.{MAX_WORKERS, MAX_SESSIONS}
 use Rattle.flow_link.specs.declared.making.TheConstants.{MAX_CAPACITY}
 use Rattle.command_collect.specs.Engines.{due_fault, fault_of_engine}
@@ -121,3 +121,12 @@ pub faults_elsewhere : {S X : Type 0} (seen : S → SourceView) (plan : PlanValu
     → HasFaultsOf (due_fault engine n) (AreTooLargeInContext seen plan these) result → HasFaultsOf (due_fault engine m) (AreTooLargeInContext seen plan those) result
 faults_elsewhere seen plan engine n m these those result many same has =
     subst (λ (k : ℕ). HasFaultsOf (due_fault engine k) (AreTooLargeInContext seen plan those) result) many (subst (λ (l : List (InContext _)). HasFaultsOf (due_fault engine n) (AreTooLargeInContext seen plan l) result) same has)
+
+-- and where memory ran out after it was had
+pub faults_if_memory : {X Y : Type 0} (due : Option CollectFault) (TooLarge : Type 0) (x : X) → HasFaultsOf due TooLarge (Ok x) → HasFaultsOf {X = Y} due TooLarge (Err OutOfMemory)
+faults_if_memory {X = X} {Y = Y} due TooLarge x has =
+    record {
+      arguments = IfSome_then due has.arguments (λ fault is. absurd (cc is));
+      others = even_if_none due (Unit {0}) tt;
+      too_large = λ is. absurd (cc is);
+    }

@@ -7,7 +7,8 @@ use Rattle.ipfix_session.specs.declared.report.FullReport.{FullReport}
 use Rattle.flow_table.specs.declared.missing.Missing.{Missing}
 use Rattle.flow_table.specs.declared.table.Table.{Table}
 use Rattle.flow_table.specs.declared.tally.Tally.{Tally}
-use Rattle.flow_collect.specs.InFull.{reports_in}
+use Rattle.flow_collect.specs.InFull.{fulls_in, reports_in}
+use Rattle.flow_collect.specs.declared.collected.FilteredReport.{FilteredReport}
 use Rattle.flow_collect.specs.Texts.{HasNoFault}
 use Rattle.report_sessions.specs.Spotless.{IsSpotless, IsSpotlessSession}
 use Rattle.command_collect.specs.Runs.{HaveNoFault, WentWell}
@@ -26,6 +27,12 @@ no_fault_from : (fulls : List FullReport) → All HasNoFault (reports_in fulls) 
 no_fault_from [] all = All-nil NoFault
 no_fault_from (full ∷ fulls) all =
     All-cons NoFault full fulls (All-head HasNoFault full.report (reports_in fulls) all) (no_fault_from fulls (All-tail HasNoFault full.report (reports_in fulls) all))
+
+-- of reports that tell how many records were left out
+pub no_fault_each : (reports : List FilteredReport) → All NoFault (fulls_in reports) → All (λ (told : FilteredReport). HasNoFault told.full.report) reports
+no_fault_each [] all = All-nil (λ (told : FilteredReport). HasNoFault told.full.report)
+no_fault_each (told ∷ reports) all =
+    All-cons (λ (told : FilteredReport). HasNoFault told.full.report) told reports (All-head NoFault told.full (fulls_in reports) all) (no_fault_each reports (All-tail NoFault told.full (fulls_in reports) all))
 
 -- the first ones, and one more
 pub none_more : (rs : List FullReport) (i : ℕ) (r : FullReport) → i < length rs → All NoFault (take i rs) → r ≡ get_or rs i r → false ≡ is_some r.report.fault → All NoFault (take (i + 1) rs)

@@ -34,11 +34,12 @@ abbrev pub others_told : List (Option IpAddr) → List (Option IpAddr)
 others_told [] = []
 others_told (told ∷ others) = others
 
--- the sources, each with what its session knows by what has its place: the exporter that is told, and the origin
+-- the sources, each with what its session knows by what has its place: the exporter that is told, and the origin; and with the
+-- job's filter
 abbrev pub in_places : {S : Type 0} → CollectJob → List S → List (Option IpAddr) → List Origin → List (InContext S)
 in_places job [] told origins = []
 in_places job (source ∷ sources) told origins =
-    record { source = source; context = record { exporter = exporter_of (first_told told) (first_origin origins); wanted = job.wanted } }
+    record { source = source; context = record { exporter = exporter_of (first_told told) (first_origin origins); wanted = job.wanted }; filter = job.filter }
     ∷ in_places job sources (others_told told) (other_origins origins)
 
 -- as far as the job wants it

@@ -4,6 +4,7 @@ use Rattle.std.specs.List.{AllZip}
 use Rattle.std.specs.declared.io.ErrorKind.{ErrorKind}
 use Rattle.ipfix_message.specs.declared.record.DataRecord.{DataRecord}
 use Rattle.ipfix_session.specs.Given.{records_of, stop_of, IsPrefix}
+use Rattle.ipfix_session.specs.Ledger.{capped}
 use Rattle.ipfix_session.specs.Sources.{SourceView}
 use Rattle.ipfix_session.specs.declared.report.FullReport.{FullReport}
 use Rattle.ipfix_session.specs.declared.report.SessionReport.{SessionReport}
@@ -19,9 +20,10 @@ use Rattle.flow_table.specs.Plans.{PlanValue}
 use Rattle.flow_table.specs.declared.table.Table.{Table}
 use Rattle.flow_collect.specs.Contexts.{records_in_context, sources_of}
 use Rattle.flow_collect.specs.Headline.{IsAddedUp, IsGivenBy, SerialAnswer, all_of}
-use Rattle.flow_collect.specs.InFull.{FullSerialAnswer, IsGivenInContext}
+use Rattle.flow_collect.specs.InFull.{FullSerialAnswer, FullSerialHeadline, IsGivenInContext, fulls_in}
 use Rattle.flow_collect.specs.Refusals.{AreTooLarge, AreTooLargeInContext, IsLate}
 use Rattle.flow_collect.specs.Texts.{AreTexts, HasNoFault}
+use Rattle.flow_collect.specs.declared.collected.FilteredReport.{FilteredReport}
 use Rattle.flow_collect.specs.declared.collected.Serial.{Serial}
 use Rattle.flow_collect.specs.declared.fault.CollectFault.{CollectFault}
 use Rattle.flow_collect.specs.declared.session_context.InContext.{InContext}
@@ -33,8 +35,10 @@ use Rattle.output_tables.specs.declared.output.Output.{Output}
 use Rattle.command_collect.specs.CollectLines.{collect_fault_line}
 use Rattle.command_collect.specs.Engines.{due_fault, CollectsBy}
 use Rattle.command_collect.specs.Exporters.{in_context}
+use Rattle.command_collect.specs.Gathered.{all_filtered, IsGathered}
 use Rattle.command_collect.specs.Told.{run_lines, TellsFault}
 use Rattle.command_collect.specs.declared.engine.Engine.{Engine}
+use Rattle.command_collect.specs.declared.gathered.Gathered.{Gathered}
 use Rattle.command_collect.specs.declared.job.CollectJob.{CollectJob}
 
 -- all was well: no session has a fault,
@@ -46,6 +50,10 @@ abbrev pub WentWell : Bool → List FullReport → Table → Type 0
 WentWell true fulls table = IsSpotless fulls table.tally table.missing
 WentWell false fulls table = All (λ (full : FullReport). HasNoFault full.report) fulls
 
+-- the same of reports that tell how many records were left out, which does not matter
+abbrev pub EndedWell : Bool → List FilteredReport → Table → Type 0
+EndedWell strict reports table = WentWell strict (fulls_in reports) table
+
 -- which texts sources hold, and the records of each of these
 pub record TextsOf (A : Type 0) : Type 1 where
   pub are_texts : List A → List (List ℕ) → Type 0
@@ -55,7 +63,7 @@ pub record TextsOf (A : Type 0) : Type 1 where
 abbrev pub plain_texts : {S : Type 0} → (S → SourceView) → TextsOf S
 plain_texts seen = record { are_texts = AreTexts seen; records = λ sources texts. map records_of texts }
 
--- and the same with what sessions know
+-- and the same with what sessions know, of the records that count
 abbrev pub texts_in_context : {S : Type 0} → (S → SourceView) → TextsOf (InContext S)
 texts_in_context seen = record { are_texts = λ sources texts. AreTexts seen (sources_of sources) texts; records = records_in_context }
 
@@ -113,6 +121,12 @@ pub record Runs (engine : Engine) (count status : ℕ) (IsUntouched WritesIt Tel
   -- nothing was collected if the arguments have a fault, and that is reported
   pub refused : IfSome (due_fault engine count) (λ fault. (status ≡ number_of Failed) × IsUntouched × AreTold (collect_fault_line fault))
 
+-- what was gathered of a run adds up the whole texts of its sources, if the run went well
+abbrev pub AddsUpIfWell : {S : Type 0} → (S → SourceView) → Bool → Gathered S → FullSerialAnswer S → Type 0
+AddsUpIfWell {S = S} seen strict g c =
+    IsGathered c g → (sources : List (InContext S)) (plan : PlanValue) → FullSerialHeadline seen sources plan c → WentWell strict g.run.sessions.items g.run.table
+    → AddsUpWhole (texts_in_context seen) sources plan c.table
+
 -- the table was written to a writer, and nothing else; the lines of the sessions and of the table's counts were told, and
 -- nothing else
 module _ {W : Type 0} (contents : W → Option (List ℕ)) (old new : W) (AreTold : List ℕ → Type 0) where
@@ -132,12 +146,12 @@ module _ {W : Type 0} (contents : W → Option (List ℕ)) (old new : W) (AreTol
   abbrev pub WritesAndTellsJob : {S : Type 0} → (S → Option ErrorKind) → CollectJob → List Origin → FullSerialAnswer S → Type 0
   WritesAndTellsJob failure job origins c =
       Writes job.elements.now job.plan.now job.output (contents old) (contents new) c.table
-      × TellsEnded failure c.sources.items c.sessions.items (run_lines job origins c.table) AreTold
+      × TellsEnded failure c.sources.items (fulls_in c.sessions.items) (run_lines job origins c.table (capped (all_filtered c.sessions.items))) AreTold
 
   -- and how one ended with a job, of sources with what their sessions know by their origins, as far as the job wants it
   abbrev pub RunsJob : {S : Type 0} → (S → SourceView) → (S → Option ErrorKind) → List S → CollectJob → List Origin → ℕ → Type 0
   RunsJob seen failure sources job origins status =
       let given = in_context job sources origins in
       Runs job.engine (length sources) status (new ≡ old)
-      (WritesTable (texts_in_context seen) (IsGivenInContext seen) (WentWell job.verbosity.strict) job.plan.now job.engine status (WritesAndTellsJob failure job origins) given)
+      (WritesTable (texts_in_context seen) (IsGivenInContext seen) (EndedWell job.verbosity.strict) job.plan.now job.engine status (WritesAndTellsJob failure job origins) given)
       (TellsFault (new ≡ old) (IsCollectFault (length sources) (AreTooLargeInContext seen job.plan.now given) job.engine) (IsNotExported (texts_in_context seen) (IsGivenInContext seen) job.plan.now job.engine job.output (new ≡ old) given) AreTold) AreTold

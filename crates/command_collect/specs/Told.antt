@@ -1,5 +1,5 @@
 -- What a run tells on standard error.
-use Rattle.std.specs.Prelude.{◌⊎◌, ℕ, List, ◌++◌, codes, Option}
+use Rattle.std.specs.Prelude.{◌⊎◌, ℕ, List, ◌++◌, codes, Option, option_map}
 use Rattle.std.specs.declared.net.socket_addr.SocketAddr.{SocketAddr}
 use Rattle.flow_table.specs.declared.table.Table.{Table}
 use Rattle.flow_export.specs.declared.fault.ExportFault.{ExportFault}
@@ -8,7 +8,7 @@ use Rattle.report_writing.specs.OpeningLines.{not_had_lines}
 use Rattle.output_tables.specs.ExportFaultLines.{export_fault_line}
 use Rattle.report_sessions.specs.EndedSessions.{EndedSession}
 use Rattle.report_sessions.specs.MissingLines.{missing_told}
-use Rattle.report_sessions.specs.ReportLines.{tally_line}
+use Rattle.report_sessions.specs.ReportLines.{tally_line_with}
 use Rattle.report_sessions.specs.ToldLines.{told_lines}
 use Rattle.report_writing.specs.declared.origin.Origin.{Origin}
 use Rattle.report_writing.specs.declared.reason.Reason.{Reason}
@@ -18,13 +18,18 @@ use Rattle.command_collect.specs.declared.job.CollectJob.{CollectJob}
 use Rattle.input_sources.specs.Had.{IsReasonOf}
 use Rattle.input_sources.specs.InputsTold.{opened_lines, StopsAt, TellsPeers}
 
--- what is told of a table: how many records there were of each class, and what they lack, by its name under files
-abbrev pub table_told : CollectJob → Table → List ℕ
-table_told job table = tally_line table.tally ++ missing_told job.verbosity job.elements.now job.plan.now table.missing
+-- how many records were left out, where the job has a filter
+abbrev pub if_filtered : CollectJob → ℕ → Option ℕ
+if_filtered job filtered = option_map (λ filter. filtered) job.filter
+
+-- what is told of a table: how many records there were of each class, how many were left out, and what the others lack, by its
+-- name under files
+abbrev pub table_told : CollectJob → Table → ℕ → List ℕ
+table_told job table filtered = tally_line_with (if_filtered job filtered) table.tally ++ missing_told job.verbosity job.elements.now job.plan.now table.missing
 
 -- the sessions, in order, and then what is told of their table
-abbrev pub run_lines : CollectJob → List Origin → Table → List EndedSession → List ℕ
-run_lines job origins table ended = told_lines job.verbosity job.elements.now origins ended ++ table_told job table
+abbrev pub run_lines : CollectJob → List Origin → Table → ℕ → List EndedSession → List ℕ
+run_lines job origins table filtered ended = told_lines job.verbosity job.elements.now origins ended ++ table_told job table filtered
 
 -- after the first lines each session is told when it is had, with its origin; and after these what the last fact says
 pub record TellsBehind (AreOrigins : List Origin → Type 0) (verbosity : Verbosity) (first : List ℕ) (AreTold : List ℕ → Type 0) (Tells : List Origin → (List ℕ → Type 0) → Type 0) : Type 0 where

@@ -1,34 +1,29 @@
 //! How a run ended, and what it tells.
 
-ghost use Rattle.std.specs.Prelude.{List, ◌≡◌, ◌⊎◌, ◌↔◌, All, IsTrue};
+ghost use Rattle.std.specs.Prelude.{◌≡◌, ◌⊎◌, ◌↔◌, All, IsTrue};
 ghost use Rattle.report_writing.specs.Writing.{Tells};
-ghost use Rattle.flow_table.specs.Plans.{PlanValue};
-ghost use Rattle.flow_collect.specs.InFull.{FullSerialHeadline};
+ghost use Rattle.flow_collect.specs.InFull.{FullSerialAnswer};
 ghost use Rattle.flow_collect.specs.Texts.{HasNoFault};
-ghost use Rattle.flow_collect.specs.declared.session_context.InContext.{InContext};
 ghost use Rattle.report_sessions.specs.EndedSessions.{TellsEnded};
-ghost use Rattle.command_collect.specs.Runs.{AddsUpWhole, WentWell, texts_in_context};
-ghost use Rattle.command_collect.specs.Told.{run_lines, table_told};
+ghost use Rattle.command_collect.specs.Runs.{AddsUpIfWell, WentWell};
+ghost use Rattle.command_collect.specs.Told.{if_filtered as if_filtered_by, run_lines, table_told};
 
+use crate::gathered::Gathered;
 use crate::job::CollectJob;
-use flow_collect::Serial;
 use flow_table::FlatTable;
 use ipfix_session::{FullReport, Source};
-use report_sessions::{is_spotless, write_missing, write_tally, write_told_reports};
+use report_sessions::{is_spotless, write_missing, write_tally_with, write_told_reports};
 use report_writing::{Origin, Status, WriteLines};
 use std::io;
 
 /// How a run ended whose table is written.
-pub fn status_of<S: Source>(strict: bool, run: &Serial<S, FullReport, FlatTable>) -> Status
+pub fn status_of<S: Source>(strict: bool, gathered: &Gathered<S>) -> Status
     ensures ends { (result ≡ Status.Well) ⊎ (result ≡ Status.SessionFault) }
     ensures well { (result ≡ Status.Well)
-        ↔ WentWell strict run.now.sessions.items run.now.table }
-    ensures whole { (sources : List (InContext S)) (plan : PlanValue)
-        → FullSerialHeadline S.seen sources plan run.now
-        → WentWell strict run.now.sessions.items run.now.table
-        → AddsUpWhole (texts_in_context S.seen) sources plan run.now.table }
+        ↔ WentWell strict gathered.now.run.sessions.items gathered.now.run.table }
+    ensures whole { (c : FullSerialAnswer S) → AddsUpIfWell S.seen strict gathered.now c }
 {
-    end_of(strict, &run.sessions, &run.table)
+    end_of(strict, &gathered.run.sessions, &gathered.run.table)
 }
 
 // How sessions and their records ended.
@@ -69,29 +64,45 @@ fn have_no_fault(reports: &[FullReport]) -> bool
 pub fn tell<S: Source, E: WriteLines>(
     job: &CollectJob,
     origins: &[Origin],
-    collected: &Serial<S, FullReport, FlatTable>,
+    gathered: &Gathered<S>,
     err: &mut E,
 ) -> io::Result<()>
-    ensures { TellsEnded S.failure collected.now.sources.items collected.now.sessions.items
-        (run_lines job.now origins.now collected.now.table)
+    ensures { TellsEnded S.failure gathered.now.run.sources.items gathered.now.run.sessions.items
+        (run_lines job.now origins.now gathered.now.run.table gathered.now.filtered)
         (Tells E.contents E.failed err.old err.new result) }
 {
+    let run = &gathered.run;
     write_told_reports(
         job.verbosity,
         job.elements,
         origins,
-        &collected.sources,
-        &collected.sessions,
+        &run.sources,
+        &run.sessions,
         err,
     )?;
-    tell_table(job, &collected.table, err)
+    tell_table(job, &run.table, gathered.filtered, err)
 }
 
-// How many records there were of each class, and what of them lacked something.
-fn tell_table<E: WriteLines>(job: &CollectJob, table: &FlatTable, err: &mut E) -> io::Result<()>
+// How many records there were of each class, how many were left out, and what of them lacked something.
+fn tell_table<E: WriteLines>(
+    job: &CollectJob,
+    table: &FlatTable,
+    filtered: u64,
+    err: &mut E,
+) -> io::Result<()>
     ensures { Tells E.contents E.failed err.old err.new result
-        (table_told job.now table.now) }
+        (table_told job.now table.now filtered) }
 {
-    write_tally(&table.tally(), err)?;
+    write_tally_with(&table.tally(), if_filtered(job, filtered), err)?;
     write_missing(job.verbosity, job.elements, job.plan, &table.missing(), err)
+}
+
+// How many records were left out, where the job has a filter.
+fn if_filtered(job: &CollectJob, filtered: u64) -> Option<u64>
+    ensures { result ≡ if_filtered_by job.now filtered }
+{
+    match job.filter {
+        Some(_) => Some(filtered),
+        None => None,
+    }
 }

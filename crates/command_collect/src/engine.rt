@@ -7,11 +7,11 @@ ghost use Rattle.flow_collect.specs.Refusals.{AreTooLargeInContext, HasFaultsInC
 ghost use Rattle.command_collect.specs.Engines.{due_fault, CollectsBy};
 
 use flow_collect::{
-    CollectFault, Collected, InContext, OpenGate, Pool, Serial, collect_direct, collect_flat,
-    direct_refusal, refusal,
+    CollectFault, Collected, FilteredReport, InContext, OpenGate, Pool, Serial, collect_direct,
+    collect_flat, direct_refusal, refusal,
 };
 use flow_table::{FlatTable, Plan};
-use ipfix_session::{FullReport, Source};
+use ipfix_session::Source;
 use std::alloc::Global;
 use std::sync::Wait;
 use std::thread::Threads;
@@ -45,11 +45,11 @@ impl Engine {
         alloc: Global,
         sources: Vec<InContext<S>>,
         plan: &Plan,
-    ) -> Result<Serial<S, FullReport, FlatTable>, CollectFault>
-        ensures ok { IfOk result (CollectsBy self (IsGivenInContext S.seen) sources.items plan.now) }
+    ) -> Result<Serial<S, FilteredReport, FlatTable>, CollectFault>
+        ensures ok { IfOk result (CollectsBy self (IsGivenInContext S.seen) sources.entry.items plan.now) }
         ensures fits { IfOk result (λ s. FitsPlan plan.now s.table) }
-        ensures faults { HasFaultsOf (due_fault self (vec_len sources))
-            (AreTooLargeInContext S.seen plan.now sources.items) result }
+        ensures faults { HasFaultsOf (due_fault self (vec_len sources.entry))
+            (AreTooLargeInContext S.seen plan.now sources.entry.items) result }
     {
         match self {
             Engine::Links(pool) => collect_over_links(rt, alloc, sources, plan, pool),
@@ -65,11 +65,11 @@ fn collect_over_links<S: Source + Send + Drop, R: Threads + Wait + Sync>(
     sources: Vec<InContext<S>>,
     plan: &Plan,
     pool: Pool,
-) -> Result<Serial<S, FullReport, FlatTable>, CollectFault>
-    ensures ok { IfOk result (CollectsBy (Engine.Links pool) (IsGivenInContext S.seen) sources.items
+) -> Result<Serial<S, FilteredReport, FlatTable>, CollectFault>
+    ensures ok { IfOk result (CollectsBy (Engine.Links pool) (IsGivenInContext S.seen) sources.entry.items
         plan.now) }
     ensures fits { IfOk result (λ s. FitsPlan plan.now s.table) }
-    ensures faults { HasFaultsInContext S.seen sources plan.now pool result }
+    ensures faults { HasFaultsInContext S.seen sources.entry plan.now pool result }
 {
     match collect_flat(rt, alloc, sources, plan, pool, &OpenGate) {
         Ok(collected) => Ok(without_links(collected)),
@@ -78,8 +78,8 @@ fn collect_over_links<S: Source + Send + Drop, R: Threads + Wait + Sync>(
 }
 
 fn without_links<S: Drop>(
-    collected: Collected<S, FullReport, FlatTable>,
-) -> Serial<S, FullReport, FlatTable>
+    collected: Collected<S, FilteredReport, FlatTable>,
+) -> Serial<S, FilteredReport, FlatTable>
     ensures sessions { result.sessions ≡ collected.sessions }
     ensures sources { result.sources ≡ collected.sources }
     ensures table { result.table ≡ collected.table }

@@ -11,13 +11,13 @@ use std::collections::VecDeque;
 use std::net::IpAddr;
 
 /// The sources, each with what its session knows: the exporter that is told of it, or the peer that is its origin, by
-/// its place, as far as the job wants it.
-pub fn in_context<S: Drop>(
+/// its place, as far as the job wants it; and with the job's filter.
+pub fn in_context<'a, S: Drop>(
     alloc: Global,
     sources: Vec<S>,
     origins: &[Origin],
-    job: &CollectJob,
-) -> Result<Vec<InContext<S>>, AllocError>
+    job: &CollectJob<'a>,
+) -> Result<Vec<InContext<'a, S>>, AllocError>
     ensures { IfOk result (λ all. all.items ≡ given job.now sources.items origins.now) }
 {
     let mut waiting = VecDeque::from_vec(sources);
@@ -29,7 +29,11 @@ pub fn in_context<S: Drop>(
             exporter: exporter_by(told, left),
             wanted: job.wanted,
         };
-        all.push(InContext { source, context })?;
+        all.push(InContext {
+            source,
+            context,
+            filter: job.filter,
+        })?;
         told = after_told(told);
         left = after_origin(left);
     }

@@ -1,10 +1,11 @@
 //! What a run of collecting is to do.
 
-ghost use Rattle.std.specs.Prelude.{◌≡◌};
+ghost use Rattle.std.specs.Prelude.{◌≡◌, None};
 
 use crate::engine::Engine;
 use element_registry::Elements;
 use flow_collect::NO_CONTEXT;
+use flow_filter::Filter;
 use flow_table::{Context, Plan};
 use output_tables::Output;
 use report_writing::{NOTHING_MORE, Verbosity};
@@ -24,15 +25,17 @@ pub struct CollectJob<'a> {
     pub output: Output,
     /// What is told beside the lines that always stand.
     pub verbosity: Verbosity,
-    /// Which elements of context records get: those that the plan's keys name.
+    /// Which elements of context records get: those that the plan's keys and its conditions name.
     pub wanted: Context,
+    /// Which records count, where the plan has conditions.
+    pub filter: Option<&'a Filter>,
     /// The exporter that is told of each session, if one is, by its place. Of a connection it is the peer if none is
     /// told.
     pub exporters: &'a [Option<IpAddr>],
 }
 
 impl<'a> CollectJob<'a> {
-    /// One that tells nothing more, and wants no context.
+    /// One that tells nothing more, wants no context, and has no filter.
     pub fn plain(elements: &'a Elements, plan: &'a Plan, engine: Engine, output: Output) -> Self
         ensures elements { result.elements.now ≡ elements.now }
         ensures plan { result.plan.now ≡ plan.now }
@@ -40,6 +43,7 @@ impl<'a> CollectJob<'a> {
         ensures output { result.output ≡ output }
         ensures verbosity { result.verbosity ≡ NOTHING_MORE }
         ensures wanted { result.wanted ≡ NO_CONTEXT.wanted }
+        ensures filter { result.filter ≡ None }
     {
         CollectJob {
             elements,
@@ -48,6 +52,7 @@ impl<'a> CollectJob<'a> {
             output,
             verbosity: NOTHING_MORE,
             wanted: NO_CONTEXT.wanted,
+            filter: None,
             exporters: &[],
         }
     }

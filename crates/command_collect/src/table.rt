@@ -4,7 +4,8 @@ ghost use Rattle.std.specs.Prelude.{IfOk, vec_len};
 ghost use Rattle.flow_table.specs.Fitting.{FitsPlan};
 ghost use Rattle.flow_collect.specs.InFull.{IsGivenInContext};
 ghost use Rattle.flow_collect.specs.Refusals.{AreTooLargeInContext, HasFaultsOf};
-ghost use Rattle.command_collect.specs.Engines.{due_fault, CollectsBy};
+ghost use Rattle.command_collect.specs.Engines.{due_fault};
+ghost use Rattle.command_collect.specs.Gathered.{GathersBy};
 ghost use Rattle.command_collect.specs.Exporters.{in_context as given};
 ghost use Rattle.report_writing.specs.Statuses.{number_of};
 ghost use Rattle.report_writing.specs.Told.{AreToldTo};
@@ -14,11 +15,12 @@ use crate::collect_fault::write_collect_fault;
 use crate::ending::{status_of, tell};
 use crate::engine::Engine;
 use crate::exporters::in_context;
+use crate::gathered::{Gathered, gather};
 use crate::job::CollectJob;
 use element_registry::Elements;
-use flow_collect::{CollectFault, Pool, Serial};
-use flow_table::{FlatTable, Plan};
-use ipfix_session::{FullReport, Source};
+use flow_collect::{CollectFault, Pool};
+use flow_table::Plan;
+use ipfix_session::Source;
 use output_tables::{Output, export, write_export_fault};
 use report_writing::{Origin, Status, WriteLines};
 use std::alloc::{AllocError, Global};
@@ -59,7 +61,8 @@ pub fn run<S: Source + Send + Drop, W: Write, E: WriteLines, R: Threads + Wait +
 
 /// Does as [`run`], and tells more if `job.verbosity` asks for it: to `err` it writes the lines of the
 /// sessions in full, each with the origin that has the session's place. What `job.wanted` names is appended to each
-/// record: the exporter by that origin, and the record's own domain. Keys and counters have the names that
+/// record: the exporter by that origin, and the record's own domain. Records that `job.filter` does not count are in no
+/// row and in no class, and the line of counts ends with their number. Keys and counters have the names that
 /// `job.elements` give them. If it is strict, it ends with `SessionFault` also if anything shows that something which
 /// was sent isn't in the table ([`is_spotless`](report_sessions::is_spotless)).
 pub fn run_with<S: Source + Send + Drop, W: Write, E: WriteLines, R: Threads + Wait + Sync>(
@@ -78,33 +81,33 @@ pub fn run_with<S: Source + Send + Drop, W: Write, E: WriteLines, R: Threads + W
         origins.now (number_of result) }
     ensures kept { E.failed err.old → E.failed err.new }
 {
-    let collected = match collect_job(rt, alloc, sources, origins, job) {
-        Ok(collected) => collected,
+    let gathered = match collect_job(rt, alloc, sources, origins, job) {
+        Ok(gathered) => gathered,
         Err(fault) => {
             let _ = write_collect_fault(fault, err);
             return Status::Failed;
         }
     };
-    let table = &collected.table;
+    let table = &gathered.run.table;
     if let Err(fault) = export(alloc, job.elements, job.plan, table, job.output, out) {
         let _ = write_export_fault(fault, err);
         return Status::Failed;
     }
-    let _ = tell(job, origins, &collected, err);
-    status_of(job.verbosity.strict, &collected)
+    let _ = tell(job, origins, &gathered, err);
+    status_of(job.verbosity.strict, &gathered)
 }
 
-/// Collects by the job's engine, with what sessions know by their origins.
+/// Collects by the job's engine, with what sessions know by their origins, and with the job's filter.
 pub fn collect_job<S: Source + Send + Drop, R: Threads + Wait + Sync>(
     rt: &R,
     alloc: Global,
     sources: Vec<S>,
     origins: &[Origin],
     job: &CollectJob,
-) -> Result<Serial<S, FullReport, FlatTable>, CollectFault>
-    ensures ok { IfOk result (CollectsBy job.now.engine (IsGivenInContext S.seen)
+) -> Result<Gathered<S>, CollectFault>
+    ensures ok { IfOk result (GathersBy job.now.engine (IsGivenInContext S.seen)
         (given job.now sources.items origins.now) job.now.plan.now) }
-    ensures fits { IfOk result (λ s. FitsPlan job.now.plan.now s.table) }
+    ensures fits { IfOk result (λ g. FitsPlan job.now.plan.now g.run.table) }
     ensures faults { HasFaultsOf (due_fault job.now.engine (vec_len sources))
         (AreTooLargeInContext S.seen job.now.plan.now (given job.now sources.items origins.now))
         result }
@@ -112,8 +115,16 @@ pub fn collect_job<S: Source + Send + Drop, R: Threads + Wait + Sync>(
     if let Some(fault) = job.engine.refusal(sources.len()) {
         return Err(fault);
     }
-    match in_context(alloc, sources, origins, job) {
-        Ok(given) => job.engine.collect(rt, alloc, given, job.plan),
+    let given = match in_context(alloc, sources, origins, job) {
+        Ok(given) => given,
+        Err(AllocError) => return Err(CollectFault::OutOfMemory),
+    };
+    let collected = match job.engine.collect(rt, alloc, given, job.plan) {
+        Ok(collected) => collected,
+        Err(fault) => return Err(fault),
+    };
+    match gather(alloc, collected) {
+        Ok(gathered) => Ok(gathered),
         Err(AllocError) => Err(CollectFault::OutOfMemory),
     }
 }

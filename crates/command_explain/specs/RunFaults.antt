@@ -21,7 +21,7 @@ use Rattle.ipfix_dump.specs.declared.fault.DumpFault.TheVariants as dumps
 use Rattle.element_registry.specs.declared.fault.Heading.TheVariants as headings
 use Rattle.ipfix_session.specs.declared.fault.SessionFault.TheVariants as sessions
 use Rattle.command_explain.specs.declared.run_faults.RunFault.{RunFault}
-use Rattle.command_explain.specs.declared.run_faults.RunFault.TheVariants.{PlanText, Plan, Elements, Collect, Merge, Row, Export, Dump}
+use Rattle.command_explain.specs.declared.run_faults.RunFault.TheVariants.{PlanText, Plan, Filter, Elements, Collect, Merge, Row, Export, Dump}
 use Rattle.command_explain.specs.declared.run_faults.TheConstants.{RUN_FAULTS}
 use Rattle.command_explain.specs.Guide.{texts_of_message}
 
@@ -29,6 +29,7 @@ use Rattle.command_explain.specs.Guide.{texts_of_message}
 abbrev pub name_of : RunFault → List ℕ
 name_of (PlanText fault) = of_texts.name_of fault
 name_of (Plan fault) = of_plans.name_of fault
+name_of Filter = codes "Filter"
 name_of (Elements fault) = of_elements.name_of fault
 name_of (Collect fault) = of_collects.name_of fault
 name_of (Merge fault) = of_merges.name_of fault
@@ -44,6 +45,7 @@ place family number = family ++ (codes ": fault " ++ decimal number)
 abbrev pub place_of : RunFault → List ℕ
 place_of (PlanText fault) = place (codes "plan") (of_texts.number_of fault)
 place_of (Plan fault) = place (codes "plan") (of_texts.number_of (texts.Plan fault)) ++ (codes " " ++ place (of_texts.name_of (texts.Plan fault)) (of_plans.number_of fault))
+place_of Filter = place (codes "plan") 8
 place_of (Elements fault) = place (codes "elements") (of_elements.number_of fault)
 place_of (Collect fault) = place (codes "collect") (of_collects.number_of fault)
 place_of (Merge fault) = place (codes "merge") (of_merges.number_of fault)
@@ -101,6 +103,7 @@ words_of (Plan plans.Prefix) = words (codes "a key with a prefix that it can't h
 words_of (Plan plans.CounterCount) = words (codes "no counter, or more than 4") (codes "Name 1 to 4 counters. Make a second table for more.")
 words_of (Plan plans.CounterKind) = words (codes "an element that can't be a counter") (codes "Counters are octetDeltaCount, packetDeltaCount, deltaFlowCount, postOctetDeltaCount,\npostPacketDeltaCount, droppedOctetDeltaCount and droppedPacketDeltaCount; with --elements\nalso the delta counters of files. Totals are no counters: flows would be counted again\nand again. Where each record says all of a flow, totals = \"as-deltas\" lets octetTotalCount\n(e0.85) and packetTotalCount (e0.86) be counters.")
 words_of (Plan plans.Repeated) = words (codes "an element twice among keys and counters") (codes "Leave one of them out. A key with a prefix also counts as sourceIPv4Prefix,\ndestinationIPv4Prefix, sourceIPv6Prefix or destinationIPv6Prefix.")
+words_of Filter = words (codes "a condition of the plan is none") (codes "A [[where]] has an element, and in, not_in or both: 1 to 64 texts as \"80\", \"1024-65535\",\n\"192.0.2.1\", \"192.0.2.0/24\" or \"2001:db8::/32\". The next line says which one has none.")
 words_of (Elements elements.NotCsv) = words (codes "a row has more or fewer fields than the first line") (codes "The same line says in which line of the file the row begins.")
 words_of (Elements (elements.Column _)) = words (codes "the first line lacks a column") (codes "The first line has ElementID, Name and Abstract Data Type, as that of IANA's file.")
 words_of (Elements elements.Number) = words (codes "the number is not decimal, or above 32767") (codes "Write the element's number without its enterprise bit.")

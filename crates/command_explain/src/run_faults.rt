@@ -20,6 +20,8 @@ pub enum RunFault {
     PlanText(PlanTextFault),
     /// The values of such a text make no plan.
     Plan(PlanFault),
+    /// The conditions of such a text make no filter.
+    Filter,
     /// A file says no elements.
     Elements(ElementsFault),
     /// Nothing was collected.
@@ -42,6 +44,7 @@ impl RunFault {
         match self {
             RunFault::PlanText(fault) => fault.name(),
             RunFault::Plan(fault) => fault.name(),
+            RunFault::Filter => "Filter",
             RunFault::Elements(fault) => fault.name(),
             RunFault::Collect(fault) => fault.name(),
             RunFault::Merge(fault) => fault.name(),
@@ -70,7 +73,7 @@ impl RunFault {
 
 /// Each of them that is explained, in the order of the lines that have them. A fault within which there are
 /// others stands here with the first of them. OutOfMemory is a session's fault, too, and so is not among them.
-pub const RUN_FAULTS: [RunFault; 37] = [
+pub const RUN_FAULTS: [RunFault; 38] = [
     RunFault::PlanText(PlanTextFault::NotToml),
     RunFault::PlanText(PlanTextFault::UnknownField),
     RunFault::PlanText(PlanTextFault::Missing),
@@ -85,6 +88,7 @@ pub const RUN_FAULTS: [RunFault; 37] = [
     RunFault::Plan(PlanFault::CounterCount),
     RunFault::Plan(PlanFault::CounterKind),
     RunFault::Plan(PlanFault::Repeated),
+    RunFault::Filter,
     RunFault::Elements(ElementsFault::NotCsv),
     RunFault::Elements(ElementsFault::Column(Heading::Number)),
     RunFault::Elements(ElementsFault::Number),

@@ -5,7 +5,7 @@ ghost use Rattle.command_explain.specs.RunFaults.{guide_of};
 
 use crate::guide::explanation_of_message;
 use crate::run_faults::RunFault::{
-    self, Collect, Dump, Elements, Export, Merge, Plan, PlanText, Row,
+    self, Collect, Dump, Elements, Export, Filter, Merge, Plan, PlanText, Row,
 };
 use element_registry::ElementsFault;
 use flow_collect::CollectFault;
@@ -38,6 +38,7 @@ impl RunFault {
             Plan(PlanFault::CounterCount) => "no counter, or more than 4",
             Plan(PlanFault::CounterKind) => "an element that can't be a counter",
             Plan(PlanFault::Repeated) => "an element twice among keys and counters",
+            Filter => "a condition of the plan is none",
             Elements(ElementsFault::NotCsv) => "a row has more or fewer fields than the first line",
             Elements(ElementsFault::Column(_)) => "the first line lacks a column",
             Elements(ElementsFault::Number) => "the number is not decimal, or above 32767",
@@ -116,6 +117,9 @@ impl RunFault {
             Plan(PlanFault::Repeated) =>
                 "Leave one of them out. A key with a prefix also counts as sourceIPv4Prefix,\n\
                 destinationIPv4Prefix, sourceIPv6Prefix or destinationIPv6Prefix.",
+            Filter =>
+                "A [[where]] has an element, and in, not_in or both: 1 to 64 texts as \"80\", \"1024-65535\",\n\
+                \"192.0.2.1\", \"192.0.2.0/24\" or \"2001:db8::/32\". The next line says which one has none.",
             Elements(ElementsFault::NotCsv) =>
                 "The same line says in which line of the file the row begins.",
             Elements(ElementsFault::Column(_)) =>

@@ -11,10 +11,28 @@ use Rattle.input_sources.specs.InputsTold.{opened_lines}
 use Rattle.command_collect.specs.Engines.{due_fault}
 use Rattle.command_collect.specs.Exporters.{in_context}
 use Rattle.command_collect.specs.declared.job.CollectJob.{CollectJob}
-use Rattle.command_collect.proofs.Ran.{ends_so}
-use Rattle.command_receipt.specs.Runs.{CollectsReceipted, RunsReceipted, TellsNoReceipt}
+use Rattle.ipfix_session.specs.declared.report.FullReport.{FullReport}
+use Rattle.flow_table.specs.declared.table.Table.{Table}
+use Rattle.flow_collect.specs.InFull.{FullSerialAnswer, fulls_in}
+use Rattle.command_collect.specs.Gathered.{IsGathered}
+use Rattle.command_collect.specs.declared.gathered.Gathered.{Gathered}
+use Rattle.command_collect.proofs.Ran.{ends_so, of_gathered}
+use Rattle.command_receipt.specs.Runs.{CollectsReceipted, IsNotPut, IsPut, RunsReceipted, TellsNoReceipt}
+use Rattle.command_receipt.specs.declared.fault.RunFault.{RunFault}
+use Rattle.command_receipt.specs.declared.making.MadeWith.{MadeWith}
 use Rattle.command_receipt.specs.declared.run.Ended.{Ended}
 use Rattle.command_receipt.specs.declared.run.Receipted.{Receipted}
+
+-- what is said of the receipt of what was gathered is said of what was collected
+pub put_of : {S : Type 0} (Holds : List ℕ → Type 0) (made : MadeWith) (job : CollectJob) (origins : List Origin) (digests : List (List ℕ)) (old : Option (List ℕ)) (c : FullSerialAnswer S) (g : Gathered S) → IsGathered c g
+    → IsPut Holds made job origins g.run.sessions.items digests old g.run.table → IsPut Holds made job origins (fulls_in c.sessions.items) digests old c.table
+put_of {S = S} Holds made job origins digests old c g is put =
+    of_gathered (λ (sources : List S) (fulls : List FullReport) (table : Table) (n : ℕ). IsPut Holds made job origins fulls digests old table) c g is put
+
+pub not_put_of : {S : Type 0} (job : CollectJob) (origins : List Origin) (digests : List (List ℕ)) (IsUntouched : Type 0) (fault : RunFault) (c : FullSerialAnswer S) (g : Gathered S) → IsGathered c g
+    → IsNotPut job origins g.run.sessions.items digests g.run.table IsUntouched fault → IsNotPut job origins (fulls_in c.sessions.items) digests c.table IsUntouched fault
+not_put_of {S = S} job origins digests IsUntouched fault c g is not =
+    of_gathered (λ (sources : List S) (fulls : List FullReport) (table : Table) (n : ℕ). IsNotPut job origins fulls digests table IsUntouched fault) c g is not
 
 module _ {S W P : Type 0} (contents : W → Option (List ℕ)) (holds : P → List ℕ → Type 0) (to : Receipted W P) (ended : Ended W P) (seen : S → SourceView) (failure : S → Option ErrorKind) (job : CollectJob) where
   fault_told : (Told AreTold : List ℕ → Type 0) (sources : List S) (origins : List Origin) → ((lines : List ℕ) → Told lines → AreTold lines)

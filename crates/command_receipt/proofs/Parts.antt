@@ -1,34 +1,37 @@
 -- A run over sources that are parts of others.
 use Rattle.std.proofs.Common.{◌≡◌, ℕ, List, [], ◌∷◌, map, refl, sym, ap, subst, ◌∙◌}
 use Rattle.std.specs.Prelude.{Option}
+use Rattle.std.specs.declared.alloc.Global.{Global}
 use Rattle.std.specs.declared.net.ip_addr.IpAddr.{IpAddr}
+use Rattle.std.specs.declared.vec.Vec.{Vec}
 use Rattle.ipfix_message.specs.declared.record.DataRecord.{DataRecord}
 use Rattle.ipfix_session.specs.Given.{records_of}
 use Rattle.ipfix_session.specs.Sources.{SourceView}
-use Rattle.ipfix_session.specs.declared.report.FullReport.{FullReport}
 use Rattle.report_writing.specs.declared.origin.Origin.{Origin}
 use Rattle.flow_table.specs.Plans.{PlanValue}
 use Rattle.flow_table.specs.declared.table.Table.{Table}
 use Rattle.flow_table.specs.Tables.{IsTooLarge}
-use Rattle.flow_collect.specs.Contexts.{all_with_context, records_in_context, sources_of}
+use Rattle.flow_collect.specs.Contexts.{counted_in, records_in_context, sources_of}
 use Rattle.flow_collect.specs.Headline.{all_of}
 use Rattle.flow_collect.specs.InFull.{FullSerialAnswer, IsGivenInContext}
 use Rattle.flow_collect.specs.Places.{Each4}
 use Rattle.flow_collect.specs.Refusals.{AreTooLargeInContext}
 use Rattle.flow_collect.specs.Texts.{AreTexts}
+use Rattle.flow_collect.specs.declared.collected.FilteredReport.{FilteredReport}
 use Rattle.flow_collect.specs.declared.session_context.InContext.{InContext}
-use Rattle.flow_collect.specs.declared.session_context.SessionContext.{SessionContext}
 use Rattle.command_collect.specs.Engines.{CollectsBy}
 use Rattle.command_collect.specs.Exporters.{exporter_of, first_origin, first_told, in_context, in_places, other_origins, others_told}
+use Rattle.command_collect.specs.Gathered.{GathersBy}
 use Rattle.command_collect.specs.declared.engine.Engine.{Engine}
+use Rattle.command_collect.specs.declared.gathered.Gathered.{Gathered}
 use Rattle.command_collect.specs.declared.job.CollectJob.{CollectJob}
 
 module _ {H S : Type 0} (part : H → S) (seen : S → SourceView) where
   -- what a whole gave, its part gave
-  given_part : (context : SessionContext) (before after : H) (full : FullReport) (records : List DataRecord)
-      → IsGivenInContext (λ h. seen (part h)) (record { source = before; context = context }) after full records
-      → IsGivenInContext seen (record { source = part before; context = context }) (part after) full records
-  given_part context before after full records g =
+  given_part : (before : InContext H) (after : H) (told : FilteredReport) (records : List DataRecord)
+      → IsGivenInContext (λ h. seen (part h)) before after told records
+      → IsGivenInContext seen (record { source = part before.source; context = before.context; filter = before.filter }) (part after) told records
+  given_part before after told records g =
       let d = g.given.given in
       let stops = d.given.stops in
       record {
@@ -64,9 +67,10 @@ module _ {H S : Type 0} (part : H → S) (seen : S → SourceView) where
           told = g.given.told;
         };
         records_are = g.records_are;
+        filtered_is = g.filtered_is;
       }
 
-  given_parts : (job : CollectJob) (befores : List H) (told : List (Option IpAddr)) (origins : List Origin) (afters : List H) (fulls : List FullReport) (records : List (List DataRecord))
+  given_parts : (job : CollectJob) (befores : List H) (told : List (Option IpAddr)) (origins : List Origin) (afters : List H) (fulls : List FilteredReport) (records : List (List DataRecord))
       → Each4 (IsGivenInContext (λ h. seen (part h))) (in_places job befores told origins) afters fulls records
       → Each4 (IsGivenInContext seen) (in_places job (map part befores) told origins) (map part afters) fulls records
   given_parts job [] told origins [] [] [] g = tt
@@ -77,7 +81,7 @@ module _ {H S : Type 0} (part : H → S) (seen : S → SourceView) where
   given_parts job (b ∷ befores) told origins (a ∷ afters) [] records g = absurd g
   given_parts job (b ∷ befores) told origins (a ∷ afters) (f ∷ fulls) [] g = absurd g
   given_parts job (b ∷ befores) told origins (a ∷ afters) (f ∷ fulls) (r ∷ records) g =
-      (given_part _ b a f r g.0, given_parts job befores (others_told told) (other_origins origins) afters fulls records g.1)
+      (given_part _ a f r g.0, given_parts job befores (others_told told) (other_origins origins) afters fulls records g.1)
 
   -- what was collected from wholes was collected from their parts
   pub collects_parts : (engine : Engine) (job : CollectJob) (plan : PlanValue) (wholes : List H) (sources : List S) (origins : List Origin) (c : FullSerialAnswer H) (s : FullSerialAnswer S)
@@ -88,8 +92,23 @@ module _ {H S : Type 0} (part : H → S) (seen : S → SourceView) where
       let parts = given_parts job wholes job.exporters.now origins c.sources.items c.sessions.items h.records h.given in
       let these = subst (λ (l : List S). Each4 (IsGivenInContext seen) (in_context job l origins) (map part c.sources.items) c.sessions.items h.records) same parts in
       let there = subst (λ (l : List S). Each4 (IsGivenInContext seen) (in_context job sources origins) l c.sessions.items h.records) (sym afters) these in
-      let given = subst (λ (l : List FullReport). Each4 (IsGivenInContext seen) (in_context job sources origins) s.sources.items l h.records) (sym sessions) there in
+      let given = subst (λ (l : List FilteredReport). Each4 (IsGivenInContext seen) (in_context job sources origins) s.sources.items l h.records) (sym sessions) there in
       record { headline = record { records = h.records; given = given; added_up = rw table h.added_up }; came = by.came }
+
+  -- and so was what was gathered of it
+  pub gathers_parts : (engine : Engine) (job : CollectJob) (plan : PlanValue) (wholes : List H) (sources : List S) (origins : List Origin) (whole : Gathered H) (run : Gathered S)
+      → map part wholes ≡ sources → run.run.sources.items ≡ map part whole.run.sources.items → run.run.sessions.items ≡ whole.run.sessions.items → run.run.table ≡ whole.run.table → run.filtered ≡ whole.filtered
+      → GathersBy engine (IsGivenInContext (λ h. seen (part h))) (in_context job wholes origins) plan whole → GathersBy engine (IsGivenInContext seen) (in_context job sources origins) plan run
+  gathers_parts engine job plan wholes sources origins whole run same afters sessions table filtered by =
+      let c = by.collected in
+      let g = by.gathered in
+      let s : FullSerialAnswer S = record { sessions = c.sessions; sources = run.run.sources; table = c.table } in
+      let those : run.run.sources.items ≡ map part c.sources.items = afters ∙ ap (λ (v : Vec H Global). map part v.items) g.sources_are in
+      record {
+        collected = s;
+        collects = collects_parts engine job plan wholes sources origins c s same those refl refl by.collects;
+        gathered = record { sessions_are = sessions ∙ g.sessions_are; sources_are = refl; table_is = table ∙ g.table_is; filtered_is = filtered ∙ g.filtered_is };
+      }
 
   -- and parts are too large if their wholes are
   sources_same : (job : CollectJob) (wholes : List H) (told : List (Option IpAddr)) (origins : List Origin) (texts : List (List ℕ))
@@ -100,7 +119,8 @@ module _ {H S : Type 0} (part : H → S) (seen : S → SourceView) where
 
   -- those of the first text
   abbrev first_records : CollectJob → H → List (Option IpAddr) → List Origin → List ℕ → List DataRecord
-  first_records job h told origins x = all_with_context (record { exporter = exporter_of (first_told told) (first_origin origins); wanted = job.wanted }) (records_of x)
+  first_records job h told origins x =
+      counted_in (record { source = h; context = record { exporter = exporter_of (first_told told) (first_origin origins); wanted = job.wanted }; filter = job.filter }) (records_of x)
 
   records_same : (job : CollectJob) (wholes : List H) (told : List (Option IpAddr)) (origins : List Origin) (texts : List (List ℕ))
       → records_in_context (in_places job wholes told origins) texts ≡ records_in_context (in_places job (map part wholes) told origins) texts

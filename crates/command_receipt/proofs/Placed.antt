@@ -3,16 +3,24 @@ use Rattle.std.proofs.Common.{◌≡◌, ℕ, suc, ◌+◌, ◌<◌, ◌≤◌, 
 use Rattle.std.specs.Prelude.{Option, None}
 use Rattle.std.proofs.Math.Seq.{get_or-append_seam}
 use Rattle.std.proofs.lemmas.List.{map-append, length-map, take_all, take_more}
+use Rattle.std.specs.declared.alloc.Global.{Global}
 use Rattle.std.specs.declared.net.ip_addr.IpAddr.{IpAddr}
+use Rattle.std.specs.declared.vec.Vec.{Vec}
 use Rattle.ipfix_message.specs.declared.record.DataRecord.{DataRecord}
 use Rattle.ipfix_session.specs.Sources.{SourceView}
 use Rattle.ipfix_session.specs.declared.driver.TheConstants.{READ_LIMIT}
 use Rattle.ipfix_session.specs.declared.report.FullReport.{FullReport}
 use Rattle.report_writing.specs.declared.origin.Origin.{Origin}
-use Rattle.flow_collect.specs.InFull.{IsGivenInContext}
+use Rattle.flow_collect.specs.InFull.{IsGivenInContext, fulls_in}
 use Rattle.flow_collect.specs.Places.{Each3, Each4}
+use Rattle.flow_collect.specs.declared.collected.FilteredReport.{FilteredReport}
 use Rattle.input_digests.specs.HashedTexts.{IsOfCounted, IsOfSession}
 use Rattle.command_collect.specs.Exporters.{in_places, other_origins, others_told}
+use Rattle.flow_table.specs.Plans.{PlanValue}
+use Rattle.command_collect.specs.Exporters.{in_context}
+use Rattle.command_collect.specs.Gathered.{GathersBy}
+use Rattle.command_collect.specs.declared.engine.Engine.{Engine}
+use Rattle.command_collect.specs.declared.gathered.Gathered.{Gathered}
 use Rattle.command_collect.specs.declared.job.CollectJob.{CollectJob}
 use Rattle.command_receipt.specs.Digests.{AreDigestsOf, AreOfSessions, StartAt}
 
@@ -53,8 +61,8 @@ module _ {S : Type 0} (seen : S → SourceView) where
       (all.0, of_sessions_more texts (place + 1) last sources fulls digests s f d all.1 (omega (arith, here)) one)
 
   -- the digests of sources that gave what their sessions got
-  pub digests_are : (job : CollectJob) (texts : ℕ → Option (List ℕ)) (place : ℕ) (sources : List S) (told : List (Option IpAddr)) (origins : List Origin) (afters : List S) (fulls : List FullReport) (records : List (List DataRecord)) (digests : List (List ℕ))
-      → StartAt seen texts place sources → Each4 (IsGivenInContext seen) (in_places job sources told origins) afters fulls records → AreOfSessions seen texts place afters fulls digests → AreDigestsOf seen sources fulls digests
+  pub digests_are : (job : CollectJob) (texts : ℕ → Option (List ℕ)) (place : ℕ) (sources : List S) (told : List (Option IpAddr)) (origins : List Origin) (afters : List S) (fulls : List FilteredReport) (records : List (List DataRecord)) (digests : List (List ℕ))
+      → StartAt seen texts place sources → Each4 (IsGivenInContext seen) (in_places job sources told origins) afters fulls records → AreOfSessions seen texts place afters (fulls_in fulls) digests → AreDigestsOf seen sources (fulls_in fulls) digests
   digests_are job texts place [] told origins [] [] [] [] start given of = tt
   digests_are job texts place [] told origins [] [] [] (d ∷ digests) start given of = absurd of
   digests_are job texts place [] told origins [] [] (r ∷ records) digests start given of = absurd given
@@ -66,10 +74,21 @@ module _ {S : Type 0} (seen : S → SourceView) where
   digests_are job texts place (s ∷ sources) told origins (a ∷ afters) (f ∷ fulls) (r ∷ records) [] start given of = absurd of
   digests_are job texts place (s ∷ sources) told origins (a ∷ afters) (f ∷ fulls) (r ∷ records) (d ∷ digests) start given of =
       let full = given.0.given in
-      let one : IsOfCounted (texts place) f d = of.0 READ_LIMIT s start.0 (record { records = given.0.own; given = full.given; told = full.told }) in (
-        subst (λ (o : Option (List ℕ)). IsOfCounted o f d) (sym start.0) one,
+      let one : IsOfCounted (texts place) f.full d = of.0 READ_LIMIT s start.0 (record { records = given.0.own; given = full.given; told = full.told }) in (
+        subst (λ (o : Option (List ℕ)). IsOfCounted o f.full d) (sym start.0) one,
         digests_are job texts (place + 1) sources (others_told told) (other_origins origins) afters fulls records digests start.1 given.1 of.1,
       )
+
+  -- the same of what was gathered
+  pub gathered_digests : (engine : Engine) (job : CollectJob) (plan : PlanValue) (texts : ℕ → Option (List ℕ)) (sources : List S) (origins : List Origin) (run : Gathered S) (digests : List (List ℕ))
+      → StartAt seen texts 0 sources → GathersBy engine (IsGivenInContext seen) (in_context job sources origins) plan run → AreOfSessions seen texts 0 run.run.sources.items run.run.sessions.items digests
+      → AreDigestsOf seen sources run.run.sessions.items digests
+  gathered_digests engine job plan texts sources origins run digests start by of =
+      let c = by.collected in
+      let g = by.gathered in
+      let there = subst (λ (v : Vec S Global). AreOfSessions seen texts 0 v.items (fulls_in c.sessions.items) digests) g.sources_are (subst (λ (l : List FullReport). AreOfSessions seen texts 0 run.run.sources.items l digests) g.sessions_are of) in
+      subst (λ (l : List FullReport). AreDigestsOf seen sources l digests) (sym g.sessions_are)
+      (digests_are job texts 0 sources job.exporters.now origins c.sources.items c.sessions.items by.collects.headline.records digests start by.collects.headline.given there)
 
 -- as many
 pub as_many_each : {A B C D : Type 0} (P : A → B → C → D → Type 0) (aa : List A) (bs : List B) (cs : List C) (ds : List D) → Each4 P aa bs cs ds → length bs ≡ length cs

@@ -12,7 +12,7 @@ use Rattle.report_writing.specs.declared.origin.Origin.{Origin}
 use Rattle.report_writing.specs.declared.reason.Reason.{Reason}
 use Rattle.flow_table.specs.AddedUp.{rows_in}
 use Rattle.flow_table.specs.declared.table.Table.{Table}
-use Rattle.flow_collect.specs.InFull.{FullSerialAnswer, IsGivenInContext}
+use Rattle.flow_collect.specs.InFull.{FullSerialAnswer, IsGivenInContext, fulls_in}
 use Rattle.flow_collect.specs.Refusals.{AreTooLargeInContext}
 use Rattle.flow_collect.specs.declared.fault.CollectFault.{CollectFault}
 use Rattle.input_sources.specs.Had.{AreAccepted, PathsAreOpened}
@@ -24,7 +24,7 @@ use Rattle.command_collect.specs.CollectLines.{collect_fault_line}
 use Rattle.command_collect.specs.Collects.{Collects}
 use Rattle.command_collect.specs.Engines.{CollectsBy}
 use Rattle.command_collect.specs.Exporters.{in_context}
-use Rattle.command_collect.specs.Runs.{IsCollectFault, Runs, RunsSources, WentWell, WritesAndTellsJob, WritesTable, texts_in_context}
+use Rattle.command_collect.specs.Runs.{EndedWell, IsCollectFault, Runs, RunsSources, WritesAndTellsJob, WritesTable, texts_in_context}
 use Rattle.command_collect.specs.Told.{TellsBehind, TellsNotAccepted, TellsNotOpened}
 use Rattle.command_collect.specs.declared.job.CollectJob.{CollectJob}
 use Rattle.command_collect.specs.declared.job.Connections.{Connections}
@@ -69,14 +69,14 @@ module _ {S : Type 0} (seen : S → SourceView) (sources : List S) where
   -- with the digests of what these sources gave
   pub record WithDigests (c : FullSerialAnswer S) (Ends : List (List ℕ) → Type 0) : Type 0 where
     pub digests : List (List ℕ)
-    pub are_digests : AreDigestsOf seen sources c.sessions.items digests
+    pub are_digests : AreDigestsOf seen sources (fulls_in c.sessions.items) digests
     pub ends : Ends digests
 
   -- all was collected, and there is no receipt of it for this reason
   pub record IsNotReceipted (job : CollectJob) (origins : List Origin) (IsUntouched : Type 0) (fault : RunFault) : Type 0 where
     pub collected : FullSerialAnswer S
     pub collects : CollectsBy job.engine (IsGivenInContext seen) (in_context job sources origins) job.plan.now collected
-    pub not_put : WithDigests collected (λ digests. IsNotPut job origins collected.sessions.items digests collected.table IsUntouched fault)
+    pub not_put : WithDigests collected (λ digests. IsNotPut job origins (fulls_in collected.sessions.items) digests collected.table IsUntouched fault)
 
   -- why nothing was collected was told, and then nothing was written; or why there is no receipt
   abbrev pub TellsNoReceipt : CollectJob → List Origin → Type 0 → (List ℕ → Type 0) → Type 0
@@ -89,13 +89,13 @@ module _ {S W P : Type 0} (contents : W → Option (List ℕ)) (holds : P → Li
   abbrev pub EndsReceipted : (List ℕ → Type 0) → List S → List Origin → FullSerialAnswer S → Type 0
   EndsReceipted AreTold sources origins c =
       WritesAndTellsJob contents to.out ended.out AreTold failure job origins c
-      × WithDigests seen sources c (λ digests. IsPut (holds ended.place) to.made job origins c.sessions.items digests (contents to.out) c.table)
+      × WithDigests seen sources c (λ digests. IsPut (holds ended.place) to.made job origins (fulls_in c.sessions.items) digests (contents to.out) c.table)
 
   abbrev pub RunsReceipted : (List ℕ → Type 0) → List S → List Origin → Type 0
   RunsReceipted AreTold sources origins =
       let status = number_of ended.status in
       Runs job.engine (length sources) status (ended.out ≡ to.out)
-      (WritesTable (texts_in_context seen) (IsGivenInContext seen) (WentWell job.verbosity.strict) job.plan.now job.engine status (EndsReceipted AreTold sources origins) (in_context job sources origins))
+      (WritesTable (texts_in_context seen) (IsGivenInContext seen) (EndedWell job.verbosity.strict) job.plan.now job.engine status (EndsReceipted AreTold sources origins) (in_context job sources origins))
       (TellsNoReceipt seen sources job origins (ended.out ≡ to.out) AreTold) AreTold
 
   -- of sources that were had, of which the first lines and these tell

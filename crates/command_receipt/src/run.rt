@@ -86,8 +86,8 @@ pub fn run_receipted<
             place,
         };
     }
-    let _ = tell(job, origins, &run.collected, err);
-    let status = status_of(job.verbosity.strict, &run.collected);
+    let _ = tell(job, origins, &run.gathered, err);
+    let status = status_of(job.verbosity.strict, &run.gathered);
     Ended { status, out, place }
 }
 
@@ -107,18 +107,18 @@ fn write_run<S: Drop, W: Write + Drop, P: ReceiptPlace + Drop>(
     run: &HashedRun<S>,
     to: Receipted<W, P>,
 ) -> WrittenRun<W, P>
-    requires { FitsPlan job.now.plan.now run.now.collected.table }
+    requires { FitsPlan job.now.plan.now run.now.gathered.run.table }
     ensures writes { OnOk result.answer (Writes job.now.elements.now job.now.plan.now job.now.output
-        (W.contents to.out) (W.contents result.out) run.now.collected.table) }
+        (W.contents to.out) (W.contents result.out) run.now.gathered.run.table) }
     ensures put { OnOk result.answer (IsPut (P.holds result.place) to.made job.now origins.now
-        run.now.collected.sessions.items run.now.digests.items (W.contents to.out)
-        run.now.collected.table) }
+        run.now.gathered.run.sessions.items run.now.digests.items (W.contents to.out)
+        run.now.gathered.run.table) }
     ensures not_put { IfErr result.answer (IsNotPut job.now origins.now
-        run.now.collected.sessions.items run.now.digests.items run.now.collected.table
+        run.now.gathered.run.sessions.items run.now.digests.items run.now.gathered.run.table
         (result.out ≡ to.out)) }
 {
     let Receipted { out, made, place } = to;
-    let collected = &run.collected;
+    let collected = &run.gathered.run;
     let inputs = match inputs_of(alloc, origins, &collected.sessions, &run.digests) {
         Ok(inputs) => inputs,
         Err(AllocError) => return without_receipt(out, place, ReceiptFault::OutOfMemory),

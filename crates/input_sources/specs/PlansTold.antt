@@ -1,10 +1,10 @@
 -- What is told of a path that has no plan.
 use Rattle.std.specs.Prelude.{◌⊎◌, ℕ, List, codes}
 use Rattle.element_registry.specs.Registries.{Known}
-use Rattle.flow_plan.specs.Places.{IsPlanError}
-use Rattle.flow_plan.specs.declared.error.PlanTextError.{PlanTextError}
+use Rattle.flow_filtered_plan.specs.Errors.{IsFilteredPlanError}
+use Rattle.flow_filtered_plan.specs.declared.place.FilteredPlanError.{FilteredPlanError}
 use Rattle.report_writing.specs.OpeningLines.{not_had_lines}
-use Rattle.input_sources.specs.PlaceLines.{plan_lines}
+use Rattle.input_sources.specs.WhereLines.{filtered_lines}
 use Rattle.report_writing.specs.declared.reason.Reason.{Reason}
 use Rattle.report_writing.specs.declared.verbosity.Verbosity.{Verbosity}
 
@@ -12,4 +12,4 @@ use Rattle.report_writing.specs.declared.verbosity.Verbosity.{Verbosity}
 abbrev pub TellsNoPlan : List Known → (List ℕ → Type 0) → (Reason → Type 0) → Verbosity → List ℕ → (List ℕ → Type 0) → Type 0
 TellsNoPlan known Has Refuses verbosity path AreTold =
     ((reason : Reason) × Refuses reason × AreTold (not_had_lines verbosity (codes "open") path reason))
-    ⊎ ((octets : List ℕ) × Has octets × ((error : PlanTextError) × IsPlanError known octets error × AreTold (plan_lines known error)))
+    ⊎ ((octets : List ℕ) × Has octets × ((error : FilteredPlanError) × IsFilteredPlanError known octets error × AreTold (filtered_lines known error)))

@@ -13,6 +13,7 @@ mod plan_fault;
 mod progress;
 mod system_listener;
 mod unread_sources;
+mod where_places;
 mod with_progress;
 mod with_reason;
 
@@ -21,7 +22,7 @@ pub use files_in_turn::{FileInTurn, FilesInTurn};
 pub use opening::{OpenSource, Opened, SystemFiles};
 pub use opening_all::{NotOpened, OpenedAll, open_all};
 pub use plan::{LoadedPlan, load_plan};
-pub use plan_fault::write_plan_fault;
+pub use plan_fault::{write_filtered_fault, write_plan_fault};
 pub use progress::Progress;
 pub use system_listener::SystemListener;
 pub use unread_sources::UnreadSources;

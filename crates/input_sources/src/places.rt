@@ -68,7 +68,8 @@ fn write_column_start<W: WriteLines>(line: usize, column: usize, out: &mut W) ->
     write!(out, "collectd: plan: line {line}, column {column}: ")
 }
 
-fn write_key_line<W: WriteLines>(key: &str, words: &str, out: &mut W) -> io::Result<()>
+/// Writes the line of a key, and what is wrong with it.
+pub fn write_key_line<W: WriteLines>(key: &str, words: &str, out: &mut W) -> io::Result<()>
     ensures { Tells W.contents W.failed out.old out.new result (key_line key.now words.now) }
 {
     write_key(key, out)?;
@@ -82,15 +83,17 @@ fn write_key<W: WriteLines>(key: &str, out: &mut W) -> io::Result<()>
     write_quoted(key, out)
 }
 
+/// Writes what is wrong, at the end of a line.
 #[tactic(auto, unfolding(crate::specs::PlaceLines::words_end))]
-fn write_words_end<W: WriteLines>(words: &str, out: &mut W) -> io::Result<()>
+pub fn write_words_end<W: WriteLines>(words: &str, out: &mut W) -> io::Result<()>
     ensures { Tells W.contents W.failed out.old out.new result (words_end words.now) }
 {
     writeln!(out, ": {words}")
 }
 
+/// Writes at the end of a line that no element has a name.
 #[tactic(auto, unfolding(crate::specs::PlaceLines::name_end))]
-fn write_name_end<W: WriteLines>(text: &str, out: &mut W) -> io::Result<()>
+pub fn write_name_end<W: WriteLines>(text: &str, out: &mut W) -> io::Result<()>
     ensures { Tells W.contents W.failed out.old out.new result (name_end text.now) }
 {
     write!(out, ": no element is named ")?;

@@ -3,25 +3,24 @@
 ghost use Rattle.std.specs.Prelude.{◌≡◌, ℕ, List, IfNone, IfSome};
 ghost use Rattle.std.specs.Option.{ForSome};
 ghost use Rattle.flow_table.specs.Plans.{IsPlan};
-ghost use Rattle.flow_plan.specs.Places.{IsPlanOf, IsReadWith};
+ghost use Rattle.flow_filtered_plan.specs.FilteredPlans.{IsFilteredPlanOf, IsReadWith};
 ghost use Rattle.report_writing.specs.Told.{AreToldTo};
 ghost use Rattle.input_sources.specs.PlansTold.{TellsNoPlan};
 
-use crate::plan_fault::write_plan_fault;
+use crate::plan_fault::write_filtered_fault;
 use element_registry::Elements;
-use flow_plan::read_plan_with;
-use flow_table::Plan;
+use flow_filtered_plan::{FilteredPlan, read_filtered_plan};
 use input_files::ReadText;
 use report_writing::{Verbosity, WriteLines, write_not_had_because};
 use std::alloc::Global;
 
-/// A plan, and the elements that it was read with: by these its text names its keys and counters, and what is
-/// written under the plan names them.
+/// A plan with its filter, and the elements that it was read with: by these its text names its keys, counters and
+/// conditions, and what is written under the plan names them.
 #[derive(Drop)]
 pub struct LoadedPlan {
-    pub plan: Plan,
+    pub read: FilteredPlan,
     pub elements: Elements,
-    ghost read: { IsReadWith elements plan },
+    ghost said: { IsReadWith elements read },
 }
 
 /// Reads the plan in the text of a path, which may name these elements. If there is no such text, or it is
@@ -35,13 +34,13 @@ pub fn load_plan<T: ReadText, E: WriteLines>(
     verbosity: Verbosity,
     err: &mut E,
 ) -> Option<LoadedPlan>
-    // The plan is that of the text that the path has, which is UTF-8.
+    // The plan and its filter are those of the text that the path has, which is UTF-8.
     ensures text { ForSome result (λ loaded. (octets : List ℕ)
-        × T.has files.now path.now octets × IsPlanOf elements octets loaded.plan) }
+        × T.has files.now path.now octets × IsFilteredPlanOf elements octets loaded.read) }
     ensures names { ForSome result (λ loaded. loaded.elements ≡ elements) }
     // Its numbers are in their ranges, its keys can be compared and its keys and counters are no times of flows, and
     // no element stands twice.
-    ensures sound { ForSome result (λ loaded. IsPlan loaded.plan) }
+    ensures sound { ForSome result (λ loaded. IsPlan loaded.read.plan) }
     // Nothing is told if a plan was read.
     ensures silent { IfSome result (λ _. err.new ≡ err.old) }
     // Else why the path has none was told, and nothing else.
@@ -57,10 +56,10 @@ pub fn load_plan<T: ReadText, E: WriteLines>(
             return None;
         }
     };
-    match read_plan_with(alloc, &elements, &octets) {
-        Ok(plan) => Some(LoadedPlan { plan, elements }),
+    match read_filtered_plan(alloc, &elements, &octets) {
+        Ok(read) => Some(LoadedPlan { read, elements }),
         Err(error) => {
-            let _ = write_plan_fault(&elements, &error, err);
+            let _ = write_filtered_fault(&elements, &error, err);
             None
         }
     }

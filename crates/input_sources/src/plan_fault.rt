@@ -4,11 +4,14 @@ ghost use Rattle.std.specs.Prelude.{◌++◌, codes};
 ghost use Rattle.flow_table.specs.PlanFaults as plan;
 ghost use Rattle.flow_plan.specs.Faults as text;
 ghost use Rattle.report_writing.specs.FaultLines.{fault_text};
-ghost use Rattle.input_sources.specs.PlaceLines.{plan_fault_text, plan_lines};
+ghost use Rattle.input_sources.specs.PlaceLines.{key_line, plan_fault_text, plan_lines};
+ghost use Rattle.input_sources.specs.WhereLines.{filter_fault, filtered_lines, where_end, where_start};
 ghost use Rattle.report_writing.specs.Writing.{Tells};
 
-use crate::places::write_place;
+use crate::places::{write_key_line, write_place};
+use crate::where_places::write_where;
 use element_registry::Elements;
+use flow_filtered_plan::{FilteredPlanError, WhereFault};
 use flow_plan::{PlanTextError, PlanTextFault};
 use flow_table::PlanFault;
 use report_writing::{WriteLines, write_fault};
@@ -26,6 +29,49 @@ pub fn write_plan_fault<W: WriteLines>(
 {
     write_plan_fault_line(error.fault(), out)?;
     write_place(elements, error, out)
+}
+
+/// Writes the line of a fault of the text of a plan with a filter, and then the line that tells where it is: of
+/// conditions which of them it is, counted from 1 in the order of the text.
+pub fn write_filtered_fault<W: WriteLines>(
+    elements: &Elements,
+    error: &FilteredPlanError,
+    out: &mut W,
+) -> io::Result<()>
+    ensures { Tells W.contents W.failed out.old out.new result
+        (filtered_lines elements.now error.now) }
+{
+    match error {
+        FilteredPlanError::Plan(error) => write_plan_fault(elements, error, out),
+        FilteredPlanError::NoConditions => write_no_conditions(out),
+        FilteredPlanError::Where { place, fault } => write_no_condition(*place, fault, out),
+    }
+}
+
+fn write_no_conditions<W: WriteLines>(out: &mut W) -> io::Result<()>
+    ensures { Tells W.contents W.failed out.old out.new result
+        (filter_fault ++ key_line (codes "where") (codes "not an array of tables")) }
+{
+    write_filter_fault(out)?;
+    write_key_line("where", "not an array of tables", out)
+}
+
+fn write_no_condition<W: WriteLines>(
+    place: usize,
+    fault: &WhereFault,
+    out: &mut W,
+) -> io::Result<()>
+    ensures { Tells W.contents W.failed out.old out.new result
+        (filter_fault ++ (where_start place ++ where_end fault.now)) }
+{
+    write_filter_fault(out)?;
+    write_where(place, fault, out)
+}
+
+fn write_filter_fault<W: WriteLines>(out: &mut W) -> io::Result<()>
+    ensures { Tells W.contents W.failed out.old out.new result filter_fault }
+{
+    write_fault("plan", 8, "Filter", out)
 }
 
 fn write_plan_fault_line<W: WriteLines>(fault: PlanTextFault, out: &mut W) -> io::Result<()>

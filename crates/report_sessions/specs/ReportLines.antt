@@ -34,7 +34,15 @@ unfoldable pub first_counts : Tally → List ℕ
 first_counts t = codes "collectd: records: used " ++ (decimal t.used ++ (codes " options " ++ (decimal t.options ++ (codes " untimed " ++ decimal t.untimed))))
 
 unfoldable pub last_counts : Tally → List ℕ
-last_counts t = codes " backward " ++ (decimal t.backward ++ (codes " unkeyed " ++ (decimal t.unkeyed ++ (codes " too_long " ++ (decimal t.too_long ++ codes "\n")))))
+last_counts t = codes " backward " ++ (decimal t.backward ++ (codes " unkeyed " ++ (decimal t.unkeyed ++ (codes " too_long " ++ decimal t.too_long))))
+
+-- the end of the line: where there is a filter, how many records it left out
+unfoldable pub end_of_counts : Option ℕ → List ℕ
+end_of_counts None = codes "\n"
+end_of_counts (Some filtered) = codes " filtered " ++ (decimal filtered ++ codes "\n")
+
+abbrev pub tally_line_with : Option ℕ → Tally → List ℕ
+tally_line_with filtered t = first_counts t ++ (last_counts t ++ end_of_counts filtered)
 
 abbrev pub tally_line : Tally → List ℕ
-tally_line t = first_counts t ++ last_counts t
+tally_line t = tally_line_with None t

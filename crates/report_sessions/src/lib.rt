@@ -18,5 +18,5 @@ pub use missing::write_missing;
 pub use read_failures::{read_reason, write_unread};
 pub use reports::write_reports;
 pub use spotless::{are_spotless, is_spotless};
-pub use tally::write_tally;
+pub use tally::{write_tally, write_tally_with};
 pub use told_reports::{write_told_reports, write_told_session};

@@ -43,7 +43,7 @@ fn loaded(alloc: Global, octets: &[u8], path: &str, verbose: bool) -> Result<Vec
     let mut err = Vec::new(alloc);
     let elements = Elements::built_in(alloc);
     if let Some(loaded) = load_plan(&text, alloc, elements, path, verbosity, &mut err) {
-        let length = format!(in alloc; "{}", loaded.plan.length())?;
+        let length = format!(in alloc; "{}", loaded.read.plan.length())?;
         err.extend_from_slice(length.as_bytes())?;
     }
     Ok(err)

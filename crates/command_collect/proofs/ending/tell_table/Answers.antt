@@ -5,7 +5,7 @@ pub returns : goal.returns
 returns g c =
     let missing = c.write_missing.ensures.told in
     record {
-      told = table_lines c.write_missing.result c.args.job.now c.args.table.now c.tally.result c.missing.result _ _ _ c.tally.ensures c.missing.ensures c.in_ok-write_tally.ensures.told missing.told;
+      told = table_lines c.write_missing.result c.args.job.now c.args.table.now c.args.filtered c.tally.result c.missing.result _ _ _ c.tally.ensures c.missing.ensures (rw c.if_filtered.ensures at c.in_ok-write_tally_with.ensures.told) missing.told;
       failed = missing.failed;
-      kept = λ failed. missing.kept (c.write_tally.ensures.kept failed);
+      kept = λ failed. missing.kept (c.write_tally_with.ensures.kept failed);
     }

@@ -1,12 +1,14 @@
 use Rattle.std.proofs.Common.{◌≡◌, List, length, subst, sym, ap, ◌∙◌}
-use Rattle.std.specs.Prelude.{IfOk, vec_len}
+use Rattle.std.specs.Prelude.{Ok, Err, vec_len}
 use Rattle.flow_collect.specs.InFull.{IsGivenInContext}
 use Rattle.flow_collect.specs.declared.session_context.InContext.{InContext}
 use Rattle.flow_collect.specs.Refusals.{AreTooLargeInContext}
+use Rattle.flow_collect.specs.declared.fault.CollectFault.TheVariants.{OutOfMemory}
+use Rattle.flow_table.specs.Fitting.{FitsPlan}
 use Rattle.command_collect.specs.Engines.{due_fault, CollectsBy}
 use Rattle.command_collect.specs.Exporters.{in_context}
 use Rattle.command_collect.proofs.Ran.{as_many}
-use Rattle.command_collect.proofs.Refused.{faults_elsewhere, refused_first}
+use Rattle.command_collect.proofs.Refused.{faults_elsewhere, faults_if_had, faults_if_memory, faults_if_not_had, refused_first}
 use Rattle.command_collect.proofs.table.collect_job.Goals as goal
 
 pub returns-in-Some-clause-faults : goal.returns-in-Some-clause-faults
@@ -15,14 +17,38 @@ returns-in-Some-clause-faults g c =
     refused_first job.engine (vec_len c.args.sources) (AreTooLargeInContext g.S.Source.seen job.plan.now (in_context job c.args.sources.items c.args.origins.now)) c.in-Some.fault
     (ap (due_fault job.engine) (sym c.len.ensures) ∙ sym c.refusal.ensures ∙ c.in-Some.is)
 
-pub returns-in-Ok-clause-ok : goal.returns-in-Ok-clause-ok
-returns-in-Ok-clause-ok g c =
+pub returns-in-Ok-gather-clause-ok : goal.returns-in-Ok-gather-clause-ok
+returns-in-Ok-gather-clause-ok g c =
     let job = c.args.job.now in
-    subst (λ (given : List (InContext g.row.S.Denot)). IfOk c.collect.result (CollectsBy job.engine (IsGivenInContext g.S.Source.seen) given job.plan.now)) c.in-Ok.ensures c.collect.ensures.ok
+    record {
+      collected = c.in-Ok-collect.collected;
+      collects = subst (λ (given : List (InContext g.row.S.Denot)). CollectsBy job.engine (IsGivenInContext g.S.Source.seen) given job.plan.now c.in-Ok-collect.collected) c.in-Ok.ensures c.in-Ok-collect.ensures.ok;
+      gathered = c.in-Ok-gather.ensures;
+    }
 
-pub returns-in-Ok-clause-faults : goal.returns-in-Ok-clause-faults
-returns-in-Ok-clause-faults g c =
+pub returns-in-Ok-gather-clause-fits : goal.returns-in-Ok-gather-clause-fits
+returns-in-Ok-gather-clause-fits g c = subst (FitsPlan c.args.job.now.plan.now) (sym c.in-Ok-gather.ensures.table_is) c.in-Ok-collect.ensures.fits
+
+pub returns-in-Ok-gather-clause-faults : goal.returns-in-Ok-gather-clause-faults
+returns-in-Ok-gather-clause-faults g c =
     let job = c.args.job.now in
     let given = in_context job c.args.sources.items c.args.origins.now in
     let many : vec_len c.in-Ok.given ≡ vec_len c.args.sources = c.in-Ok.given.ok.0 ∙ ap length c.in-Ok.ensures ∙ as_many job c.args.sources.items job.exporters.now c.args.origins.now ∙ sym c.args.sources.ok.0 in
-    faults_elsewhere g.S.Source.seen job.plan.now job.engine _ _ c.in-Ok.given.items given c.collect.result many c.in-Ok.ensures c.collect.ensures.faults
+    faults_elsewhere g.S.Source.seen job.plan.now job.engine _ _ c.in-Ok.given.items given (Ok c.in-Ok-gather.gathered) many c.in-Ok.ensures
+    (faults_if_had _ _ c.in-Ok-collect.collected c.in-Ok-gather.gathered c.in-Ok-collect.ensures.faults)
+
+pub returns-in-Err-gather-clause-faults : goal.returns-in-Err-gather-clause-faults
+returns-in-Err-gather-clause-faults g c =
+    let job = c.args.job.now in
+    let given = in_context job c.args.sources.items c.args.origins.now in
+    let many : vec_len c.in-Ok.given ≡ vec_len c.args.sources = c.in-Ok.given.ok.0 ∙ ap length c.in-Ok.ensures ∙ as_many job c.args.sources.items job.exporters.now c.args.origins.now ∙ sym c.args.sources.ok.0 in
+    faults_elsewhere g.S.Source.seen job.plan.now job.engine _ _ c.in-Ok.given.items given (Err OutOfMemory) many c.in-Ok.ensures
+    (faults_if_memory _ _ c.in-Ok-collect.collected c.in-Ok-collect.ensures.faults)
+
+pub returns-in-Err-collect-clause-faults : goal.returns-in-Err-collect-clause-faults
+returns-in-Err-collect-clause-faults g c =
+    let job = c.args.job.now in
+    let given = in_context job c.args.sources.items c.args.origins.now in
+    let many : vec_len c.in-Ok.given ≡ vec_len c.args.sources = c.in-Ok.given.ok.0 ∙ ap length c.in-Ok.ensures ∙ as_many job c.args.sources.items job.exporters.now c.args.origins.now ∙ sym c.args.sources.ok.0 in
+    faults_elsewhere g.S.Source.seen job.plan.now job.engine _ _ c.in-Ok.given.items given (Err c.in-Err-collect.fault) many c.in-Ok.ensures
+    (faults_if_not_had _ _ c.in-Err-collect.fault c.in-Err-collect.ensures.faults)

@@ -1,12 +1,16 @@
-use Rattle.std.proofs.Common.{rules, ◌≡◌, ◌∙◌, sym, ap, map, length, List}
+use Rattle.std.proofs.Common.{◌≡◌, ◌∙◌, sym, ap, length}
 use Rattle.std.specs.Prelude.{vec_len}
 use Rattle.std.proofs.lemmas.List.{length-map}
+use Rattle.std.specs.declared.alloc.Global.{Global}
+use Rattle.std.specs.declared.vec.Vec.{Vec}
+use Rattle.flow_collect.specs.declared.collected.FilteredReport.{FilteredReport}
 use Rattle.flow_collect.specs.InFull.{IsGivenInContext}
 use Rattle.input_digests.specs.declared.hashed_source.HashedSource.{HashedSource}
-use Rattle.command_collect.specs.Engines.{CollectsBy, due_fault}
+use Rattle.command_collect.specs.Engines.{due_fault}
 use Rattle.command_collect.specs.Exporters.{in_context}
-use Rattle.command_receipt.proofs.Parts.{collects_parts, too_large_parts}
-use Rattle.command_receipt.proofs.Placed.{as_many_each, digests_are}
+use Rattle.command_collect.specs.Gathered.{GathersBy}
+use Rattle.command_receipt.proofs.Parts.{gathers_parts, too_large_parts}
+use Rattle.command_receipt.proofs.Placed.{as_many_each, gathered_digests}
 use Rattle.command_receipt.proofs.Refusals.{fault_of_part}
 use Rattle.command_receipt.proofs.collecting.collect_from.Goals as goal
 
@@ -18,18 +22,21 @@ returns-in-Err-clause-faults g c =
     fault_of_part _ _ _ _ c.in-Err.fault (ap (due_fault job.engine) many) (too_large_parts part g.S.Source.seen job job.plan.now c.in-Ok.hashed.items c.args.sources.items c.args.origins.now c.in-Ok.ensures) c.in-Err.ensures.faults
 
 pub finish_run-requires : goal.finish_run-requires
-finish_run-requires g c = as_many_each _ _ _ _ _ c.in-Ok-collect_job.ensures.ok.headline.given
+finish_run-requires g c =
+    let by = c.in-Ok-collect_job.ensures.ok in
+    let sources = ap (λ (v : Vec (HashedSource g.row.S.Denot g.row.T.Denot g.S.Source g.T.Start) Global). length v.items) by.gathered.sources_are in
+    sources ∙ as_many_each _ _ _ _ _ by.collects.headline.given ∙ sym (length-map by.collected.sessions.items (λ (told : FilteredReport). told.full)) ∙ ap length (sym by.gathered.sessions_are)
 
 pub returns-in-Ok-finish_run-clause-ok : goal.returns-in-Ok-finish_run-clause-ok
 returns-in-Ok-finish_run-clause-ok g c =
     let part = λ (h : HashedSource g.row.S.Denot g.row.T.Denot g.S.Source g.T.Start). h.source in
     let job = c.args.job.now in
     let run = c.in-Ok-finish_run.ensures in
-    collects_parts part g.S.Source.seen job.engine job job.plan.now c.in-Ok.hashed.items c.args.sources.items c.args.origins.now c.in-Ok-collect_job.collected c.in-Ok-finish_run.run'.collected
-    c.in-Ok.ensures run.sources run.sessions run.table c.in-Ok-collect_job.ensures.ok
+    gathers_parts part g.S.Source.seen job.engine job job.plan.now c.in-Ok.hashed.items c.args.sources.items c.args.origins.now c.in-Ok-collect_job.gathered c.in-Ok-finish_run.run'.gathered
+    c.in-Ok.ensures run.sources run.sessions run.table run.filtered c.in-Ok-collect_job.ensures.ok
 
 pub returns-in-Ok-finish_run-clause-digests : goal.returns-in-Ok-finish_run-clause-digests
 returns-in-Ok-finish_run-clause-digests g c =
     let job = c.args.job.now in
-    let ok : CollectsBy job.engine (IsGivenInContext g.S.Source.seen) (in_context job c.args.sources.items c.args.origins.now) job.plan.now c.in-Ok-finish_run.run'.collected = returns-in-Ok-finish_run-clause-ok g c in
-    digests_are g.S.Source.seen job g.T.Start.texts 0 c.args.sources.items job.exporters.now c.args.origins.now _ _ ok.headline.records _ c.requires.start ok.headline.given c.in-Ok-finish_run.ensures.digests
+    let ok : GathersBy job.engine (IsGivenInContext g.S.Source.seen) (in_context job c.args.sources.items c.args.origins.now) job.plan.now c.in-Ok-finish_run.run'.gathered = returns-in-Ok-finish_run-clause-ok g c in
+    gathered_digests g.S.Source.seen job.engine job job.plan.now g.T.Start.texts c.args.sources.items c.args.origins.now c.in-Ok-finish_run.run'.gathered _ c.requires.start ok c.in-Ok-finish_run.ensures.digests

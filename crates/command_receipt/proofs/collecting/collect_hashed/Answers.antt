@@ -1,4 +1,4 @@
-use Rattle.std.proofs.Common.{[], sym, ap, ◌∙◌}
+use Rattle.std.proofs.Common.{[]}
 use Rattle.command_receipt.proofs.Placed.{starts_at}
 use Rattle.command_receipt.proofs.collecting.collect_hashed.Goals as goal
 

@@ -1,4 +1,4 @@
-use Rattle.std.proofs.Common.{rules, ◌≡◌, ◌≤◌, ◌∷◌, ◌++◌, [], ◌∙◌, sym, ap, map, length, length-append, arith}
+use Rattle.std.proofs.Common.{◌≡◌, ◌∷◌, ◌++◌, [], ◌∙◌, ap, map, length, length-append, arith}
 use Rattle.std.proofs.lemmas.List.{length-map}
 use Rattle.input_digests.specs.declared.hashed_source.HashedSource.{HashedSource}
 use Rattle.command_receipt.proofs.Placed.{finished_more, moved_part, none_waits}

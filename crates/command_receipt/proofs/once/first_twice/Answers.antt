@@ -1,4 +1,4 @@
-use Rattle.std.proofs.Common.{rules, ◌≡◌, ◌∷◌, length, map, ap, arith}
+use Rattle.std.proofs.Common.{rules, ◌≡◌, ◌∷◌, length, ap, arith}
 use Rattle.table_receipts.specs.Values.{input_value}
 use Rattle.command_receipt.proofs.Twice.{left_after, once_more, same_at}
 use Rattle.command_receipt.proofs.once.first_twice.Goals as goal

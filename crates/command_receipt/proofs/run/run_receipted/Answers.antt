@@ -1,11 +1,14 @@
 use Rattle.std.proofs.Common.{◌≡◌, inl, inr, length, refl, rules}
-use Rattle.std.specs.Prelude.{vec_len}
+use Rattle.std.specs.Prelude.{◌↔◌, vec_len}
 use Rattle.report_writing.specs.Statuses.{number_of}
 use Rattle.report_writing.proofs.Ended.{never_three, one_of_three, zero_if_well}
 use Rattle.report_writing.proofs.LinesTold.{is_told}
 use Rattle.command_collect.specs.Exporters.{in_context}
-use Rattle.command_collect.proofs.Ran.{writes_table}
+use Rattle.command_collect.specs.Runs.{WentWell}
+use Rattle.command_collect.proofs.Ran.{of_gathered, tells_gathered, writes_table}
 use Rattle.command_collect.proofs.Refused.{collect_fault, not_refused, refusal_told}
+use Rattle.command_receipt.specs.Digests.{AreDigestsOf}
+use Rattle.command_receipt.proofs.Collected.{not_put_of, put_of}
 use Rattle.command_receipt.proofs.run.run_receipted.Goals as goal
 
 pub returns-in-Err-clause-runs : goal.returns-in-Err-clause-runs
@@ -23,6 +26,8 @@ returns-in-Err-clause-runs g c =
 pub returns-in-Err-answer-clause-runs : goal.returns-in-Err-answer-clause-runs
 returns-in-Err-answer-clause-runs g c =
     let same : vec_len c.args.sources ≡ length c.args.sources.items = search rules in
+    let by = c.in-Ok.ensures.ok in
+    let digests = c.in-Ok.run'.digests.items in
     let told = is_told _ _ _ c.write_run_fault.result _ c.write_run_fault.ensures.told c.write_run_fault.ensures.failed in
     record {
       statuses = inr (inr refl);
@@ -30,9 +35,13 @@ returns-in-Err-answer-clause-runs g c =
       failed = λ failed. inr (
         c.in-Err-answer.fault,
         record {
-          collected = c.in-Ok.run'.collected;
-          collects = c.in-Ok.ensures.ok;
-          not_put = record { digests = c.in-Ok.run'.digests.items; are_digests = c.in-Ok.ensures.digests; ends = search rules };
+          collected = by.collected;
+          collects = by.collects;
+          not_put = record {
+            digests = digests;
+            are_digests = of_gathered (λ sources fulls table n. AreDigestsOf g.S.Source.seen c.args.sources.items fulls digests) by.collected c.in-Ok.run'.gathered by.gathered c.in-Ok.ensures.digests;
+            ends = not_put_of c.args.job.now c.args.origins.now digests (c.write_run-out.result.out ≡ c.args.to.out) c.in-Err-answer.fault by.collected c.in-Ok.run'.gathered by.gathered (search rules);
+          };
         },
         told,
       );
@@ -45,14 +54,23 @@ returns-clause-runs g c =
     let status = number_of c.status_of-status.result in
     let job = c.args.job.now in
     let given = in_context job c.args.sources.items c.args.origins.now in
-    let well = zero_if_well c.status_of-status.result status _ refl c.status_of-status.ensures.ends c.status_of-status.ensures.well in
+    let by = c.in-Ok.ensures.ok in
+    let strict = job.verbosity.strict in
+    let digests = c.in-Ok.run'.digests.items in
+    let told = zero_if_well c.status_of-status.result status _ refl c.status_of-status.ensures.ends c.status_of-status.ensures.well in
+    let well = of_gathered (λ sources fulls table n. (status ≡ 0) ↔ WentWell strict fulls table) by.collected c.in-Ok.run'.gathered by.gathered told in
     record {
       statuses = one_of_three c.status_of-status.result status refl c.status_of-status.ensures.ends;
       table = λ ran.
-          writes_table g.S.Source.seen job.verbosity.strict job.plan.now job.engine status _ given c.in-Ok.run'.collected c.in-Ok.ensures.ok well
-          (λ zero. c.status_of-status.ensures.whole given job.plan.now c.in-Ok.ensures.ok.headline (well.0 zero)) (
-            (search rules, record { ended = c.tell.ensures.ended; are_ended = c.tell.ensures.are_ended; told = is_told _ _ _ c.tell.result _ c.tell.ensures.told.told c.tell.ensures.told.failed }),
-            record { digests = c.in-Ok.run'.digests.items; are_digests = c.in-Ok.ensures.digests; ends = search rules },
+          writes_table g.S.Source.seen strict job.plan.now job.engine status _ given by.collected by.collects well
+          (λ zero. c.status_of-status.ensures.whole by.collected by.gathered given job.plan.now by.collects.headline (told.0 zero)) (
+            tells_gathered g.W.Write.contents _ _ _ _ job c.args.origins.now by.collected c.in-Ok.run'.gathered by.gathered (search rules)
+                (record { ended = c.tell.ensures.ended; are_ended = c.tell.ensures.are_ended; told = is_told _ _ _ c.tell.result _ c.tell.ensures.told.told c.tell.ensures.told.failed }),
+            record {
+              digests = digests;
+              are_digests = of_gathered (λ sources fulls table n. AreDigestsOf g.S.Source.seen c.args.sources.items fulls digests) by.collected c.in-Ok.run'.gathered by.gathered c.in-Ok.ensures.digests;
+              ends = put_of (g.P.ReceiptPlace.holds c.write_run-out.result.place) c.args.to.made job c.args.origins.now digests (g.W.Write.contents c.args.to.out) by.collected c.in-Ok.run'.gathered by.gathered (search rules);
+            },
           );
       failed = never_three c.status_of-status.result status refl c.status_of-status.ensures.ends;
       refused = not_refused _ _ _ job.engine c.in-Ok.run' _ same c.in-Ok.ensures.faults;
