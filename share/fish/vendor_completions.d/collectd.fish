@@ -27,7 +27,7 @@ complete -c collectd -n '__fish_seen_subcommand_from files' -l exporter -x -d 'F
 complete -c collectd -n '__fish_seen_subcommand_from files tcp merge' -l format -x -a 'csv ipfix json' -d 'How the table is written'
 complete -c collectd -n '__fish_seen_subcommand_from files tcp merge' -l time -x -d 'The export time in the messages of ipfix'
 complete -c collectd -n '__fish_seen_subcommand_from files tcp' -l progress -d 'Show how much each session has read'
-complete -c collectd -n '__fish_seen_subcommand_from files tcp' -l receipt -r -d 'Write to FILE what the table was made of'
+complete -c collectd -n '__fish_seen_subcommand_from files tcp' -l receipt -r -F -d 'Write to FILE what the table was made of'
 complete -c collectd -n '__fish_seen_subcommand_from dump files tcp record merge' -s v -l verbose -d 'Print more on standard error'
 complete -c collectd -n '__fish_seen_subcommand_from dump files tcp merge' -l strict -d 'End with status 1 if anything was lost'
 complete -c collectd -n '__fish_seen_subcommand_from tcp record' -l listen -x -d 'The TCP address and port to listen on'
