@@ -4,5 +4,5 @@
 mod recorded_names;
 mod told_exporter;
 
-pub use recorded_names::recorded_exporter;
+pub use recorded_names::{file_name, recorded_exporter};
 pub use told_exporter::ToldExporter;

@@ -17,8 +17,8 @@ pub fn recorded_exporter(alloc: Global, path: &str) -> Result<Option<IpAddr>, Al
     exporter_in_name(alloc, file_name(path))
 }
 
-// The last name of a path.
-fn file_name(path: &str) -> &str
+/// The last name of a path.
+pub fn file_name(path: &str) -> &str
     ensures { IsFileName path.now result.now }
 {
     match after_slash(path) {

@@ -1,9 +1,11 @@
 //! The borders between local intervals.
 
-ghost use Rattle.std.specs.Prelude.{IfOk, IfSome, OnOk};
+ghost use Rattle.std.specs.Prelude.{◌≡◌, ◌≤◌, pos, IfNone, IfOk, IfSome, OnOk};
+ghost use Rattle.jiff_core.specs.Date.{epoch_day};
 ghost use Rattle.jiff.specs.Words.{plain_zone};
 ghost use Rattle.local_days.specs.LocalDays.{AreBorders, IsStart};
-ghost use Rattle.local_days.specs.Pushed.{PushesLater, PushesStart};
+ghost use Rattle.local_days.specs.Pushed.{PushesLater, PushesStart, StartsNever};
+ghost use Rattle.local_days.specs.declared.borders.TheConstants.{LAST_DAY};
 
 use crate::interval_start::{is_first_day, start_of};
 use crate::local_interval::LocalInterval;
@@ -37,13 +39,26 @@ pub fn local_borders(
 
 // When the interval that begins on a day, counted from 1970-01-01, begins, if one does.
 fn start_on(interval: LocalInterval, zone: TimeZone, day: u32) -> Option<u64>
-    ensures { IfSome result (IsStart interval (plain_zone zone.entry)) }
+    requires { day ≤ LAST_DAY }
+    ensures some { IfSome result (IsStart interval (plain_zone zone.entry) day) }
+    ensures none { IfNone result (StartsNever interval (plain_zone zone.entry) day) }
 {
-    let date = Date::from_plain(CivilDate::from_unix_epoch_day(i64::from(day)).ok()?);
+    let date = date_of(day);
     if is_first_day(interval, date) {
         start_of(zone, date)
     } else {
         None
+    }
+}
+
+// The date of a day, counted from 1970-01-01.
+fn date_of(day: u32) -> Date
+    requires { day ≤ LAST_DAY }
+    ensures { epoch_day result ≡ pos day }
+{
+    match CivilDate::from_unix_epoch_day(i64::from(day)) {
+        Ok(date) => Date::from_plain(date),
+        Err(_) => unreachable!(),
     }
 }
 

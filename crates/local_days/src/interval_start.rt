@@ -1,8 +1,11 @@
 //! When a local interval begins.
 
-ghost use Rattle.std.specs.Prelude.{◌≡◌, IfSome, int_div, pos};
+ghost use Rattle.std.specs.Prelude.{◌≡◌, ◌≤◌, ◌<ℤ◌, ℕ, IfNone, IfSome, int_div, pos};
+ghost use Rattle.jiff_core.specs.Date.{epoch_day};
 ghost use Rattle.jiff.specs.Words.{plain_zone};
 ghost use Rattle.local_days.specs.LocalDays.{BeginsAt, begins_on};
+ghost use Rattle.local_days.specs.Pushed.{BeginsNever};
+ghost use Rattle.local_days.specs.declared.borders.TheConstants.{LAST_DAY};
 
 use crate::local_interval::LocalInterval;
 use jiff::Timestamp;
@@ -22,7 +25,9 @@ pub fn is_first_day(interval: LocalInterval, date: Date) -> bool
 /// The millisecond since 1970-01-01 UTC that a date begins at in a time zone: that of its midnight, or if the clock
 /// skips that, the first after it. There is none before 1970.
 pub fn start_of(zone: TimeZone, date: Date) -> Option<u64>
-    ensures { IfSome result (BeginsAt (plain_zone zone.entry) date) }
+    ensures some { IfSome result (BeginsAt (plain_zone zone.entry) date) }
+    ensures none { IfNone result ((day : ℕ) → day ≤ LAST_DAY → epoch_day date ≡ pos day
+        → BeginsNever (plain_zone zone.entry) date) }
 {
     match date.to_zoned(zone) {
         Ok(midnight) => millisecond_of(midnight.timestamp()),
@@ -32,7 +37,8 @@ pub fn start_of(zone: TimeZone, date: Date) -> Option<u64>
 
 // The millisecond since 1970-01-01 UTC that an instant is in, if it isn't before.
 fn millisecond_of(instant: Timestamp) -> Option<u64>
-    ensures { IfSome result (λ time. pos time ≡ int_div instant.nanosecond (pos 1_000_000)) }
+    ensures some { IfSome result (λ time. pos time ≡ int_div instant.nanosecond (pos 1_000_000)) }
+    ensures none { IfNone result (int_div instant.nanosecond (pos 1_000_000) <ℤ pos 0) }
 {
     let millisecond = instant.as_millisecond();
     if millisecond < 0 {

@@ -1,0 +1,3 @@
+pub mod KeptBeside
+pub mod OutcomeLemmas
+pub mod Rounds

@@ -1,0 +1,31 @@
+//! A folder of recordings, as it is listed.
+
+use recording_names::Period;
+use report_writing::Reason;
+
+/// A folder of recordings.
+pub trait Recordings {
+    ghost use Rattle.std.specs.Prelude.{◌≡◌, ℕ, List, Option, None, Some, IfErr, IfOk, OnErr};
+    ghost use Rattle.report_writing.specs.declared.reason.Reason.{Reason};
+    ghost use Rattle.period_tables.specs.Listings.{Listing, ListsNext};
+
+    /// What was listed, in this order, if it shows that.
+    ghost listed: { Self → Option (List Listing) };
+
+    /// Whether it doesn't list the folder of a period, by its beginning, or that of what isn't finished, for this reason.
+    ghost refuses: { Self → Option ℕ → Reason → Type 0 };
+
+    /// The names in the folder of what isn't finished.
+    fn unfinished(&mut self) -> Result<Vec<String>, Reason>
+        ensures ok { IfOk result (λ names. ListsNext (listed self.old) (listed self.new)
+            (record { period = None; names = names.items })) }
+        ensures err { OnErr result (listed self.new ≡ listed self.old) }
+        ensures reason { IfErr result (refuses self.new None) };
+
+    /// The names in the folder of a period.
+    fn files(&mut self, period: Period) -> Result<Vec<String>, Reason>
+        ensures ok { IfOk result (λ names. ListsNext (listed self.old) (listed self.new)
+            (record { period = Some period.begins; names = names.items })) }
+        ensures err { OnErr result (listed self.new ≡ listed self.old) }
+        ensures reason { IfErr result (refuses self.new (Some period.begins)) };
+}

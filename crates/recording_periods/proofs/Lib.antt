@@ -1,0 +1,5 @@
+pub mod Dates
+pub mod FoundFiles
+pub mod Holding
+pub mod Loops
+pub mod PathNames

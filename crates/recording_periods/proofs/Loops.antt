@@ -1,0 +1,25 @@
+-- Going over a list: what is known of all of it by what is left.
+use Rattle.std.proofs.Common.{◌≡◌, List, ◌∷◌, length, suc, refl, sym, subst, arith}
+use Rattle.std.specs.Prelude.{All, Any}
+use Rattle.std.proofs.lemmas.List.Elements.{All-cons}
+
+module _ {X : Type 0} (P : X → Type 0) where
+  any_here : (x : X) (xs : List X) → P x → Any P (x ∷ xs)
+  any_here x xs holds = (0, x, omega arith, refl, holds)
+
+  any_there : (x : X) (xs : List X) → Any P xs → Any P (x ∷ xs)
+  any_there x xs (k, y, within, at, holds) = (suc k, y, omega (arith, within), at, holds)
+
+  module _ (all left : List X) where
+    pub all_at_end : (All P left → All P all) → length left ≡ 0 → All P all
+    all_at_end so_far none = so_far (λ k d within. absurd (omega (arith, within, none)))
+
+    module _ (rest : List X) (x : X) (split : left ≡ x ∷ rest) where
+      pub more_all : (All P left → All P all) → P x → All P rest → All P all
+      more_all so_far holds later = so_far (subst (All P) (sym split) (All-cons P x rest holds later))
+
+      pub some_here : (Any P left → Any P all) → P x → Any P all
+      some_here so_far holds = so_far (subst (Any P) (sym split) (any_here x rest holds))
+
+      pub more_some : (Any P left → Any P all) → Any P rest → Any P all
+      more_some so_far later = so_far (subst (Any P) (sym split) (any_there x rest later))

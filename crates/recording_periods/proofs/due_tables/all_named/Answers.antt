@@ -1,0 +1,22 @@
+use Rattle.std.proofs.Common.{◌≡◌, ◌∷◌, length, arith, rules}
+use Rattle.recording_periods.specs.TableStates.{IsLate, IsNamed}
+use Rattle.recording_periods.proofs.Loops.{all_at_end, more_all, more_some, some_here}
+use Rattle.recording_periods.proofs.due_tables.all_named.Goals as goal
+
+pub returns-then-not-is_named : goal.returns-then-not-is_named
+returns-then-not-is_named c =
+    let split : c.loop-name.left.now ≡ c.in-Some.name.now ∷ c.in-Some.rest.now = search rules in
+    some_here (IsLate c.args.paths.now) c.args.files.now c.loop-name.left.now c.in-Some.rest.now c.in-Some.name.now split c.loop-name.invariant.some (search rules)
+
+pub loop-name-preserved : goal.loop-name-preserved
+loop-name-preserved c =
+    let split : c.loop-name.left.now ≡ c.in-Some.name.now ∷ c.in-Some.rest.now = search rules in
+    record {
+      all = more_all (IsNamed c.args.paths.now) c.args.files.now c.loop-name.left.now c.in-Some.rest.now c.in-Some.name.now split c.loop-name.invariant.all (search rules);
+      some = more_some (IsLate c.args.paths.now) c.args.files.now c.loop-name.left.now c.in-Some.rest.now c.in-Some.name.now split c.loop-name.invariant.some;
+    }
+
+pub returns : goal.returns
+returns c =
+    let empty : length c.loop-name.left.now ≡ 0 = grind (arith, c.split_first.ensures.variant) in
+    all_at_end (IsNamed c.args.paths.now) c.args.files.now c.loop-name.left.now c.loop-name.invariant.all empty

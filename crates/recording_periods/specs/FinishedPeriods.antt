@@ -1,0 +1,33 @@
+-- When a period is finished.
+use Rattle.std.specs.Prelude.{◌≡◌, ◌<◌, ◌≤◌, ◌+◌, ℕ, List, All, Any, string_bytes}
+use Rattle.std.specs.declared.alloc.Global.{Global}
+use Rattle.std.specs.declared.string.String.{String}
+use Rattle.recording_names.specs.PeriodNames.{calendar_end}
+use Rattle.recording_names.specs.UnfinishedNames.{name_of_unfinished}
+use Rattle.recording_periods.specs.declared.finished_period.PeriodRule.{PeriodRule}
+use Rattle.recording_periods.specs.declared.finished_period.PeriodState.{PeriodState}
+use Rattle.recording_periods.specs.declared.finished_period.PeriodState.TheVariants.{NotOver, HeldUp, Finished}
+
+-- by the clock its end and the grace are over
+abbrev pub IsOver : PeriodRule → ℕ → ℕ → Type 0
+IsOver rule now begins = begins + rule.every + rule.grace ≤ now
+
+-- the name of an unfinished file of the period that begins then, or of one before it; any other name holds nothing up
+pub record HoldsUp (begins : ℕ) (name : List ℕ) : Type 0 where
+  pub period : ℕ
+  pub session : List ℕ
+  pub in_calendar : period < calendar_end
+  pub up_to : period ≤ begins
+  pub named : name ≡ name_of_unfinished period session
+
+-- its end and the grace are over, and no unfinished file is of it or of a period before it
+pub record IsFinished (rule : PeriodRule) (now : ℕ) (unfinished : List (String Global)) (begins : ℕ) : Type 0 where
+  pub over : IsOver rule now begins
+  pub free : All (λ name. ¬ HoldsUp begins (string_bytes name)) unfinished
+
+-- why a period isn't finished, or that it is; at most one of the three is so
+abbrev pub IsPeriodState : PeriodRule → ℕ → List (String Global) → ℕ → PeriodState → Type 0
+IsPeriodState rule now unfinished begins NotOver = now < begins + rule.every + rule.grace
+IsPeriodState rule now unfinished begins (HeldUp name) =
+    IsOver rule now begins × HoldsUp begins name.now × Any (λ held. string_bytes held ≡ name.now) unfinished
+IsPeriodState rule now unfinished begins Finished = IsFinished rule now unfinished begins

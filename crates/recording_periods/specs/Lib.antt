@@ -1,0 +1,5 @@
+-- What public contracts cite.
+pub mod PeriodFolders
+pub mod FinishedPeriods
+pub mod PeriodFiles
+pub mod TableStates

@@ -1,0 +1,68 @@
+//! When a period is finished.
+
+ghost use Rattle.std.specs.Prelude.{◌≡◌, All, Any, MatchBool, MatchOption, string_bytes};
+ghost use Rattle.recording_periods.specs.FinishedPeriods.{HoldsUp, IsPeriodState};
+
+use recording_names::{Period, read_unfinished_name};
+
+/// How long periods are, and for how many seconds after its end a period isn't looked at.
+#[derive(Clone, Copy, Debug, PartialEq, Eq)]
+pub struct PeriodRule {
+    pub every: u64,
+    pub grace: u64,
+}
+
+/// Whether a period is finished, or what it waits for.
+#[derive(Clone, Copy, Debug)]
+pub enum PeriodState<'n> {
+    /// By the clock it isn't over yet, or its grace isn't.
+    NotOver,
+    /// A file of this name isn't finished.
+    HeldUp(&'n str),
+    Finished,
+}
+
+/// Whether a period is finished at this second since 1970, where these names were in the folder of what isn't finished.
+pub fn period_state<'n>(
+    rule: PeriodRule,
+    now: u64,
+    unfinished: &'n [String],
+    period: Period,
+) -> PeriodState<'n>
+    ensures { IsPeriodState rule now unfinished.now period.begins result }
+{
+    let waits = u128::from(rule.every) + u128::from(rule.grace);
+    if u128::from(now) < u128::from(period.begins) + waits {
+        return PeriodState::NotOver;
+    }
+    match first_holding(unfinished, period) {
+        Some(name) => PeriodState::HeldUp(name),
+        None => PeriodState::Finished,
+    }
+}
+
+// The first name that holds a period up.
+fn first_holding<'n>(unfinished: &'n [String], period: Period) -> Option<&'n str>
+    ensures { MatchOption result
+        (All (λ name. ¬ HoldsUp period.begins (string_bytes name)) unfinished.now)
+        (λ name. HoldsUp period.begins name.now
+        × Any (λ held. string_bytes held ≡ name.now) unfinished.now) }
+{
+    let mut left = unfinished;
+    while let Some((name, rest)) = left.split_first() {
+        if holds_up(name.as_str(), period) {
+            return Some(name.as_str());
+        }
+        left = rest;
+    }
+    None
+}
+
+fn holds_up(name: &str, period: Period) -> bool
+    ensures { MatchBool result (HoldsUp period.begins name.now) (¬ HoldsUp period.begins name.now) }
+{
+    match read_unfinished_name(name) {
+        Some(told) => told.period.begins <= period.begins,
+        None => false,
+    }
+}

@@ -1,0 +1,13 @@
+-- The name of a plan.
+use Rattle.std.specs.Prelude.{◌≡◌, ◌≢◌, ◌⊎◌, ℕ, List, ◌++◌, codes}
+use Rattle.exporter_names.specs.RecordedExporters.{IsFileName}
+
+-- the name of a file without `.toml` at its end
+abbrev pub IsShortName : List ℕ → List ℕ → Type 0
+IsShortName file name = (file ≡ name ++ codes ".toml") ⊎ ((file ≡ name) × ((front : List ℕ) → file ≢ front ++ codes ".toml"))
+
+-- of the file of a path
+pub record IsPlanName (path name : List ℕ) : Type 0 where
+  pub file : List ℕ
+  pub is_file : IsFileName path file
+  pub is_short : IsShortName file name

@@ -1,0 +1,12 @@
+//! Folders of recordings and of tables on the disk, as the periods of one become the tables of the other.
+#![tactic(auto)]
+
+mod plan_names;
+mod plan_tables;
+mod receipt_files;
+mod recordings_folder;
+
+pub use plan_names::plan_name;
+pub use plan_tables::{PlanFault, PlanTables};
+pub use receipt_files::files_in_receipt;
+pub use recordings_folder::{RecordingsFolder, days_in, periods_in};
