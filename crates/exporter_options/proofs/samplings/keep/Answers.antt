@@ -1,0 +1,10 @@
+use Rattle.std.proofs.Common.{rules, ◌==◌, ◌&&◌, not, nat_eq}
+use Rattle.std.specs.Option.{option_eq}
+use Rattle.std.proofs.lemmas.Fn.{filter_same}
+use Rattle.exporter_options.proofs.Numbers.{kept_front}
+use Rattle.exporter_options.proofs.samplings.keep.Goals as goal
+
+pub returns : goal.returns
+returns c =
+    let kept = filter_same _ (λ k. not ((k.domain == c.args.told.domain) && option_eq nat_eq k.selector c.args.told.selector)) _ (λ x b f' k. search rules) _ _ c.retain.ensures.filtered in
+    kept_front (λ k. not ((k.domain == c.args.told.domain) && option_eq nat_eq k.selector c.args.told.selector)) c.args.told 1023 c.args.kept.now.items _ _ _ kept c.truncate.ensures.items c.push_front_reserved.ensures.items

@@ -1,0 +1,5 @@
+//! The tests of `exporter_options`.
+#![tactic(auto)]
+
+#[cfg(test)]
+mod tests;
