@@ -9,7 +9,7 @@ use Rattle.flow_plan.specs.PlanTexts.{plan_of_document}
 use Rattle.flow_plan.specs.declared.error.PlanTextError.{PlanTextError}
 use Rattle.flow_plan.specs.declared.error.PlanTextError.TheVariants.{NotUtf8, NotToml, OutOfMemory}
 use Rattle.flow_filtered_plan.specs.Errors.{IsFilteredPlanError, IsNoFilter, IsNoPlan}
-use Rattle.flow_filtered_plan.specs.FilteredPlans.{where_key, without}
+use Rattle.flow_filtered_plan.specs.FilteredPlans.{where_key, plan_members}
 use Rattle.flow_filtered_plan.specs.declared.place.FilteredPlanError.{FilteredPlanError}
 use Rattle.flow_filtered_plan.specs.declared.place.FilteredPlanError.TheVariants.{Plan}
 
@@ -19,7 +19,7 @@ of_document known octets (NotToml error line column message) h = h
 of_document known octets OutOfMemory h = tt
 of_document known octets e h = absurd h.1
 
-pub of_members : (known : List Known) (octets : List ℕ) (d : Members) (e : PlanTextError) → IsDocument octets d → Fails (fault_of e) (plan_of_document known (without where_key d)) → TellsKey known (without where_key d) e → IsNoPlan known octets e
+pub of_members : (known : List Known) (octets : List ℕ) (d : Members) (e : PlanTextError) → IsDocument octets d → Fails (fault_of e) (plan_of_document known (plan_members d)) → TellsKey known (plan_members d) e → IsNoPlan known octets e
 of_members known octets d (NotUtf8 line) is f t = absurd t
 of_members known octets d (NotToml error line column message) is f t = absurd t
 of_members known octets d OutOfMemory is f t = tt
@@ -30,7 +30,7 @@ of_memory known octets value OutOfMemory h = tt
 of_memory known octets (Some v) e h = absurd h.2
 of_memory known octets None e h = absurd h
 
-pub of_filter : (known : List Known) (octets : List ℕ) (d : Members) (plan : PlanValue) (e : FilteredPlanError) → IsDocument octets d → plan_of_document known (without where_key d) ≡ Ok plan → IsNoFilter known (get_member where_key d) e
+pub of_filter : (known : List Known) (octets : List ℕ) (d : Members) (plan : PlanValue) (e : FilteredPlanError) → IsDocument octets d → plan_of_document known (plan_members d) ≡ Ok plan → IsNoFilter known (get_member where_key d) e
     → IsFilteredPlanError known octets e
 of_filter known octets d plan (Plan e) is plan_is h = of_memory known octets (get_member where_key d) e h
 of_filter known octets d plan e is plan_is h = (d, plan, is, plan_is, h)

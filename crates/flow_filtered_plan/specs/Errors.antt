@@ -13,7 +13,7 @@ use Rattle.flow_plan.specs.PlanTexts.{plan_of_document}
 use Rattle.flow_plan.specs.declared.error.PlanTextError.{PlanTextError}
 use Rattle.flow_plan.specs.declared.error.PlanTextError.TheVariants as texts
 use Rattle.flow_filtered_plan.specs.Wheres.{IsNoWhere}
-use Rattle.flow_filtered_plan.specs.FilteredPlans.{values_of, where_key, without, AreConditions, IsFilterOf}
+use Rattle.flow_filtered_plan.specs.FilteredPlans.{values_of, where_key, plan_members, AreConditions, IsFilterOf}
 use Rattle.flow_filtered_plan.specs.declared.place.FilteredPlanError.{FilteredPlanError}
 use Rattle.flow_filtered_plan.specs.declared.place.FilteredPlanError.TheVariants.{Plan, NoConditions, Where}
 use Rattle.flow_filtered_plan.specs.declared.place.WhereFault.{WhereFault}
@@ -70,16 +70,16 @@ ReadsFilter known value (Err error) = IsNoFilter known value error
 
 -- ---- the whole
 
--- octets are no document; or what their document has but for `where` is no plan, and its fault comes first
+-- octets are no document; or what their document has but for `where` and `map` is no plan, and its fault comes first
 abbrev pub IsNoPlan : List Known → List ℕ → PlanTextError → Type 0
 IsNoPlan known octets (texts.NotUtf8 line) = IsNoDocument octets (texts.NotUtf8 line)
 IsNoPlan known octets (texts.NotToml error line column message) = IsNoDocument octets (texts.NotToml error line column message)
 IsNoPlan known octets texts.OutOfMemory = Unit {0}
 IsNoPlan known octets error =
-    (d : Members) × IsDocument octets d × Fails (fault_of error) (plan_of_document known (without where_key d)) × TellsKey known (without where_key d) error
+    (d : Members) × IsDocument octets d × Fails (fault_of error) (plan_of_document known (plan_members d)) × TellsKey known (plan_members d) error
 
 -- what has this fault: the plan; or the filter of a text that has a plan
 abbrev pub IsFilteredPlanError : List Known → List ℕ → FilteredPlanError → Type 0
 IsFilteredPlanError known octets (Plan error) = IsNoPlan known octets error
 IsFilteredPlanError known octets error =
-    (d : Members) × (plan : PlanValue) × IsDocument octets d × (plan_of_document known (without where_key d) ≡ Ok plan) × IsNoFilter known (get_member where_key d) error
+    (d : Members) × (plan : PlanValue) × IsDocument octets d × (plan_of_document known (plan_members d) ≡ Ok plan) × IsNoFilter known (get_member where_key d) error

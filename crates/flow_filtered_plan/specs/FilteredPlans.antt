@@ -40,11 +40,18 @@ without key (member name value d) = cond (same_key key name) d (member name valu
 abbrev pub where_key : List ℕ
 where_key = codes "where"
 
--- the plan is that of the members but for `where`, and the filter is that of its value
+abbrev pub map_key : List ℕ
+map_key = codes "map"
+
+-- those of the plan itself: the maps were read before
+abbrev pub plan_members : Members → Members
+plan_members d = without map_key (without where_key d)
+
+-- the plan is that of the members but for `where` and `map`, and the filter is that of its value
 pub record IsFilteredPlanOf (known : List Known) (octets : List ℕ) (read : FilteredPlan) : Type 0 where
   pub d : Members
   pub document : IsDocument octets d
-  pub plan : plan_of_document known (without where_key d) ≡ Ok read.plan
+  pub plan : plan_of_document known (plan_members d) ≡ Ok read.plan
   pub filter : IsFilterOf known (get_member where_key d) read.filter
 
 -- some text says them, where these files name elements

@@ -15,6 +15,7 @@ use std::alloc::Global;
 /// The plan and the filter of octets that are to be UTF-8. The document has the keys of a plan, which
 /// [`read_plan_with`](flow_plan::read_plan_with) reads, and may have `where`, an array of tables: each is a condition
 /// of an `element`, and has `in`, `not_in` or both, arrays of 1 to 64 texts. A record counts if all conditions hold.
+/// What the document says of maps is passed over: whoever reads them adds what they name to the elements.
 /// Elements have the names that keys have, and a text says values as
 /// [`ValueRange::read`](flow_filter::ValueRange::read) reads it.
 ///
@@ -34,6 +35,7 @@ pub fn read_filtered_plan(
         Err(error) => return Err(FilteredPlanError::Plan(error)),
     };
     let value = table.remove("where");
+    let _maps = table.remove("map");
     let plan = match read_members(alloc, elements, &table) {
         Ok(plan) => plan,
         Err(error) => return Err(FilteredPlanError::Plan(error)),

@@ -1,2 +1,3 @@
 pub mod Had
 pub mod InputsTold
+mod MapsRead

@@ -4,6 +4,8 @@ pub mod Origins
 pub mod InputsTold
 pub mod PlaceLines
 pub mod WhereLines
+pub mod MapLines
+pub mod MapsLoaded
 pub mod PlansTold
 pub mod Progressing
 pub mod ProgressLines

@@ -1,15 +1,41 @@
--- What is told of a path that has no plan.
-use Rattle.std.specs.Prelude.{◌⊎◌, ℕ, List, codes}
+-- What is told of a path that has no plan, and what is loaded of one that has.
+use Rattle.std.specs.Prelude.{◌≡◌, ◌⊎◌, ℕ, List, map, codes, Ok}
+use Rattle.element_registry.specs.Faults.{Fails}
 use Rattle.element_registry.specs.Registries.{Known}
+use Rattle.element_registry.specs.declared.fault.ElementsFault.{ElementsFault}
 use Rattle.flow_filtered_plan.specs.Errors.{IsFilteredPlanError}
+use Rattle.flow_filtered_plan.specs.FilteredPlans.{IsFilteredPlanOf}
+use Rattle.flow_filtered_plan.specs.declared.filtered_plan.FilteredPlan.{FilteredPlan}
 use Rattle.flow_filtered_plan.specs.declared.place.FilteredPlanError.{FilteredPlanError}
+use Rattle.flow_plan_maps.specs.Errors.{AreNoPlanMaps, ArePlanMaps}
+use Rattle.flow_plan_maps.specs.Keys.{KeyValue, key_value}
+use Rattle.flow_plan_maps.specs.Known.{with_keys}
+use Rattle.flow_plan_maps.specs.declared.error.PlanMapsError.{PlanMapsError}
+use Rattle.flow_plan_maps.specs.declared.named.PlanMaps.{PlanMaps}
 use Rattle.report_writing.specs.OpeningLines.{not_had_lines}
+use Rattle.input_sources.specs.MapLines.{key_lines, map_lines}
 use Rattle.input_sources.specs.WhereLines.{filtered_lines}
 use Rattle.report_writing.specs.declared.reason.Reason.{Reason}
 use Rattle.report_writing.specs.declared.verbosity.Verbosity.{Verbosity}
 
--- no text of the path can be had, and that is reported; or the text that it has is no plan, and its error is told
+abbrev pub keys_of : PlanMaps → List KeyValue
+keys_of maps = map key_value maps.keys.items
+
+-- the maps and the plan of a text: the plan is read with the keys of the maps beside the elements
+pub record IsLoaded (known : List Known) (octets : List ℕ) (maps : PlanMaps) (more : List Known) (read : FilteredPlan) : Type 0 where
+  pub maps_are : ArePlanMaps known octets maps
+  pub with : with_keys known (keys_of maps) ≡ Ok more
+  pub plan : IsFilteredPlanOf more octets read
+
+-- why a text is no plan, which is told: by what it says of maps; by their keys; or by what it says of the plan
+abbrev pub TellsNoText : List Known → List ℕ → (List ℕ → Type 0) → Type 0
+TellsNoText known octets AreTold =
+    ((error : PlanMapsError) × AreNoPlanMaps octets error × AreTold (map_lines known error))
+    ⊎ (((maps : PlanMaps) × ArePlanMaps known octets maps × ((fault : ElementsFault) × Fails fault (with_keys known (keys_of maps)) × AreTold (key_lines fault)))
+    ⊎ ((maps : PlanMaps) × ArePlanMaps known octets maps × ((more : List Known) × (with_keys known (keys_of maps) ≡ Ok more) × ((error : FilteredPlanError) × IsFilteredPlanError more octets error × AreTold (filtered_lines more error)))))
+
+-- no text of the path can be had, and that is reported; or the text that it has is no plan, and why is told
 abbrev pub TellsNoPlan : List Known → (List ℕ → Type 0) → (Reason → Type 0) → Verbosity → List ℕ → (List ℕ → Type 0) → Type 0
 TellsNoPlan known Has Refuses verbosity path AreTold =
     ((reason : Reason) × Refuses reason × AreTold (not_had_lines verbosity (codes "open") path reason))
-    ⊎ ((octets : List ℕ) × Has octets × ((error : FilteredPlanError) × IsFilteredPlanError known octets error × AreTold (filtered_lines known error)))
+    ⊎ ((octets : List ℕ) × Has octets × TellsNoText known octets AreTold)

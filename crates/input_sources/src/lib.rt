@@ -4,6 +4,8 @@
 
 mod accepting;
 mod files_in_turn;
+mod map_places;
+mod maps;
 mod opening;
 mod opening_all;
 mod place_words;
@@ -19,6 +21,7 @@ mod with_reason;
 
 pub use accepting::{Accepted, AcceptedAll, Listener, accept_all};
 pub use files_in_turn::{FileInTurn, FilesInTurn};
+pub use maps::{LoadedMap, load_maps};
 pub use opening::{OpenSource, Opened, SystemFiles};
 pub use opening_all::{NotOpened, OpenedAll, open_all};
 pub use plan::{LoadedPlan, load_plan};

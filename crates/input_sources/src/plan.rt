@@ -1,25 +1,28 @@
 //! The plan that a text says.
 
-ghost use Rattle.std.specs.Prelude.{◌≡◌, ℕ, List, IfNone, IfSome};
+ghost use Rattle.std.specs.Prelude.{ℕ, List, IfNone, IfSome, ◌≡◌};
 ghost use Rattle.std.specs.Option.{ForSome};
 ghost use Rattle.flow_table.specs.Plans.{IsPlan};
-ghost use Rattle.flow_filtered_plan.specs.FilteredPlans.{IsFilteredPlanOf, IsReadWith};
+ghost use Rattle.flow_filtered_plan.specs.FilteredPlans.{IsReadWith};
 ghost use Rattle.report_writing.specs.Told.{AreToldTo};
-ghost use Rattle.input_sources.specs.PlansTold.{TellsNoPlan};
+ghost use Rattle.input_sources.specs.PlansTold.{IsLoaded, TellsNoPlan, TellsNoText};
 
+use crate::map_places::{write_key_fault, write_map_fault};
 use crate::plan_fault::write_filtered_fault;
 use element_registry::Elements;
 use flow_filtered_plan::{FilteredPlan, read_filtered_plan};
+use flow_plan_maps::{PlanMaps, add_map_keys, read_plan_maps};
 use input_files::ReadText;
 use report_writing::{Verbosity, WriteLines, write_not_had_because};
 use std::alloc::Global;
 
-/// A plan with its filter, and the elements that it was read with: by these its text names its keys, counters and
-/// conditions, and what is written under the plan names them.
+/// A plan with its filter and its maps, and the elements that it was read with: by these its text names its keys,
+/// counters and conditions, and what is written under the plan names them. Keys of maps are among them.
 #[derive(Drop)]
 pub struct LoadedPlan {
     pub read: FilteredPlan,
     pub elements: Elements,
+    pub maps: PlanMaps,
     ghost said: { IsReadWith elements read },
 }
 
@@ -34,10 +37,11 @@ pub fn load_plan<T: ReadText, E: WriteLines>(
     verbosity: Verbosity,
     err: &mut E,
 ) -> Option<LoadedPlan>
-    // The plan and its filter are those of the text that the path has, which is UTF-8.
+    // The plan, its filter and its maps are those of the text that the path has, which is UTF-8. The keys of maps are
+    // added to the elements, and nothing else.
     ensures text { ForSome result (λ loaded. (octets : List ℕ)
-        × T.has files.now path.now octets × IsFilteredPlanOf elements octets loaded.read) }
-    ensures names { ForSome result (λ loaded. loaded.elements ≡ elements) }
+        × T.has files.now path.now octets
+        × IsLoaded elements octets loaded.maps loaded.elements loaded.read) }
     // Its numbers are in their ranges, its keys can be compared and its keys and counters are no times of flows, and
     // no element stands twice.
     ensures sound { ForSome result (λ loaded. IsPlan loaded.read.plan) }
@@ -56,8 +60,44 @@ pub fn load_plan<T: ReadText, E: WriteLines>(
             return None;
         }
     };
-    match read_filtered_plan(alloc, &elements, &octets) {
-        Ok(read) => Some(LoadedPlan { read, elements }),
+    load_text(alloc, elements, &octets, err)
+}
+
+// Reads the plan in a text.
+fn load_text<E: WriteLines>(
+    alloc: Global,
+    elements: Elements,
+    octets: &[u8],
+    err: &mut E,
+) -> Option<LoadedPlan>
+    ensures text { ForSome result
+        (λ loaded. IsLoaded elements octets.now loaded.maps loaded.elements loaded.read) }
+    ensures sound { ForSome result (λ loaded. IsPlan loaded.read.plan) }
+    ensures silent { IfSome result (λ _. err.new ≡ err.old) }
+    ensures told { IfNone result (TellsNoText elements octets.now
+        (AreToldTo E.contents E.failed err.old err.new)) }
+    ensures kept { E.failed err.old → E.failed err.new }
+{
+    let maps = match read_plan_maps(alloc, &elements, octets) {
+        Ok(maps) => maps,
+        Err(error) => {
+            let _ = write_map_fault(&elements, &error, err);
+            return None;
+        }
+    };
+    let elements = match add_map_keys(alloc, elements, &maps.keys) {
+        Ok(elements) => elements,
+        Err(fault) => {
+            let _ = write_key_fault(fault, err);
+            return None;
+        }
+    };
+    match read_filtered_plan(alloc, &elements, octets) {
+        Ok(read) => Some(LoadedPlan {
+            read,
+            elements,
+            maps,
+        }),
         Err(error) => {
             let _ = write_filtered_fault(&elements, &error, err);
             None

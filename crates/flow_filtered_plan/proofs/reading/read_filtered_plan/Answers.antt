@@ -17,7 +17,7 @@ pub returns-in-Err-read_members-clause-err : goal.returns-in-Err-read_members-cl
 returns-in-Err-read_members-clause-err c =
     let known = c.args.elements.now in
     let e = c.in-Err-read_members.error in
-    let rest = left c.in-Ok.table.entries c.remove-value.new.self.entries c.remove-value.ensures.entries in
+    let rest = left c.in-Ok.table.entries c.remove-value.new.self.entries c.remove-maps.new.self.entries c.remove-value.ensures.entries c.remove-maps.ensures.entries in
     let told = c.in-Err-read_members.ensures.reads in
     of_members known c.args.octets.now (table_view c.in-Ok.table) e c.in-Ok.ensures.ok
     (subst (λ (d : Members). Fails (fault_of e) (plan_of_document known d)) rest told.0) (subst (λ (d : Members). TellsKey known d e) rest told.1)
@@ -25,7 +25,7 @@ returns-in-Err-read_members-clause-err c =
 pub returns-in-Ok-read_filter-clause-ok : goal.returns-in-Ok-read_filter-clause-ok
 returns-in-Ok-read_filter-clause-ok c =
     let known = c.args.elements.now in
-    let rest = left c.in-Ok.table.entries c.remove-value.new.self.entries c.remove-value.ensures.entries in
+    let rest = left c.in-Ok.table.entries c.remove-value.new.self.entries c.remove-maps.new.self.entries c.remove-value.ensures.entries c.remove-maps.ensures.entries in
     record {
       d = table_view c.in-Ok.table;
       document = c.in-Ok.ensures.ok;
@@ -36,7 +36,7 @@ returns-in-Ok-read_filter-clause-ok c =
 pub returns-clause-err : goal.returns-clause-err
 returns-clause-err c =
     let known = c.args.elements.now in
-    let rest = left c.in-Ok.table.entries c.remove-value.new.self.entries c.remove-value.ensures.entries in
+    let rest = left c.in-Ok.table.entries c.remove-value.new.self.entries c.remove-maps.new.self.entries c.remove-value.ensures.entries c.remove-maps.ensures.entries in
     of_filter known c.args.octets.now (table_view c.in-Ok.table) c.in-Ok-read_members.plan c.in-Err-read_filter.error c.in-Ok.ensures.ok
     (subst (λ (d : Members). plan_of_document known d ≡ Ok c.in-Ok-read_members.plan) rest c.in-Ok-read_members.ensures.reads)
     (subst (λ (v : Option Data). IsNoFilter known v c.in-Err-read_filter.error) (removed c.in-Ok.table.entries c.remove-value.result c.remove-value.ensures.value) c.in-Err-read_filter.ensures)
