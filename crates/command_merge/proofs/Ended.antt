@@ -3,7 +3,7 @@ use Rattle.std.proofs.Common.{◌≡◌, ℕ, List, inl, inr, Option}
 use Rattle.std.specs.Prelude.{◌⊎◌}
 use Rattle.ipfix_session.specs.Sources.{SourceView}
 use Rattle.flow_table.specs.declared.table.Table.{Table}
-use Rattle.output_tables.specs.TableTexts.{Writes}
+use Rattle.output_tables.specs.TableTexts.{WritesIn}
 use Rattle.report_writing.specs.declared.status.Status.{Status}
 use Rattle.report_writing.specs.declared.status.Status.TheVariants as ends
 use Rattle.command_merge.specs.MergeLines.{status_of}
@@ -24,7 +24,7 @@ never_well status (inl not_opened) well = absurd (cc (not_opened, well))
 never_well status (inr failed) well = absurd (cc (failed, well))
 
 module _ {S W : Type 0} (seen : S → SourceView) (AreHad : List S → Type 0) (IsDueTo : List (List ℕ) → NotMerged → Type 0) (job : MergeJob) (names : List (List ℕ)) (contents : W → Option (List ℕ)) (old new : W) (AreTold : List ℕ → Type 0) (status : Status) where
-  pub merges_all : status ≡ ends.Well → EndsMerged seen AreHad job.plan.now (Writes job.elements.now job.plan.now job.output (contents old) (contents new)) (λ table. AreTold (merge_lines job.verbosity names table))
+  pub merges_all : status ≡ ends.Well → EndsMerged seen AreHad job.intervals job.plan.now (WritesIn job.intervals job.elements.now job.plan.now job.output (contents old) (contents new)) (λ table. AreTold (merge_lines job.verbosity names table))
       → RunsMerge seen AreHad IsDueTo job names contents old new AreTold status
   merges_all well merged =
       record {
@@ -43,7 +43,7 @@ module _ {S W : Type 0} (seen : S → SourceView) (AreHad : List S → Type 0) (
         failed = λ failed. inl (untouched, told);
       }
 
-  pub exports_none : (table : Table) → status ≡ ends.Failed → IsMerged seen AreHad job.plan.now table → TellsNotExported job.output names job.verbosity (new ≡ old) AreTold table → RunsMerge seen AreHad IsDueTo job names contents old new AreTold status
+  pub exports_none : (table : Table) → status ≡ ends.Failed → IsMerged seen AreHad job.intervals job.plan.now table → TellsNotExported job.output names job.verbosity (new ≡ old) AreTold table → RunsMerge seen AreHad IsDueTo job names contents old new AreTold status
   exports_none table failed merged told =
       record {
         statuses = inr (inr failed);

@@ -28,7 +28,7 @@ module _ {P : Type 0} (name_of : P → List ℕ) (paths : List P) where
   names_count : (i : ℕ) → i ≤ length paths → length (first_names i) ≡ i
   names_count i within = length-map (take i paths) name_of ∙ length-take-le i paths within
 
-  lines_more : (verbosity : Verbosity) (i : ℕ) (d : P) → i < length paths
+  pub lines_more : (verbosity : Verbosity) (i : ℕ) (d : P) → i < length paths
       → files_opened_lines verbosity (first_names (i + 1)) ≡ files_opened_lines verbosity (first_names i) ++ if_verbose verbosity (file_opened_line (i + 1) (name_of (get_or paths i d)))
   lines_more verbosity i d less =
       let name = name_of (get_or paths i d) in

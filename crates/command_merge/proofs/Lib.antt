@@ -1,3 +1,3 @@
 pub mod Merged
-mod FilesTold
+pub mod FilesTold
 mod Ended

@@ -8,7 +8,7 @@ use Rattle.ipfix_session.specs.Faults.{number_of, name_of}
 use Rattle.flow_merge.specs.MergeFaults as merging
 use Rattle.flow_merge.specs.RowFaults as rows
 use Rattle.flow_merge.specs.declared.merge_fault.MergeFault.{MergeFault}
-use Rattle.flow_merge.specs.declared.merge_fault.MergeFault.TheVariants.{Session, Row}
+use Rattle.flow_merge.specs.declared.merge_fault.MergeFault.TheVariants.{Session, Row, Border}
 use Rattle.report_writing.specs.OpeningLines.{if_verbose, not_had_lines}
 use Rattle.report_writing.specs.Origins.{whole_name}
 use Rattle.report_writing.specs.FaultLines.{fault_text}
@@ -23,10 +23,15 @@ use Rattle.command_merge.specs.declared.not_merged.NotMerged.TheVariants.{NotOpe
 unfoldable pub merged_line : ℕ → ℕ → List ℕ
 merged_line files rows = codes "collectd: merged: files " ++ (decimal files ++ (codes " rows " ++ (decimal rows ++ codes "\n")))
 
--- the fault of a file, and after it that of its session or of its record
+-- a row that crosses a border, by its number
+unfoldable pub border_text : ℕ → List ℕ
+border_text row = codes ": fault 12 Border: row " ++ (decimal row ++ codes "\n")
+
+-- the fault of a file, and after it that of its session or of its record, or the number of the row that crosses a border
 abbrev pub merge_fault_text : MergeFault → List ℕ
 merge_fault_text (Session fault) = codes ": fault 3 Session" ++ fault_text (number_of fault) (name_of fault)
 merge_fault_text (Row fault) = codes ": fault 6 Row" ++ fault_text (rows.number_of fault) (rows.name_of fault)
+merge_fault_text (Border row) = border_text row
 merge_fault_text fault = fault_text (merging.number_of fault) (merging.name_of fault)
 
 -- what is said of a file begins with its number, and if it is added, its name

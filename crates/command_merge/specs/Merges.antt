@@ -9,11 +9,12 @@ use Rattle.report_writing.specs.declared.status.Status.TheVariants.{Well, Failed
 use Rattle.flow_table.specs.Plans.{PlanValue}
 use Rattle.flow_table.specs.SameTables.{RowValue}
 use Rattle.flow_table.specs.declared.table.Table.{Table}
-use Rattle.flow_merge.specs.Merging.{merging_plan, AddsAllUp, AddsExport, StandsFor}
+use Rattle.flow_merge.specs.Merging.{merging_intervals, merging_plan, AddsAllUpIn, AddsExport, StandsFor}
+use Rattle.flow_export.specs.declared.intervals.Intervals.{Intervals}
 use Rattle.flow_merge.specs.declared.merging.Merging.{Merging}
 use Rattle.input_sources.specs.Had.{IsOpened, IsUnread, PathsAreOpened}
 use Rattle.report_writing.specs.declared.reason.Reason.{Reason}
-use Rattle.output_tables.specs.TableTexts.{Writes}
+use Rattle.output_tables.specs.TableTexts.{WritesIn}
 use Rattle.ipfix_session.specs.declared.driver.TheConstants.{READ_LIMIT}
 use Rattle.report_writing.specs.OpeningLines.{if_verbose}
 use Rattle.report_writing.specs.declared.verbosity.Verbosity.{Verbosity}
@@ -32,16 +33,16 @@ names_of paths = map (λ (path : Bor (List ℕ)). path.now) paths
 module _ {S : Type 0} (seen : S → SourceView) where
   -- sources were had as the first fact says it, none of which was read before; each gave an export, and the rows of all of
   -- them, added up, are those of the table
-  pub record IsMerged (AreHad : List S → Type 0) (plan : PlanValue) (table : Table) : Type 0 where
+  pub record IsMerged (AreHad : List S → Type 0) (intervals : Intervals) (plan : PlanValue) (table : Table) : Type 0 where
     pub sources : List S
     pub had : AreHad sources
     pub unread : All (IsUnread seen) sources
-    pub added_up : AddsAllUp seen READ_LIMIT plan sources table
+    pub added_up : AddsAllUpIn seen READ_LIMIT intervals plan sources table
 
   -- that table was written and told as the last two facts say it
-  pub record EndsMerged (AreHad : List S → Type 0) (plan : PlanValue) (IsWritten IsTold : Table → Type 0) : Type 0 where
+  pub record EndsMerged (AreHad : List S → Type 0) (intervals : Intervals) (plan : PlanValue) (IsWritten IsTold : Table → Type 0) : Type 0 where
     pub table : Table
-    pub merged : IsMerged AreHad plan table
+    pub merged : IsMerged AreHad intervals plan table
     pub written : IsWritten table
     pub told : IsTold table
 
@@ -50,11 +51,11 @@ module _ {S : Type 0} (seen : S → SourceView) where
     pub statuses : (status ≡ Well) ⊎ (status ≡ ends.NotOpened) ⊎ (status ≡ Failed)
     -- their rows were written, by the names that elements have under files; and how many files and rows there are was told, and
     -- nothing else
-    pub table : status ≡ Well → EndsMerged AreHad job.plan.now (Writes job.elements.now job.plan.now job.output (contents old) (contents new)) (λ table. AreTold (merge_lines job.verbosity names table))
+    pub table : status ≡ Well → EndsMerged AreHad job.intervals job.plan.now (WritesIn job.intervals job.elements.now job.plan.now job.output (contents old) (contents new)) (λ table. AreTold (merge_lines job.verbosity names table))
     -- nothing was written unless all were opened, and the one that can't be was told;
     pub not_opened : status ≡ ends.NotOpened → (new ≡ old) × TellsNotMerged IsDueTo names job.verbosity AreTold status
     -- nor unless all were merged, and the fault was told; else the table was had, and why it wasn't written was told
-    pub failed : status ≡ Failed → ((new ≡ old) × TellsNotMerged IsDueTo names job.verbosity AreTold status) ⊎ ((table : Table) × IsMerged AreHad job.plan.now table × TellsNotExported job.output names job.verbosity (new ≡ old) AreTold table)
+    pub failed : status ≡ Failed → ((new ≡ old) × TellsNotMerged IsDueTo names job.verbosity AreTold status) ⊎ ((table : Table) × IsMerged AreHad job.intervals job.plan.now table × TellsNotExported job.output names job.verbosity (new ≡ old) AreTold table)
 
   -- the export of a source that was had as the first fact says it, and not read before, is added
   pub record AddsFile (IsHad : S → Type 0) (old new : Merging) : Type 0 where
@@ -63,6 +64,7 @@ module _ {S : Type 0} (seen : S → SourceView) where
     pub had : IsHad before
     pub unread : IsUnread seen before
     pub same_plan : merging_plan new ≡ merging_plan old
+    pub same_intervals : merging_intervals new ≡ merging_intervals old
     pub adds : (rows : List RowValue) → StandsFor old rows → AddsExport seen READ_LIMIT old before after rows new
 
 -- why the file of this name and number was not added, and what was told by then
@@ -78,13 +80,13 @@ module _ {S O : Type 0} (seen : S → SourceView) (failure : S → Option ErrorK
       IsNotAddedFor (refuses before name) (FailsFile seen failure (IsOpened (opens before name) (coming before) (coming after)) merging) verbosity file name AreTold not_merged
 
   -- what keeps files from being merged that are opened by their names
-  abbrev pub IsDueOpened : PlanValue → List (List ℕ) → NotMerged → Type 0
-  IsDueOpened plan names not_merged = IsDueTo seen failure (opens before) (coming before) (coming after) plan (refuses before) names not_merged
+  abbrev pub IsDueOpened : Intervals → PlanValue → List (List ℕ) → NotMerged → Type 0
+  IsDueOpened intervals plan names not_merged = IsDueTo seen failure (opens before) (coming before) (coming after) intervals plan (refuses before) names not_merged
 
   -- what the status of a merge of the files of these paths says
   abbrev pub MergesFiles : {W : Type 0} → List (Bor (List ℕ)) → MergeJob → (W → Option (List ℕ)) → W → W → (List ℕ → Type 0) → Status → Type 0
   MergesFiles paths job contents old new AreTold status =
-      RunsMerge seen (PathsAreOpened opens coming before after paths) (IsDueOpened job.plan.now) job (names_of paths) contents old new AreTold status
+      RunsMerge seen (PathsAreOpened opens coming before after paths) (IsDueOpened job.intervals job.plan.now) job (names_of paths) contents old new AreTold status
 
 -- why files were not merged, and which of them were told as opened by then
 pub record StopsMerge (IsDueTo : List (List ℕ) → NotMerged → Type 0) (names : List (List ℕ)) (verbosity : Verbosity) (AreTold : List ℕ → Type 0) (not_merged : NotMerged) : Type 0 where

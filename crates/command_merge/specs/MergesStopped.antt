@@ -6,7 +6,8 @@ use Rattle.ipfix_session.specs.Sources.{SourceView}
 use Rattle.ipfix_session.specs.declared.driver.TheConstants.{READ_LIMIT}
 use Rattle.flow_table.specs.Plans.{PlanValue}
 use Rattle.flow_table.specs.SameTables.{RowValue}
-use Rattle.flow_merge.specs.Merging.{merging_plan, GiveExports, IsDue, StandsFor}
+use Rattle.flow_merge.specs.Merging.{CannotAdd, GiveExportsIn, IsDueIn, StandsFor}
+use Rattle.flow_export.specs.declared.intervals.Intervals.{Intervals}
 use Rattle.flow_merge.specs.declared.merge_fault.MergeFault.TheVariants.{OutOfMemory}
 use Rattle.flow_merge.specs.declared.merging.Merging.{Merging}
 use Rattle.input_sources.specs.Had.{AreOpened, IsUnread}
@@ -34,10 +35,10 @@ module _ {S : Type 0} (seen : S → SourceView) (failure : S → Option ErrorKin
     pub after : S
     pub had : IsHad before
     pub unread : IsUnread seen before
-    pub due : (rows : List RowValue) → StandsFor merging rows → IsDue seen READ_LIMIT (merging_plan merging) rows before after failed.fault
+    pub due : (rows : List RowValue) → StandsFor merging rows → CannotAdd seen READ_LIMIT merging rows before after failed.fault
     pub why : HasReason (failure after) failed
 
-  module _ (opens : List ℕ → S → Type 0) (start now : Option (List S)) (plan : PlanValue) where
+  module _ (opens : List ℕ → S → Type 0) (start now : Option (List S)) (intervals : Intervals) (plan : PlanValue) where
     -- the files of these names were opened, none of them read before; all but the last gave an export each, and the last has this
     -- fault, after the rows of the others, and the reason that its own source answered
     pub record LastFails (names : List (List ℕ)) (failed : FileFault) : Type 0 where
@@ -47,8 +48,8 @@ module _ {S : Type 0} (seen : S → SourceView) (failure : S → Option ErrorKin
       pub opened : AreOpened opens names start now (sources ++ last ∷ [])
       pub unread : All (IsUnread seen) (sources ++ last ∷ [])
       pub exports : List (List RowValue)
-      pub given : GiveExports seen READ_LIMIT plan sources exports
-      pub due : IsDue seen READ_LIMIT plan (rows_of exports) last left failed.fault
+      pub given : GiveExportsIn seen READ_LIMIT intervals plan sources exports
+      pub due : IsDueIn seen READ_LIMIT intervals plan (rows_of exports) last left failed.fault
       pub why : HasReason (failure left) failed
 
     -- after the files of these names were opened: the next one can't be opened for such a reason; the last one has the fault; or

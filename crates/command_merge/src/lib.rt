@@ -8,3 +8,5 @@ mod reports;
 
 pub use job::MergeJob;
 pub use merge::run_merge_with;
+pub use not_merged::{FileFault, NotMerged};
+pub use reports::{write_file_opened, write_file_start, write_merged, write_not_merged};

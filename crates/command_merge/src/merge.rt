@@ -1,6 +1,7 @@
 //! Merging the exports in files.
 
 ghost use Rattle.std.specs.Prelude.{IfErr, IfOk, OnOk};
+ghost use Rattle.flow_merge.specs.RowRecords.{CanTakeRows};
 ghost use Rattle.flow_table.specs.Fitting.{FitsPlan};
 ghost use Rattle.report_writing.specs.OpeningLines.{if_verbose};
 ghost use Rattle.report_writing.specs.Told.{AreToldTo};
@@ -11,6 +12,7 @@ ghost use Rattle.input_sources.specs.Had.{HoldBefore, IsOpened, PathsAreOpened};
 use crate::job::MergeJob;
 use crate::not_merged::{FileFault, NotMerged};
 use crate::reports::{write_file_opened, write_merged, write_not_merged};
+use flow_export::AnyTable;
 use flow_merge::Merging;
 use flow_table::FlatTable;
 use input_sources::OpenSource;
@@ -21,7 +23,7 @@ use std::alloc::Global;
 use std::io::Write;
 
 /// Opens the files of exports one after another, and writes the table of all of them to `out`: rows of
-/// the same interval and key are added up. Answers how it ended: `Well`; `NotOpened` if a file can't be
+/// the same interval and key are added up, after each was put in one of the job's intervals. Answers how it ended: `Well`; `NotOpened` if a file can't be
 /// opened; `Failed` if a file is no whole export under the plan, a sum is too large, memory runs out, or
 /// the table can't be written.
 ///
@@ -38,6 +40,7 @@ pub fn run_merge_with<S: Source + Drop, O: OpenSource<S>, W: Write, E: WriteLine
     out: &mut W,
     err: &mut E,
 ) -> Status
+    requires { CanTakeRows job.now.intervals }
     // The source of each path, in their order, each opened once, gave an export; the rows of all of them,
     // added up, were written, and nothing else; or what kept them from it was told.
     ensures runs { MergesFiles S.seen S.failure O.opens O.refuses O.coming files.old files.new paths.now
@@ -51,7 +54,8 @@ pub fn run_merge_with<S: Source + Drop, O: OpenSource<S>, W: Write, E: WriteLine
             return not_merged.status();
         }
     };
-    if let Err(fault) = export(alloc, job.elements, job.plan, &table, job.output, out) {
+    let rows = AnyTable::Flat(&table, job.intervals);
+    if let Err(fault) = export(alloc, job.elements, job.plan, &rows, job.output, out) {
         let _ = write_export_fault(fault, err);
         return Status::Failed;
     }
@@ -67,17 +71,19 @@ fn merge_files<'a, S: Source + Drop, O: OpenSource<S>, E: WriteLines>(
     job: &MergeJob,
     err: &mut E,
 ) -> Result<FlatTable, NotMerged<'a>>
+    requires { CanTakeRows job.now.intervals }
     ensures merged { IfOk result (IsMerged S.seen
-        (PathsAreOpened O.opens O.coming files.old files.new paths.now) job.now.plan.now) }
+        (PathsAreOpened O.opens O.coming files.old files.new paths.now)
+        job.now.intervals job.now.plan.now) }
     ensures fits { IfOk result (FitsPlan job.now.plan.now) }
     ensures told { OnOk result (AreToldTo E.contents E.failed err.old err.new
         (files_opened_lines job.now.verbosity (names_of paths.now))) }
     ensures stops { IfErr result (StopsMerge (IsDueOpened S.seen S.failure O.opens O.refuses O.coming
-        files.old files.new job.now.plan.now) (names_of paths.now) job.now.verbosity
+        files.old files.new job.now.intervals job.now.plan.now) (names_of paths.now) job.now.verbosity
         (AreToldTo E.contents E.failed err.old err.new)) }
     ensures kept { E.failed err.old → E.failed err.new }
 {
-    let mut merging = match Merging::new(alloc, job.plan) {
+    let mut merging = match Merging::new(alloc, job.plan, job.intervals) {
         Ok(merging) => merging,
         Err(fault) => return Err(NotMerged::Whole(fault)),
     };
@@ -91,22 +97,22 @@ fn merge_files<'a, S: Source + Drop, O: OpenSource<S>, E: WriteLines>(
 }
 
 // Adds the file of this number, counted from 1.
-fn add_file<'a, S: Source + Drop, O: OpenSource<S>, E: WriteLines>(
+fn add_file<'a, 'b, S: Source + Drop, O: OpenSource<S>, E: WriteLines>(
     files: &mut O,
-    merging: Merging,
+    merging: Merging<'b>,
     number: usize,
     path: &'a str,
     verbosity: Verbosity,
     err: &mut E,
-) -> Result<Merging, NotMerged<'a>>
+) -> Result<Merging<'b>, NotMerged<'a>>
     ensures added { IfOk result (AddsFile S.seen
-        (IsOpened (O.opens files.old path.now) (O.coming files.old) (O.coming files.new)) merging) }
+        (IsOpened (O.opens files.old path.now) (O.coming files.old) (O.coming files.new)) merging.entry) }
     ensures same { HoldBefore (O.opens files.old) (O.opens files.new) }
     ensures same_reason { HoldBefore (O.refuses files.old) (O.refuses files.new) }
     ensures told { OnOk result (AreToldTo E.contents E.failed err.old err.new
         (if_verbose verbosity (file_opened_line number path.now))) }
     ensures stops { IfErr result (IsNotAdded S.seen S.failure O.opens O.refuses O.coming files.old files.new
-        merging verbosity number path.now (AreToldTo E.contents E.failed err.old err.new)) }
+        merging.entry verbosity number path.now (AreToldTo E.contents E.failed err.old err.new)) }
     ensures kept { E.failed err.old → E.failed err.new }
 {
     let mut source = match files.open_source(path) {

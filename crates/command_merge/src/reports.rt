@@ -4,7 +4,7 @@ ghost use Rattle.std.specs.Prelude.{◌++◌, codes};
 ghost use Rattle.flow_merge.specs.MergeFaults.{number_of, name_of};
 ghost use Rattle.report_writing.specs.OpeningLines.{if_verbose};
 ghost use Rattle.report_writing.specs.FaultLines.{fault_text};
-ghost use Rattle.command_merge.specs.MergeLines.{file_fault_line, file_fault_lines, file_opened_line, file_start, merge_fault_line, merge_fault_text, merged_line, named_file_line, not_merged_lines};
+ghost use Rattle.command_merge.specs.MergeLines.{border_text, file_fault_line, file_fault_lines, file_opened_line, file_start, merge_fault_line, merge_fault_text, merged_line, named_file_line, not_merged_lines};
 ghost use Rattle.report_writing.specs.Writing.{Tells};
 
 use crate::not_merged::{FileFault, NotMerged};
@@ -112,7 +112,8 @@ fn write_named_fault<W: WriteLines>(
     write_merge_fault_text(fault, out)
 }
 
-// The fault of a file, and after it that of its session or of its record, to the end of the line.
+// The fault of a file, and after it that of its session or of its record, or the number of the row that crosses a
+// border, to the end of the line.
 fn write_merge_fault_text<W: WriteLines>(fault: MergeFault, out: &mut W) -> io::Result<()>
     ensures { Tells W.contents W.failed out.old out.new result (merge_fault_text fault) }
 {
@@ -121,6 +122,7 @@ fn write_merge_fault_text<W: WriteLines>(fault: MergeFault, out: &mut W) -> io::
             write_inner(": fault 3 Session", inner.number(), inner.name(), out)
         }
         MergeFault::Row(inner) => write_inner(": fault 6 Row", inner.number(), inner.name(), out),
+        MergeFault::Border(row) => write_border(row, out),
         _ => write_inner("", fault.number(), fault.name(), out),
     }
 }
@@ -132,6 +134,14 @@ fn write_inner<W: WriteLines>(what: &str, number: u8, name: &str, out: &mut W) -
         (what.now ++ fault_text number name.now) }
 {
     writeln!(out, "{what}: fault {number} {name}")
+}
+
+// A row that crosses a border, by its number.
+#[tactic(auto, unfolding(crate::specs::MergeLines::border_text))]
+fn write_border<W: WriteLines>(row: u64, out: &mut W) -> io::Result<()>
+    ensures { Tells W.contents W.failed out.old out.new result (border_text row) }
+{
+    writeln!(out, ": fault 12 Border: row {row}")
 }
 
 /// Writes the line of a file, counted from 1, that was opened, with its name. Nothing is written unless
@@ -160,8 +170,9 @@ fn write_opened_line<W: WriteLines>(file: usize, name: &str, out: &mut W) -> io:
     out.write_all(b": opened\n")
 }
 
+/// Writes how the lines of a file begin, counted from 1.
 #[tactic(auto, unfolding(crate::specs::MergeLines::file_start))]
-fn write_file_start<W: WriteLines>(file: usize, out: &mut W) -> io::Result<()>
+pub fn write_file_start<W: WriteLines>(file: usize, out: &mut W) -> io::Result<()>
     ensures { Tells W.contents W.failed out.old out.new result (file_start file) }
 {
     write!(out, "collectd: merge: file {file}")

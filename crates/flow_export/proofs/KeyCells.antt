@@ -1,5 +1,5 @@
 -- The octets of a row, part by part.
-use Rattle.std.proofs.Common.{◌≡◌, ℕ, zero, suc, ◌+◌, ◌-◌, ◌*◌, ◌<◌, ◌≤◌, List, [], ◌∷◌, ◌++◌, length, map, get_or, take, refl, sym, ap, ◌∙◌, append_assoc, add-one, arith}
+use Rattle.std.proofs.Common.{◌≡◌, ℕ, zero, suc, ◌+◌, ◌<◌, ◌≤◌, List, [], ◌∷◌, ◌++◌, length, map, get_or, take, refl, sym, ap, ◌∙◌, append_assoc, add-one, arith}
 use Rattle.std.specs.List.{zip, flat_map, AllZip}
 use Rattle.std.proofs.lemmas.List.{append-nil, take_all}
 use Rattle.std.proofs.lemmas.Grind.{flat_map-append}
@@ -15,8 +15,9 @@ use Rattle.flow_table.specs.declared.table.Row.{Row}
 use Rattle.ipfix_elements.specs.Placed.{Placed}
 use Rattle.ipfix_elements.proofs.Places.{placed_as, then_placed}
 use Rattle.flow_export.specs.Fitting.{FitsValue, IsExportable}
-use Rattle.flow_export.specs.IpfixText.{key_field, number_field, number_octets, row_octets}
-use Rattle.flow_export.specs.CsvText.{first_of, last_of}
+use Rattle.flow_export.specs.IpfixText.{key_field, number_field, number_octets, row_octets_in}
+use Rattle.flow_export.specs.Intervals.{first_in, last_in}
+use Rattle.flow_export.specs.declared.intervals.Intervals.{Intervals}
 use Rattle.flow_export.specs.RowOctets.{wide_octets, cells_octets}
 
 -- ---- cells and their kinds
@@ -71,9 +72,9 @@ sum_parts (e ∷ es) [] same = absurd (omega (arith, same))
 sum_parts (e ∷ es) (v ∷ vs) same = ap (λ (t : List ℕ). number_octets v ++ t) (sum_parts es vs (omega (arith, same)))
 
 -- the times, the cells of the key, the sums and the number of flows
-pub row_parts : (plan : PlanValue) (row : RowValue) → FitsValue plan row
-    → row_octets plan row ≡ number_octets (first_of plan row) ++ (number_octets (last_of plan row) ++ (cells_octets plan.kinds row.key ++ (flat_map number_octets row.sums ++ number_octets row.flows)))
-row_parts plan row fits =
+pub row_parts : (intervals : Intervals) (plan : PlanValue) (row : RowValue) → FitsValue plan row
+    → row_octets_in intervals plan row ≡ number_octets (first_in intervals plan row.interval) ++ (number_octets (last_in intervals plan row.interval) ++ (cells_octets plan.kinds row.key ++ (flat_map number_octets row.sums ++ number_octets row.flows)))
+row_parts intervals plan row fits =
     let keys = map key_field (zip (keys_and_kinds plan) row.key) in
     let sums = map number_field (zip plan.counters row.sums) in
     let split : octets_in (keys ++ (sums ++ number_field (record { pen = 0; number = 375 }, row.flows) ∷ [])) ≡ cells_octets plan.kinds row.key ++ (flat_map number_octets row.sums ++ number_octets row.flows) =
@@ -83,14 +84,14 @@ row_parts plan row fits =
     (flat_map-append (λ f. f.octets) sums (number_field (record { pen = 0; number = 375 }, row.flows) ∷ [])
     ∙ ap (λ (t : List ℕ). t ++ (number_octets row.flows ++ [])) (sum_parts plan.counters row.sums fits.sums)
     ∙ ap (λ (t : List ℕ). flat_map number_octets row.sums ++ t) (append-nil (number_octets row.flows))) in
-    ap (λ (t : List ℕ). number_octets (first_of plan row) ++ (number_octets (last_of plan row) ++ t)) split
+    ap (λ (t : List ℕ). number_octets (first_in intervals plan row.interval) ++ (number_octets (last_in intervals plan row.interval) ++ t)) split
 
 -- its five parts, one after another
-pub row_placed : {a b c d e f : List ℕ} {i j k m n o : ℕ} (plan : PlanValue) (row : Row) (l : ℕ) (ks : List Kind) (cs : List Cell) (vs : List ℕ) → IsExportable plan (value_of row)
-    → l ≡ plan.length → ks ≡ plan.kinds → cs ≡ row.key.items → vs ≡ row.sums.items
-    → Placed a b i (number_octets (row.interval * l)) j → Placed b c j (number_octets (row.interval * l + l - 1)) k → Placed c d k (cells_octets ks cs) m → Placed d e m (flat_map number_octets vs) n
-    → Placed e f n (number_octets row.flows) o → Placed a f i (row_octets plan (value_of row)) o
-row_placed plan row l ks cs vs fits is_l is_ks is_cs is_vs first last key sums flows =
-    let whole : number_octets (row.interval * l) ++ (number_octets (row.interval * l + l - 1) ++ (cells_octets ks cs ++ (flat_map number_octets vs ++ number_octets row.flows))) ≡ row_octets plan (value_of row) =
-    rw (is_l, is_ks, is_cs, is_vs) (sym (row_parts plan (value_of row) fits.fields)) in
+pub row_placed : {a b c d e f : List ℕ} {i j k m n o : ℕ} (intervals : Intervals) (plan : PlanValue) (row : Row) (start end : ℕ) (ks : List Kind) (cs : List Cell) (vs : List ℕ) → IsExportable plan (value_of row)
+    → start ≡ first_in intervals plan row.interval → end ≡ last_in intervals plan row.interval → ks ≡ plan.kinds → cs ≡ row.key.items → vs ≡ row.sums.items
+    → Placed a b i (number_octets start) j → Placed b c j (number_octets end) k → Placed c d k (cells_octets ks cs) m → Placed d e m (flat_map number_octets vs) n
+    → Placed e f n (number_octets row.flows) o → Placed a f i (row_octets_in intervals plan (value_of row)) o
+row_placed intervals plan row start end ks cs vs fits is_start is_end is_ks is_cs is_vs first last key sums flows =
+    let whole : number_octets start ++ (number_octets end ++ (cells_octets ks cs ++ (flat_map number_octets vs ++ number_octets row.flows))) ≡ row_octets_in intervals plan (value_of row) =
+    rw (is_start, is_end, is_ks, is_cs, is_vs) (sym (row_parts intervals plan (value_of row) fits.fields)) in
     placed_as whole (then_placed first (then_placed last (then_placed key (then_placed sums flows))))

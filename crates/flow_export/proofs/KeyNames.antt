@@ -1,5 +1,5 @@
 -- The names of keys: those of context, or those of elements.
-use Rattle.std.proofs.Common.{◌≡◌, Bool, true, false, cond, ℕ, List, Some, None, unwrap_or}
+use Rattle.std.proofs.Common.{Bool, true, false, cond, ℕ, List, Some, None, unwrap_or}
 use Rattle.std.specs.Prelude.{codes}
 use Rattle.ipfix_wire.specs.declared.specifier.ElementId.{ElementId}
 use Rattle.element_registry.specs.Registries.{Known, element_name}

@@ -9,14 +9,15 @@ use Rattle.flow_table.specs.Plans.{PlanValue, IsPlan}
 use Rattle.flow_table.specs.SameTables.{value_of}
 use Rattle.flow_table.specs.declared.table.Row.{Row}
 use Rattle.flow_export.specs.Fitting.{IsExportable}
-use Rattle.flow_export.specs.IpfixText.{row_octets, field_specs, template, template_octets}
+use Rattle.flow_export.specs.declared.intervals.Intervals.{Intervals}
+use Rattle.flow_export.specs.IpfixText.{row_octets_in, field_specs, template, template_octets}
 use Rattle.flow_export.proofs.KeyCells.{same_length}
 use Rattle.flow_export.proofs.PlanFacts.{few_keys, has_room}
 use Rattle.flow_export.proofs.Room.{HasRoom}
-use Rattle.flow_export.proofs.RowFields.{length-row_octets}
+use Rattle.flow_export.proofs.RowFields.{length-row_octets_in}
 
-pub row_short : (plan : PlanValue) (row : Row) → IsPlan plan → IsExportable plan (value_of row) → length (row_octets plan (value_of row)) ≤ 184
-row_short plan row is fits = omega (arith, length-row_octets plan (value_of row) fits.fields, (has_room plan is).short)
+pub row_short : (intervals : Intervals) (plan : PlanValue) (row : Row) → IsPlan plan → IsExportable plan (value_of row) → length (row_octets_in intervals plan (value_of row)) ≤ 184
+row_short intervals plan row is fits = omega (arith, length-row_octets_in intervals plan (value_of row) fits.fields, (has_room plan is).short)
 
 -- a key has at most eight cells, and there are at most four sums
 pub few_parts : (plan : PlanValue) (row : Row) → IsPlan plan → IsExportable plan (value_of row) → (length row.key.items ≤ 8) × (length row.sums.items ≤ 4)

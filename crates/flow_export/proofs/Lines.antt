@@ -10,7 +10,9 @@ use Rattle.flow_table.specs.SameTables.{RowValue, value_of}
 use Rattle.flow_table.specs.declared.table.Row.{Row}
 use Rattle.ipfix_elements.specs.declared.cell.Cell.{Cell}
 use Rattle.flow_table.specs.declared.key.Key.{Key}
-use Rattle.flow_export.specs.CsvText.{first_of, last_of, row_line}
+use Rattle.flow_export.specs.CsvText.{row_line_in}
+use Rattle.flow_export.specs.Intervals.{first_in, last_in}
+use Rattle.flow_export.specs.declared.intervals.Intervals.{Intervals}
 use Rattle.flow_export.specs.Shown.{shown_cells}
 use Rattle.flow_export.specs.Written.{interval_texts, next_cell, next_number}
 
@@ -33,16 +35,16 @@ tail_parts shown row =
     flat_map-append next (map cell_text shown) (map decimal row.sums ++ decimal row.flows ∷ [])
     ∙ rw (each cell_text shown, flat_map-append next (map decimal row.sums) (decimal row.flows ∷ []), each decimal row.sums, append-nil (next_number row.flows)) refl
 
-row_parts : (plan : PlanValue) (row : RowValue) → row_line plan row
-    ≡ decimal (first_of plan row) ++ (next_number (last_of plan row) ++ (flat_map next_cell (shown_cells plan.keys row.key) ++ (flat_map next_number row.sums ++ (next_number row.flows ++ 10 ∷ []))))
-row_parts plan row =
-    let first = decimal (first_of plan row) in
-    let second = next_number (last_of plan row) in
+row_parts : (intervals : Intervals) (plan : PlanValue) (row : RowValue) → row_line_in intervals plan row
+    ≡ decimal (first_in intervals plan row.interval) ++ (next_number (last_in intervals plan row.interval) ++ (flat_map next_cell (shown_cells plan.keys row.key) ++ (flat_map next_number row.sums ++ (next_number row.flows ++ 10 ∷ []))))
+row_parts intervals plan row =
+    let first = decimal (first_in intervals plan row.interval) in
+    let second = next_number (last_in intervals plan row.interval) in
     let shown = shown_cells plan.keys row.key in
     let cells = flat_map next_cell shown in
     let sums = flat_map next_number row.sums in
     let rest = map cell_text shown ++ (map decimal row.sums ++ decimal row.flows ∷ []) in
-    ap (λ (t : List ℕ). t ++ 10 ∷ []) (behind_commas first (decimal (last_of plan row) ∷ rest))
+    ap (λ (t : List ℕ). t ++ 10 ∷ []) (behind_commas first (decimal (last_in intervals plan row.interval) ∷ rest))
     ∙ append_assoc first (second ++ flat_map next rest) (10 ∷ [])
     ∙ ap (λ (t : List ℕ). first ++ t) (append_assoc second (flat_map next rest) (10 ∷ []))
     ∙ ap (λ (t : List ℕ). first ++ (second ++ (t ++ 10 ∷ []))) (tail_parts shown row)
@@ -53,14 +55,14 @@ pub six_parts : (o p q r s t u a b c d e f : List ℕ) → p ≡ o ++ a → q �
 six_parts o p q r s t u a b c d e f is_p is_q is_r is_s is_t is_u = rw (is_u, is_t, is_s, is_r, is_q, is_p) (simp append_assoc)
 
 -- a line whose fields after the first two were appended one after another
-pub line_appended : (plan : PlanValue) (row : Row) (ks : List Key) (cs : List Cell) (vs o q r s t u : List ℕ) → ks ≡ plan.keys → cs ≡ row.key.items → vs ≡ row.sums.items → q ≡ o ++ interval_texts plan row.interval
-    → r ≡ q ++ flat_map next_cell (shown_cells ks cs) → s ≡ r ++ flat_map next_number vs → t ≡ s ++ next_number row.flows → u ≡ t ++ 10 ∷ [] → u ≡ o ++ row_line plan (value_of row)
-line_appended plan row ks cs vs o q r s t u is_ks is_cs is_vs is_q is_r is_s is_t is_u =
-    let first = decimal (first_of plan (value_of row)) in
-    let last = next_number (last_of plan (value_of row)) in
+pub line_appended : (intervals : Intervals) (plan : PlanValue) (row : Row) (ks : List Key) (cs : List Cell) (vs o q r s t u : List ℕ) → ks ≡ plan.keys → cs ≡ row.key.items → vs ≡ row.sums.items → q ≡ o ++ interval_texts intervals plan row.interval
+    → r ≡ q ++ flat_map next_cell (shown_cells ks cs) → s ≡ r ++ flat_map next_number vs → t ≡ s ++ next_number row.flows → u ≡ t ++ 10 ∷ [] → u ≡ o ++ row_line_in intervals plan (value_of row)
+line_appended intervals plan row ks cs vs o q r s t u is_ks is_cs is_vs is_q is_r is_s is_t is_u =
+    let first = decimal (first_in intervals plan row.interval) in
+    let last = next_number (last_in intervals plan row.interval) in
     let cells : flat_map next_cell (shown_cells ks cs) ≡ flat_map next_cell (shown_cells plan.keys row.key.items) = ap₂ (λ (keys : List Key) (found : List Cell). flat_map next_cell (shown_cells keys found)) is_ks is_cs in
     let sums : flat_map next_number vs ≡ flat_map next_number row.sums.items = ap (flat_map next_number) is_vs in
     six_parts o (o ++ first) q r s t u first last (flat_map next_cell (shown_cells plan.keys row.key.items)) (flat_map next_number row.sums.items)
     (next_number row.flows) (10 ∷ []) refl (is_q ∙ sym (append_assoc o first last)) (is_r ∙ ap (λ (x : List ℕ). q ++ x) cells)
     (is_s ∙ ap (λ (x : List ℕ). r ++ x) sums) is_t is_u
-    ∙ ap (λ (x : List ℕ). o ++ x) (sym (row_parts plan (value_of row)))
+    ∙ ap (λ (x : List ℕ). o ++ x) (sym (row_parts intervals plan (value_of row)))

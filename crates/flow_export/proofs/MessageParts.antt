@@ -9,7 +9,8 @@ use Rattle.flow_table.specs.Plans.{PlanValue}
 use Rattle.flow_table.specs.SameTables.{RowValue}
 use Rattle.ipfix_elements.specs.Placed.{Placed}
 use Rattle.flow_export.specs.declared.ipfix_text.rows.TheConstants.{ROWS_A_MESSAGE}
-use Rattle.flow_export.specs.IpfixText.{data_message, message, message_of_rows}
+use Rattle.flow_export.specs.IpfixText.{data_message_in, message, message_of_rows_in}
+use Rattle.flow_export.specs.declared.intervals.Intervals.{Intervals}
 use Rattle.flow_export.specs.RowOctets.{headers_octets}
 
 range_more : (a n : ℕ) → range_with_len a (suc n) ≡ range_with_len a n ++ (a + n) ∷ []
@@ -31,15 +32,15 @@ message_written time sequence id a b out octets body text is_out is_octets is_bo
     subst (λ (t : List ℕ). Appends a b t) (is_out ∙ is_octets ∙ ap (message time sequence id) is_body) written
 
 -- one more message, after those before it
-pub message_more : (plan : PlanValue) (time : ℕ) (all left : List RowValue) (i sequence : ℕ) (a b c : Option (List ℕ)) (out : List ℕ) → sequence ≡ ROWS_A_MESSAGE * i → left ≡ drop (ROWS_A_MESSAGE * i) all
-    → out ≡ data_message plan time sequence (take ROWS_A_MESSAGE left)
-    → Appends a b (flat_map (message_of_rows plan time all) (range_with_len 0 i)) → Appends b c out
-    → Appends a c (flat_map (message_of_rows plan time all) (range_with_len 0 (i + 1)))
-message_more plan time all left i sequence a b c out is_sequence is_left is_message before here =
-    let next : out ≡ message_of_rows plan time all i =
-    is_message ∙ ap (λ (n : ℕ). data_message plan time n (take ROWS_A_MESSAGE left)) is_sequence
-    ∙ ap (λ (rows : List RowValue). data_message plan time (ROWS_A_MESSAGE * i) (take ROWS_A_MESSAGE rows)) is_left in
-    texts_more (message_of_rows plan time all) i a b c before (subst (λ (t : List ℕ). Appends b c t) next here)
+pub message_more : (intervals : Intervals) (plan : PlanValue) (time : ℕ) (all left : List RowValue) (i sequence : ℕ) (a b c : Option (List ℕ)) (out : List ℕ) → sequence ≡ ROWS_A_MESSAGE * i → left ≡ drop (ROWS_A_MESSAGE * i) all
+    → out ≡ data_message_in intervals plan time sequence (take ROWS_A_MESSAGE left)
+    → Appends a b (flat_map (message_of_rows_in intervals plan time all) (range_with_len 0 i)) → Appends b c out
+    → Appends a c (flat_map (message_of_rows_in intervals plan time all) (range_with_len 0 (i + 1)))
+message_more intervals plan time all left i sequence a b c out is_sequence is_left is_message before here =
+    let next : out ≡ message_of_rows_in intervals plan time all i =
+    is_message ∙ ap (λ (n : ℕ). data_message_in intervals plan time n (take ROWS_A_MESSAGE left)) is_sequence
+    ∙ ap (λ (rows : List RowValue). data_message_in intervals plan time (ROWS_A_MESSAGE * i) (take ROWS_A_MESSAGE rows)) is_left in
+    texts_more (message_of_rows_in intervals plan time all) i a b c before (subst (λ (t : List ℕ). Appends b c t) next here)
 
 -- a hundred more were passed over
 pub hundred_more : (all left rest : List RowValue) (i : ℕ) → left ≡ drop (ROWS_A_MESSAGE * i) all → rest ≡ drop ROWS_A_MESSAGE left → rest ≡ drop (ROWS_A_MESSAGE * (i + 1)) all

@@ -10,14 +10,15 @@ use Rattle.ipfix_elements.specs.declared.cell.Cell.{Cell}
 use Rattle.flow_table.specs.Plans.{PlanValue}
 use Rattle.flow_table.specs.SameTables.{value_of}
 use Rattle.flow_table.specs.declared.table.Row.{Row}
-use Rattle.flow_export.specs.CsvText.{first_of, last_of}
+use Rattle.flow_export.specs.Intervals.{first_in, last_in}
+use Rattle.flow_export.specs.declared.intervals.Intervals.{Intervals}
 use Rattle.flow_export.specs.JsonParts.{AreLabels, interval_members, label, labelled, text_of}
 use Rattle.flow_export.specs.Fitting.{IsExportable}
 use Rattle.flow_export.specs.Shown.{shown_cells}
 use Rattle.flow_table.specs.declared.key.Key.{Key}
 use Rattle.flow_export.specs.JsonText.{member}
 use Rattle.flow_export.specs.CsvText.{key_text}
-use Rattle.flow_export.specs.JsonText.{row_object}
+use Rattle.flow_export.specs.JsonText.{row_object_in}
 use Rattle.ipfix_elements.specs.JsonValues.{json_cell, json_number}
 use Rattle.flow_export.specs.declared.json_text.labels.MemberLabel.{MemberLabel}
 use Rattle.flow_export.specs.declared.json_text.labels.RowLabels.{RowLabels}
@@ -122,27 +123,27 @@ tail_members plan labels row made fits =
 joined : (m b c d e f : List ℕ) → (m ++ (b ++ (c ++ (d ++ e)))) ++ f ≡ m ++ (b ++ (c ++ (d ++ (e ++ f))))
 joined m b c d e f = simp append_assoc
 
-object_parts : (plan : PlanValue) (labels : RowLabels) (row : Row) → AreLabels plan labels → IsExportable plan (value_of row)
-    → row_object labels.elements.now plan (value_of row)
-    ≡ (codes "{\"start\":" ++ json_number (first_of plan (value_of row))) ++ ((codes ",\"end\":" ++ json_number (last_of plan (value_of row)))
+object_parts : (intervals : Intervals) (plan : PlanValue) (labels : RowLabels) (row : Row) → AreLabels plan labels → IsExportable plan (value_of row)
+    → row_object_in intervals labels.elements.now plan (value_of row)
+    ≡ (codes "{\"start\":" ++ json_number (first_in intervals plan row.interval)) ++ ((codes ",\"end\":" ++ json_number (last_in intervals plan row.interval))
     ++ (cells_of plan labels row ++ (sums_of labels row ++ ((codes ",\"flows\":" ++ json_number row.flows) ++ codes "}\n"))))
-object_parts plan labels row made fits =
-    let first = member (codes "start", json_number (first_of plan (value_of row))) in
-    let second = member (codes "end", json_number (last_of plan (value_of row))) in
+object_parts intervals plan labels row made fits =
+    let first = member (codes "start", json_number (first_in intervals plan row.interval)) in
+    let second = member (codes "end", json_number (last_in intervals plan row.interval)) in
     let rest = map member (zip (map (key_text labels.elements.now) plan.keys ++ (map (element_name labels.elements.now) plan.counters ++ codes "flows" ∷ [])) (map json_cell (shown_cells plan.keys row.key.items) ++ (map json_number row.sums.items ++ json_number row.flows ∷ []))) in
     ap (λ (t : List ℕ). codes "{" ++ (t ++ codes "}\n"))
     (behind_commas first (second ∷ rest) ∙ ap (λ (t : List ℕ). first ++ (next second ++ t)) (tail_members plan labels row made fits))
     ∙ ap (λ (t : List ℕ). codes "{" ++ t) (joined first (next second) (cells_of plan labels row) (sums_of labels row) (codes ",\"flows\":" ++ json_number row.flows) (codes "}\n"))
 
 -- an object whose members after the first two were appended one after another
-pub object_appended : (plan : PlanValue) (labels : RowLabels) (row : Row) (ls counters : List MemberLabel) (ks : List Key) (cs : List Cell) (vs o q r s t u : List ℕ) → AreLabels plan labels → IsExportable plan (value_of row)
-    → ls ≡ labels.keys.items → ks ≡ plan.keys → counters ≡ labels.counters.items → cs ≡ row.key.items → vs ≡ row.sums.items → q ≡ o ++ interval_members plan row.interval
+pub object_appended : (intervals : Intervals) (plan : PlanValue) (labels : RowLabels) (row : Row) (ls counters : List MemberLabel) (ks : List Key) (cs : List Cell) (vs o q r s t u : List ℕ) → AreLabels plan labels → IsExportable plan (value_of row)
+    → ls ≡ labels.keys.items → ks ≡ plan.keys → counters ≡ labels.counters.items → cs ≡ row.key.items → vs ≡ row.sums.items → q ≡ o ++ interval_members intervals plan row.interval
     → r ≡ q ++ flat_map (labelled json_cell) (zip ls (shown_cells ks cs)) → s ≡ r ++ flat_map (labelled json_number) (zip counters vs) → t ≡ s ++ (codes ",\"flows\":" ++ json_number row.flows)
-    → u ≡ t ++ codes "}\n" → u ≡ o ++ row_object labels.elements.now plan (value_of row)
-object_appended plan labels row ls counters ks cs vs o q r s t u made fits is_ls is_ks is_counters is_cs is_vs is_q is_r is_s is_t is_u =
-    let first = codes "{\"start\":" ++ json_number (first_of plan (value_of row)) in
-    let last = codes ",\"end\":" ++ json_number (last_of plan (value_of row)) in
+    → u ≡ t ++ codes "}\n" → u ≡ o ++ row_object_in intervals labels.elements.now plan (value_of row)
+object_appended intervals plan labels row ls counters ks cs vs o q r s t u made fits is_ls is_ks is_counters is_cs is_vs is_q is_r is_s is_t is_u =
+    let first = codes "{\"start\":" ++ json_number (first_in intervals plan row.interval) in
+    let last = codes ",\"end\":" ++ json_number (last_in intervals plan row.interval) in
     let cells : r ≡ q ++ cells_of plan labels row = is_r ∙ rw (is_ls, is_ks, is_cs) refl in
     let sums : s ≡ r ++ sums_of labels row = is_s ∙ rw (is_counters, is_vs) refl in
     six_parts o (o ++ first) q r s t u first last _ _ _ _ refl (is_q ∙ sym (append_assoc o first last)) cells sums is_t is_u
-    ∙ ap (λ (x : List ℕ). o ++ x) (sym (object_parts plan labels row made fits))
+    ∙ ap (λ (x : List ℕ). o ++ x) (sym (object_parts intervals plan labels row made fits))

@@ -21,7 +21,9 @@ use Rattle.flow_table.specs.declared.key.Key.{Key}
 use Rattle.flow_table.specs.Plans.{PlanValue, keys_and_kinds}
 use Rattle.flow_table.specs.Fitting.{IsCellOf}
 use Rattle.flow_table.specs.SameTables.{RowValue}
-use Rattle.flow_export.specs.IpfixText.{width_of, key_spec, number_spec, field_specs, key_field, number_field, row_fields, row_octets}
+use Rattle.flow_export.specs.IpfixText.{width_of, key_spec, number_spec, field_specs, key_field, number_field, row_fields, row_fields_in, row_octets, row_octets_in}
+use Rattle.flow_export.specs.declared.intervals.Intervals.{Intervals}
+use Rattle.flow_export.specs.declared.intervals.Intervals.TheVariants.{OfPlan}
 use Rattle.flow_export.specs.Fitting.{FitsValue}
 
 -- ---- a field as wide as its specifier says
@@ -113,8 +115,8 @@ counter_fields (c ∷ cs) (v ∷ vs) same = (record { element = refl; fixed = λ
 
 -- ---- a row
 
-pub row_is_fields : (plan : PlanValue) (row : RowValue) → FitsValue plan row → AllZip IsFieldOf (field_specs plan) (row_fields plan row)
-row_is_fields plan row fits =
+pub row_is_fields : (intervals : Intervals) (plan : PlanValue) (row : RowValue) → FitsValue plan row → AllZip IsFieldOf (field_specs plan) (row_fields_in intervals plan row)
+row_is_fields intervals plan row fits =
     let eight : 8 ≢ 65535 = λ e. omega (arith, e) in (
       record { element = refl; fixed = eight; size = refl },
       (
@@ -127,7 +129,10 @@ row_is_fields plan row fits =
 
 -- a row's octets are read as its fields
 pub row_spelled : (plan : PlanValue) (row : RowValue) → FitsValue plan row → Spells (field_specs plan) (row_fields plan row) (row_octets plan row)
-row_spelled plan row fits = spelled (field_specs plan) (row_fields plan row) (row_is_fields plan row fits)
+row_spelled plan row fits = spelled (field_specs plan) (row_fields plan row) (row_is_fields OfPlan plan row fits)
+
+pub length-row_octets_in : (intervals : Intervals) (plan : PlanValue) (row : RowValue) → FitsValue plan row → length (row_octets_in intervals plan row) ≡ least (field_specs plan)
+length-row_octets_in intervals plan row fits = length-octets_in (field_specs plan) (row_fields_in intervals plan row) (row_is_fields intervals plan row fits)
 
 pub length-row_octets : (plan : PlanValue) (row : RowValue) → FitsValue plan row → length (row_octets plan row) ≡ least (field_specs plan)
-length-row_octets plan row fits = length-octets_in (field_specs plan) (row_fields plan row) (row_is_fields plan row fits)
+length-row_octets = length-row_octets_in OfPlan

@@ -1,5 +1,5 @@
 -- A table as CSV (RFC 4180, section 2), with a line feed alone at the end of each line.
-use Rattle.std.specs.Prelude.{ℕ, ◌+◌, ◌-◌, ◌*◌, List, [], ◌∷◌, ◌++◌, map, flat_map, codes, Option, Some, None, unwrap_or}
+use Rattle.std.specs.Prelude.{ℕ, List, [], ◌∷◌, ◌++◌, map, flat_map, codes, Option, Some, None, unwrap_or}
 use Rattle.std.specs.Fmt.{decimal}
 use Rattle.std.specs.List.{join_with_byte}
 use Rattle.csv.specs.Writing.{default_writer, row_text}
@@ -9,14 +9,17 @@ use Rattle.element_registry.specs.Registries.{Known, element_name}
 use Rattle.flow_table.specs.declared.key.Key.{Key}
 use Rattle.flow_table.specs.Plans.{PlanValue, context_name}
 use Rattle.flow_table.specs.SameTables.{RowValue}
+use Rattle.flow_export.specs.Intervals.{first_in, last_in}
 use Rattle.flow_export.specs.Shown.{shown_cells}
+use Rattle.flow_export.specs.declared.intervals.Intervals.{Intervals}
+use Rattle.flow_export.specs.declared.intervals.Intervals.TheVariants.{OfPlan}
 
--- the first and the last millisecond of a row's interval
+-- the first and the last millisecond of the interval of a row of a plan's table
 abbrev pub first_of : PlanValue → RowValue → ℕ
-first_of plan row = row.interval * plan.length
+first_of plan row = first_in OfPlan plan row.interval
 
 abbrev pub last_of : PlanValue → RowValue → ℕ
-last_of plan row = row.interval * plan.length + plan.length - 1
+last_of plan row = last_in OfPlan plan row.interval
 
 abbrev pub comma : ℕ
 comma = 44
@@ -55,12 +58,23 @@ abbrev pub heading_line : List Known → PlanValue → List ℕ
 heading_line known plan = row_text default_writer (heading known plan)
 
 -- the fields of a row: its interval, its key, its sums and the number of its flows
-abbrev pub row_texts : PlanValue → RowValue → List (List ℕ)
-row_texts plan row = decimal (first_of plan row) ∷ decimal (last_of plan row) ∷ (map cell_text (shown_cells plan.keys row.key) ++ (map decimal row.sums ++ decimal row.flows ∷ []))
+abbrev pub row_texts_in : Intervals → PlanValue → RowValue → List (List ℕ)
+row_texts_in intervals plan row =
+    decimal (first_in intervals plan row.interval) ∷ decimal (last_in intervals plan row.interval) ∷ (map cell_text (shown_cells plan.keys row.key) ++ (map decimal row.sums ++ decimal row.flows ∷ []))
 
-abbrev pub row_line : PlanValue → RowValue → List ℕ
-row_line plan row = line (row_texts plan row)
+abbrev pub row_line_in : Intervals → PlanValue → RowValue → List ℕ
+row_line_in intervals plan row = line (row_texts_in intervals plan row)
 
 -- a line of names, and then a line for each row
+abbrev pub csv_text_in : Intervals → List Known → PlanValue → List RowValue → List ℕ
+csv_text_in intervals known plan rows = heading_line known plan ++ flat_map (row_line_in intervals plan) rows
+
+-- those of a plan's table
+abbrev pub row_texts : PlanValue → RowValue → List (List ℕ)
+row_texts = row_texts_in OfPlan
+
+abbrev pub row_line : PlanValue → RowValue → List ℕ
+row_line = row_line_in OfPlan
+
 abbrev pub csv_text : List Known → PlanValue → List RowValue → List ℕ
-csv_text known plan rows = heading_line known plan ++ flat_map (row_line plan) rows
+csv_text = csv_text_in OfPlan

@@ -24,7 +24,9 @@ use Rattle.flow_table.specs.declared.key.Key.{Key}
 use Rattle.flow_table.specs.Plans.{PlanValue, exported_element, keys_and_kinds}
 use Rattle.flow_table.specs.SameTables.{RowValue}
 use Rattle.flow_export.specs.declared.ipfix_text.rows.TheConstants.{ROWS_A_MESSAGE}
-use Rattle.flow_export.specs.CsvText.{first_of, last_of}
+use Rattle.flow_export.specs.Intervals.{first_in, last_in}
+use Rattle.flow_export.specs.declared.intervals.Intervals.{Intervals}
+use Rattle.flow_export.specs.declared.intervals.Intervals.TheVariants.{OfPlan}
 
 -- ---- the template (RFC 7011, section 3.4.1)
 
@@ -85,12 +87,19 @@ fields_of plan start end key sums flows =
     (map key_field (zip (keys_and_kinds plan) key) ++ (map number_field (zip plan.counters sums) ++ number_field (iana ORIGINAL_FLOWS_PRESENT, flows) ∷ []))
 
 -- those of a row: the first and the last millisecond of its interval, its key, its sums and its number of flows
-abbrev pub row_fields : PlanValue → RowValue → List Field
-row_fields plan row = fields_of plan (first_of plan row) (last_of plan row) row.key row.sums row.flows
+abbrev pub row_fields_in : Intervals → PlanValue → RowValue → List Field
+row_fields_in intervals plan row = fields_of plan (first_in intervals plan row.interval) (last_in intervals plan row.interval) row.key row.sums row.flows
 
 -- a row is its fields, one after another
+abbrev pub row_octets_in : Intervals → PlanValue → RowValue → List ℕ
+row_octets_in intervals plan row = flat_map (λ f. f.octets) (row_fields_in intervals plan row)
+
+-- those of a row of a plan's table
+abbrev pub row_fields : PlanValue → RowValue → List Field
+row_fields = row_fields_in OfPlan
+
 abbrev pub row_octets : PlanValue → RowValue → List ℕ
-row_octets plan row = flat_map (λ f. f.octets) (row_fields plan row)
+row_octets = row_octets_in OfPlan
 
 -- ---- messages (sections 3.1 and 3.3)
 
@@ -103,8 +112,8 @@ message time sequence id body =
 abbrev pub template_message : PlanValue → ℕ → List ℕ
 template_message plan time = message time 0 TEMPLATE_SET_ID (template_octets (template plan))
 
-abbrev pub data_message : PlanValue → ℕ → ℕ → List RowValue → List ℕ
-data_message plan time sequence rows = message time sequence FIRST_TEMPLATE_ID (flat_map (row_octets plan) rows)
+abbrev pub data_message_in : Intervals → PlanValue → ℕ → ℕ → List RowValue → List ℕ
+data_message_in intervals plan time sequence rows = message time sequence FIRST_TEMPLATE_ID (flat_map (row_octets_in intervals plan) rows)
 
 -- the rows of message i, counted from 0: a hundred, or those that are left
 abbrev pub rows_of_message : List RowValue → ℕ → List RowValue
@@ -115,9 +124,20 @@ abbrev pub message_count : List RowValue → ℕ
 message_count rows = div_ceil (length rows) ROWS_A_MESSAGE
 
 -- the message of rows i: its sequence number counts the rows before it
-abbrev pub message_of_rows : PlanValue → ℕ → List RowValue → ℕ → List ℕ
-message_of_rows plan time rows i = data_message plan time (ROWS_A_MESSAGE * i) (rows_of_message rows i)
+abbrev pub message_of_rows_in : Intervals → PlanValue → ℕ → List RowValue → ℕ → List ℕ
+message_of_rows_in intervals plan time rows i = data_message_in intervals plan time (ROWS_A_MESSAGE * i) (rows_of_message rows i)
 
 -- the template, and then the rows, so many in a message
+abbrev pub ipfix_text_in : Intervals → PlanValue → ℕ → List RowValue → List ℕ
+ipfix_text_in intervals plan time rows =
+    template_message plan time ++ flat_map (message_of_rows_in intervals plan time rows) (range_with_len 0 (message_count rows))
+
+-- those of a plan's table
+abbrev pub data_message : PlanValue → ℕ → ℕ → List RowValue → List ℕ
+data_message = data_message_in OfPlan
+
+abbrev pub message_of_rows : PlanValue → ℕ → List RowValue → ℕ → List ℕ
+message_of_rows = message_of_rows_in OfPlan
+
 abbrev pub ipfix_text : PlanValue → ℕ → List RowValue → List ℕ
-ipfix_text plan time rows = template_message plan time ++ flat_map (message_of_rows plan time rows) (range_with_len 0 (message_count rows))
+ipfix_text = ipfix_text_in OfPlan

@@ -1,10 +1,12 @@
 -- The parts of a row's object, as they are appended.
-use Rattle.std.specs.Prelude.{◌≡◌, ℕ, ◌+◌, ◌-◌, ◌*◌, List, ◌++◌, codes, flat_map, map}
+use Rattle.std.specs.Prelude.{◌≡◌, ℕ, List, ◌++◌, codes, flat_map, map}
 use Rattle.std.specs.List.{zip}
 use Rattle.ipfix_elements.specs.JsonValues.{json_cell, json_number}
 use Rattle.ipfix_elements.specs.declared.cell.Cell.{Cell}
 use Rattle.flow_table.specs.Plans.{PlanValue}
 use Rattle.flow_export.specs.CsvText.{counter_texts, key_texts}
+use Rattle.flow_export.specs.Intervals.{first_in, last_in}
+use Rattle.flow_export.specs.declared.intervals.Intervals.{Intervals}
 use Rattle.flow_export.specs.declared.json_text.labels.MemberLabel.{MemberLabel}
 use Rattle.flow_export.specs.declared.json_text.labels.RowLabels.{RowLabels}
 
@@ -39,6 +41,6 @@ abbrev pub labelled_numbers : List MemberLabel → List ℕ → List ℕ
 labelled_numbers labels numbers = flat_map (labelled json_number) (zip labels numbers)
 
 -- what the objects of the rows of an interval begin with
-abbrev pub interval_members : PlanValue → ℕ → List ℕ
-interval_members plan interval =
-    (codes "{\"start\":" ++ json_number (interval * plan.length)) ++ (codes ",\"end\":" ++ json_number (interval * plan.length + plan.length - 1))
+abbrev pub interval_members : Intervals → PlanValue → ℕ → List ℕ
+interval_members intervals plan interval =
+    (codes "{\"start\":" ++ json_number (first_in intervals plan interval)) ++ (codes ",\"end\":" ++ json_number (last_in intervals plan interval))

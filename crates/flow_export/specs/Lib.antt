@@ -2,6 +2,7 @@
 pub mod Faults
 pub mod Fitting
 pub mod Shown
+pub mod Intervals
 pub mod CsvText
 pub mod JsonText
 pub mod PlainNames

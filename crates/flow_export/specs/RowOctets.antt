@@ -9,7 +9,8 @@ use Rattle.ipfix_elements.specs.declared.cell.Cell.{Cell}
 use Rattle.ipfix_elements.specs.declared.kind.Kind.{Kind}
 use Rattle.flow_table.specs.Plans.{PlanValue}
 use Rattle.flow_table.specs.SameTables.{RowValue}
-use Rattle.flow_export.specs.IpfixText.{data_message, row_octets, width_of}
+use Rattle.flow_export.specs.declared.intervals.Intervals.{Intervals}
+use Rattle.flow_export.specs.IpfixText.{data_message_in, row_octets_in, width_of}
 
 -- a cell as wide as its kind says
 abbrev pub wide_octets : Kind × Cell → List ℕ
@@ -20,12 +21,12 @@ abbrev pub cells_octets : List Kind → List Cell → List ℕ
 cells_octets kinds cells = flat_map wide_octets (zip kinds cells)
 
 -- rows one after another
-abbrev pub octets_of_rows : PlanValue → List RowValue → List ℕ
-octets_of_rows plan rows = flat_map (row_octets plan) rows
+abbrev pub octets_of_rows : Intervals → PlanValue → List RowValue → List ℕ
+octets_of_rows intervals plan rows = flat_map (row_octets_in intervals plan) rows
 
 -- octets that begin with the message of these rows, and end there
-abbrev pub BeginsWithRows : PlanValue → ℕ → ℕ → List RowValue → List ℕ → ℕ → Type 0
-BeginsWithRows plan time sequence rows octets end = take end octets ≡ data_message plan time sequence rows
+abbrev pub BeginsWithRows : Intervals → PlanValue → ℕ → ℕ → List RowValue → List ℕ → ℕ → Type 0
+BeginsWithRows intervals plan time sequence rows octets end = take end octets ≡ data_message_in intervals plan time sequence rows
 
 -- the headers of a message of one set, whose body has so many octets
 abbrev pub headers_octets : ℕ → ℕ → ℕ → ℕ → List ℕ

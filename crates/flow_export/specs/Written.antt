@@ -1,11 +1,13 @@
 -- The fields of the lines of CSV, as they are appended.
-use Rattle.std.specs.Prelude.{◌≡◌, ℕ, ◌+◌, ◌-◌, ◌*◌, List, ◌∷◌, ◌++◌}
+use Rattle.std.specs.Prelude.{◌≡◌, ℕ, List, ◌∷◌, ◌++◌}
 use Rattle.std.specs.Fmt.{decimal}
 use Rattle.csv.specs.Records.{fields_of, Row as CsvRecord}
 use Rattle.ipfix_elements.specs.Texts.{cell_text}
 use Rattle.ipfix_elements.specs.declared.cell.Cell.{Cell}
 use Rattle.flow_table.specs.Plans.{PlanValue}
 use Rattle.flow_export.specs.CsvText.{comma}
+use Rattle.flow_export.specs.Intervals.{first_in, last_in}
+use Rattle.flow_export.specs.declared.intervals.Intervals.{Intervals}
 
 -- texts are added to the fields of a record of `csv`
 abbrev pub AddsFields : CsvRecord → CsvRecord → List (List ℕ) → Type 0
@@ -19,5 +21,5 @@ abbrev pub next_cell : Cell → List ℕ
 next_cell cell = comma ∷ cell_text cell
 
 -- what the lines of the rows of an interval begin with
-abbrev pub interval_texts : PlanValue → ℕ → List ℕ
-interval_texts plan interval = decimal (interval * plan.length) ++ next_number (interval * plan.length + plan.length - 1)
+abbrev pub interval_texts : Intervals → PlanValue → ℕ → List ℕ
+interval_texts intervals plan interval = decimal (first_in intervals plan interval) ++ next_number (last_in intervals plan interval)

@@ -5,10 +5,11 @@ ghost use Rattle.ipfix_elements.specs.Writers.{Writes};
 ghost use Rattle.flow_table.specs.AddedUp.{rows_in};
 ghost use Rattle.flow_table.specs.Fitting.{FitsPlan};
 ghost use Rattle.flow_export.specs.Fitting.{IsExportable};
-ghost use Rattle.flow_export.specs.IpfixText.{ipfix_text, template_message};
+ghost use Rattle.flow_export.specs.IpfixText.{ipfix_text, ipfix_text_in, template_message};
 
 use crate::any_table::AnyTable;
 use crate::fault::ExportFault;
+use crate::intervals::Intervals;
 use crate::table_rows::TableRows;
 use crate::table_text::TableText;
 use crate::tables::write_table;
@@ -79,6 +80,7 @@ fn write_template<W: Write>(
 pub fn write_messages<W: Write>(
     alloc: Global,
     plan: &Plan,
+    intervals: Intervals,
     rows: &mut TableRows,
     export_time: u32,
     out: &mut W,
@@ -86,7 +88,7 @@ pub fn write_messages<W: Write>(
     requires fit { All (IsExportable plan.now) rows.old }
     requires few { length rows.old < 2 ^ 32 }
     ensures ok { OnOk result
-        (Writes W.contents out.old out.new (ipfix_text plan.now export_time rows.old)) }
+        (Writes W.contents out.old out.new (ipfix_text_in intervals.entry plan.now export_time rows.old)) }
     ensures fault { IfErr result (λ fault. fault ≢ ExportFault.TooManyRows) }
 {
     write_template(alloc, plan, export_time, out)?;
@@ -96,7 +98,15 @@ pub fn write_messages<W: Write>(
     let message = room.as_mut_slice();
     for index in 0..rows.len().div_ceil(ROWS_A_MESSAGE) {
         let sequence = (ROWS_A_MESSAGE * index) as u32;
-        let end = place_message(plan, rows, sequence, export_time, &mut headers, message)?;
+        let end = place_message(
+            plan,
+            intervals,
+            rows,
+            sequence,
+            export_time,
+            &mut headers,
+            message,
+        )?;
         out.write_all(&message[..end])?;
     }
     Ok(())

@@ -44,7 +44,7 @@ impl<'a> TableRows<'a> {
             AnyTable::Rows(table) => Ok(TableRows {
                 left: RowsLeft::Kept(&table.rows),
             }),
-            AnyTable::Flat(table) => Ok(TableRows {
+            AnyTable::Flat(table, _) => Ok(TableRows {
                 left: RowsLeft::Made(MadeRows::of(alloc, table)?),
             }),
         }

@@ -32,7 +32,7 @@ pub fn write_table<W: Write>(
 ) -> Result<(), ExportFault>
     requires { FitsPlan plan.now (table_in table.now) }
     ensures ok { OnOk result
-        (Writes W.contents out.old out.new (text_of text.now plan.now (rows_of table.now))) }
+        (Writes W.contents out.old out.new (text_of text.now plan.now table.now)) }
     ensures many { IsErrOf result ExportFault.TooManyRows
         ↔ IsTooMany text.now (length (rows_of table.now)) }
     ensures untouched { IsErrOf result ExportFault.TooManyRows → out.new ≡ out.old }
@@ -40,17 +40,18 @@ pub fn write_table<W: Write>(
     if text.is_too_many(table.len()) {
         return Err(ExportFault::TooManyRows);
     }
+    let intervals = table.intervals();
     let mut rows = TableRows::of(alloc, table)?;
     match text {
         TableText::Csv(elements) => {
             let heading = heading_text(alloc, elements, plan)?;
             out.write_all(heading.as_slice())?;
-            write_lines(alloc, plan, &mut rows, &CsvLines, out)
+            write_lines(alloc, plan, &mut rows, &CsvLines { intervals }, out)
         }
         TableText::Json(elements) => {
-            let labels = RowLabels::of(alloc, elements, plan)?;
+            let labels = RowLabels::of(alloc, elements, plan, intervals)?;
             write_lines(alloc, plan, &mut rows, &labels, out)
         }
-        TableText::Ipfix(time) => write_messages(alloc, plan, &mut rows, *time, out),
+        TableText::Ipfix(time) => write_messages(alloc, plan, intervals, &mut rows, *time, out),
     }
 }

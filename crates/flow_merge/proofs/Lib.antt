@@ -1,3 +1,5 @@
+pub mod AroundBorders
+pub mod RowsPut
 pub mod Beginnings
 pub mod Zipped
 pub mod Pairs

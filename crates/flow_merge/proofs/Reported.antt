@@ -15,11 +15,13 @@ use Rattle.ipfix_session.specs.declared.fault.SessionFault.TheVariants as sessio
 use Rattle.ipfix_session.specs.declared.report.SessionReport.{SessionReport}
 use Rattle.flow_table.specs.Plans.{PlanValue}
 use Rattle.flow_table.specs.SameTables.{RowValue}
+use Rattle.flow_export.specs.declared.intervals.Intervals.{Intervals}
 use Rattle.flow_merge.specs.Judged.{ReportsExport, ReportsNoLoss, IsWell, IsBadBy}
-use Rattle.flow_merge.specs.Merging.{AreOfExport, AreRowRecords, FirstOther, FirstTooLarge, GivesExport, LosesNone, NoneLost, nothing, merging_plan, IsDue as IsMergeDue}
+use Rattle.flow_merge.specs.Merging.{AreOfExport, AreRowRecordsIn, FirstCrossesIn, FirstOtherIn, FirstTooLargeIn, GivesExportIn, LosesNone, NoneLost, nothing, merging_intervals, merging_plan, IsDueIn as IsMergeDue}
 use Rattle.flow_merge.specs.RowSink.{HoldsAfter}
+use Rattle.flow_merge.specs.declared.row_fault.RowFault.{RowFault}
 use Rattle.flow_merge.specs.declared.merge_fault.MergeFault.{MergeFault}
-use Rattle.flow_merge.specs.declared.merge_fault.MergeFault.TheVariants.{OutOfMemory, SumTooLarge, Session, NotAnExport, Lost, Row}
+use Rattle.flow_merge.specs.declared.merge_fault.MergeFault.TheVariants.{OutOfMemory, SumTooLarge, Session, NotAnExport, Lost, Row, Border}
 use Rattle.flow_merge.specs.declared.merging.Merging.{Merging}
 
 -- ---- counts that stop at the greatest number
@@ -77,8 +79,8 @@ module _ {S : Type 0} (seen : S → SourceView) (limit : ℕ) (before after : S)
   records_all none = given.records_are ∙ ap records_in (counted_all none)
 
   -- an export
-  pub gives_export : (plan : PlanValue) (rows : List RowValue) → IsWell r → AreRowRecords plan rs rows → GivesExport seen limit plan before after rows
-  gives_export plan rows well are =
+  pub gives_export : (intervals : Intervals) (plan : PlanValue) (rows : List RowValue) → IsWell r → AreRowRecordsIn intervals plan rs rows → GivesExportIn seen limit intervals plan before after rows
+  gives_export intervals plan rows well are =
       record {
         gave = given.gave;
         given = gave_none well.no_fault;
@@ -86,41 +88,64 @@ module _ {S : Type 0} (seen : S → SourceView) (limit : ℕ) (before after : S)
           clean = (gave_none well.no_fault).fault_is_due.0;
           messages = are_of_export r _ _ (reports_all well.no_fault) well.export;
           none_lost = none_lost r _ _ (reports_all well.no_fault) well.no_loss;
-          records = subst (λ (l : List DataRecord). AreRowRecords plan l rows) (records_all well.no_fault) are;
+          records = subst (λ (l : List DataRecord). AreRowRecordsIn intervals plan l rows) (records_all well.no_fault) are;
         };
       }
 
   -- the session's own fault
-  ended_early : (plan : PlanValue) (rows : List RowValue) (fault : SessionFault) → r.fault ≡ Some fault → IsMergeDue seen limit plan rows before after (Session fault)
-  ended_early plan rows sessions.SinkClosed is = absurd (given.not_closed is)
-  ended_early plan rows (sessions.Message e) is = (given.gave, subst (λ (o : Option SessionFault). Gave seen limit before given.gave after o) is given.given)
-  ended_early plan rows sessions.Truncated is = (given.gave, subst (λ (o : Option SessionFault). Gave seen limit before given.gave after o) is given.given)
-  ended_early plan rows sessions.ReadFailed is = (given.gave, subst (λ (o : Option SessionFault). Gave seen limit before given.gave after o) is given.given)
-  ended_early plan rows sessions.TooManyReads is = (given.gave, subst (λ (o : Option SessionFault). Gave seen limit before given.gave after o) is given.given)
+  ended_early : (intervals : Intervals) (plan : PlanValue) (rows : List RowValue) (fault : SessionFault) → r.fault ≡ Some fault → IsMergeDue seen limit intervals plan rows before after (Session fault)
+  ended_early intervals plan rows sessions.SinkClosed is = absurd (given.not_closed is)
+  ended_early intervals plan rows (sessions.Message e) is = (given.gave, subst (λ (o : Option SessionFault). Gave seen limit before given.gave after o) is given.given)
+  ended_early intervals plan rows sessions.Truncated is = (given.gave, subst (λ (o : Option SessionFault). Gave seen limit before given.gave after o) is given.given)
+  ended_early intervals plan rows sessions.ReadFailed is = (given.gave, subst (λ (o : Option SessionFault). Gave seen limit before given.gave after o) is given.given)
+  ended_early intervals plan rows sessions.TooManyReads is = (given.gave, subst (λ (o : Option SessionFault). Gave seen limit before given.gave after o) is given.given)
 
   -- what the report has against them
-  pub due_by_report : (plan : PlanValue) (rows : List RowValue) (fault : MergeFault) → IsBadBy r fault → IsMergeDue seen limit plan rows before after fault
-  due_by_report plan rows (Session fault) bad = ended_early plan rows fault bad
-  due_by_report plan rows NotAnExport bad = (given.gave, gave_none bad.0, λ are. bad.1 (reports_export r _ _ (reports_all bad.0) are))
-  due_by_report plan rows Lost bad = (given.gave, gave_none bad.0, (are_of_export r _ _ (reports_all bad.0) bad.1, λ none. bad.2 (reports_no_loss r _ _ (reports_all bad.0) none)))
-  due_by_report plan rows OutOfMemory bad = absurd bad
-  due_by_report plan rows SumTooLarge bad = absurd bad
-  due_by_report plan rows (Row fault) bad = absurd bad
+  pub due_by_report : (intervals : Intervals) (plan : PlanValue) (rows : List RowValue) (fault : MergeFault) → IsBadBy r fault → IsMergeDue seen limit intervals plan rows before after fault
+  due_by_report intervals plan rows (Session fault) bad = ended_early intervals plan rows fault bad
+  due_by_report intervals plan rows NotAnExport bad = (given.gave, gave_none bad.0, λ are. bad.1 (reports_export r _ _ (reports_all bad.0) are))
+  due_by_report intervals plan rows Lost bad = (given.gave, gave_none bad.0, (are_of_export r _ _ (reports_all bad.0) bad.1, λ none. bad.2 (reports_no_loss r _ _ (reports_all bad.0) none)))
+  due_by_report intervals plan rows OutOfMemory bad = absurd bad
+  due_by_report intervals plan rows SumTooLarge bad = absurd bad
+  due_by_report intervals plan rows (Row fault) bad = absurd bad
+  due_by_report intervals plan rows (Border row) bad = absurd bad
 
   -- what its sink has against them
-  module _ (m : Merging) (plan : PlanValue) (rows : List RowValue) (well : IsWell r) (same : merging_plan m ≡ plan) where
+  module _ (m : Merging) (intervals : Intervals) (plan : PlanValue) (rows : List RowValue) (well : IsWell r) (same_in : merging_intervals m ≡ intervals) (same : merging_plan m ≡ plan) where
     whole : AreOfExport (gives given.gave).messages
     whole = are_of_export r _ _ (reports_all well.no_fault) well.export
 
     lossless : NoneLost (gives given.gave).messages
     lossless = none_lost r _ _ (reports_all well.no_fault) well.no_loss
 
-    pub due_by_sink : (fault : MergeFault) → HoldsAfter (Some fault) m rows rs → IsMergeDue seen limit plan rows before after fault
-    due_by_sink OutOfMemory h = (given.gave, gave_none well.no_fault, (whole, lossless))
-    due_by_sink SumTooLarge h =
-        (given.gave, gave_none well.no_fault, (whole, lossless, subst (λ (l : List DataRecord). FirstTooLarge plan rows l) (records_all well.no_fault) (subst (λ (p : PlanValue). FirstTooLarge p rows rs) same h)))
-    due_by_sink (Row fault) h =
-        (given.gave, gave_none well.no_fault, (whole, lossless, subst (λ (l : List DataRecord). FirstOther plan rows l fault) (records_all well.no_fault) (subst (λ (p : PlanValue). FirstOther p rows rs fault) same h)))
-    due_by_sink (Session fault) h = absurd h
-    due_by_sink NotAnExport h = absurd h
-    due_by_sink Lost h = absurd h
+    other_there : (fault : RowFault) → FirstOtherIn (merging_intervals m) (merging_plan m) rows rs fault → FirstOtherIn intervals plan rows (records_of given.gave) fault
+    other_there fault h =
+        subst (λ (l : List DataRecord). FirstOtherIn intervals plan rows l fault) (records_all well.no_fault)
+        (subst (λ (i : Intervals). FirstOtherIn i plan rows rs fault) same_in (subst (λ (p : PlanValue). FirstOtherIn (merging_intervals m) p rows rs fault) same h))
+
+    pub due_by_sink : (fault : MergeFault) (taken : ℕ) → HoldsAfter (Some fault) taken m rows rs → IsMergeDue seen limit intervals plan rows before after fault
+    due_by_sink OutOfMemory taken h = (given.gave, gave_none well.no_fault, (whole, lossless))
+    due_by_sink SumTooLarge taken h = (
+      given.gave,
+      gave_none well.no_fault,
+      (
+        whole,
+        lossless,
+        subst (λ (l : List DataRecord). FirstTooLargeIn intervals plan rows l) (records_all well.no_fault)
+            (subst (λ (i : Intervals). FirstTooLargeIn i plan rows rs) same_in (subst (λ (p : PlanValue). FirstTooLargeIn (merging_intervals m) p rows rs) same h)),
+      ),
+    )
+    due_by_sink (Row fault) taken h = (given.gave, gave_none well.no_fault, (whole, lossless, other_there fault h))
+    due_by_sink (Border row) taken h = (
+      given.gave,
+      gave_none well.no_fault,
+      (
+        whole,
+        lossless,
+        subst (λ (l : List DataRecord). FirstCrossesIn intervals plan rows l row) (records_all well.no_fault)
+            (subst (λ (i : Intervals). FirstCrossesIn i plan rows rs row) same_in (subst (λ (p : PlanValue). FirstCrossesIn (merging_intervals m) p rows rs row) same h)),
+      ),
+    )
+    due_by_sink (Session fault) taken h = absurd h
+    due_by_sink NotAnExport taken h = absurd h
+    due_by_sink Lost taken h = absurd h

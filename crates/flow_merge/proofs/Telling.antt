@@ -13,7 +13,7 @@ use Rattle.flow_table.specs.Plans.{PlanValue, keys_and_kinds}
 use Rattle.ipfix_elements.specs.Elements.{iana}
 use Rattle.flow_export.specs.IpfixText.{key_field, number_field}
 use Rattle.flow_merge.specs.declared.row_fault.RowFault.{RowFault}
-use Rattle.flow_merge.specs.declared.row_fault.RowFault.TheVariants.{OutOfMemory, Template, Fields, Interval, Prefix, Flows}
+use Rattle.flow_merge.specs.declared.row_fault.RowFault.TheVariants.{OutOfMemory, Template, Fields, Interval, Prefix, Flows, Border}
 use Rattle.flow_merge.specs.InnerReading.{FitsKey, FitsNumber, Refuses, TellsCells, TellsNumber, TellsNumbers}
 use Rattle.flow_merge.specs.RowFaults.{FieldValues, Tell}
 use Rattle.flow_merge.proofs.Beginnings.{same_rest}
@@ -75,6 +75,7 @@ refuse f Template refused = refused
 refuse f Interval refused = refused
 refuse f Prefix refused = refused
 refuse f Flows refused = refused
+refuse f Border refused = refused
 
 pub same_after : (e : ElementId) (fields rest after : List Field) (n m : ℕ) → TellsNumber e fields n rest → TellsNumber e fields m after → rest ≡ after
 same_after e fields rest after n m one two = ap (drop 1) (sym one.is ∙ two.is)

@@ -9,7 +9,7 @@ use Rattle.flow_table.specs.declared.key.Key.{Key}
 use Rattle.flow_table.specs.Fitting.{IsCellOf}
 use Rattle.flow_export.specs.IpfixText.{field, key_field, number_field}
 use Rattle.flow_merge.specs.declared.row_fault.RowFault.{RowFault}
-use Rattle.flow_merge.specs.declared.row_fault.RowFault.TheVariants.{OutOfMemory, Template, Fields, Interval, Prefix, Flows}
+use Rattle.flow_merge.specs.declared.row_fault.RowFault.TheVariants.{OutOfMemory, Template, Fields, Interval, Prefix, Flows, Border}
 use Rattle.flow_merge.specs.declared.told_values.ToldValues.{ToldValues}
 use Rattle.flow_merge.specs.RowFaults.{FieldValues}
 
@@ -63,6 +63,7 @@ Refuses Told Template = ⊥
 Refuses Told Interval = ⊥
 Refuses Told Prefix = ⊥
 Refuses Told Flows = ⊥
+Refuses Told Border = ⊥
 
 -- the values, however their vectors are kept
 abbrev pub values_in : ToldValues → FieldValues

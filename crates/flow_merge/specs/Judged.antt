@@ -2,7 +2,7 @@
 use Rattle.std.specs.Prelude.{◌≡◌, ◌<◌, All, Some, None}
 use Rattle.ipfix_session.specs.declared.report.SessionReport.{SessionReport}
 use Rattle.flow_merge.specs.declared.merge_fault.MergeFault.{MergeFault}
-use Rattle.flow_merge.specs.declared.merge_fault.MergeFault.TheVariants.{OutOfMemory, SumTooLarge, Session, NotAnExport, Lost, Row}
+use Rattle.flow_merge.specs.declared.merge_fault.MergeFault.TheVariants.{OutOfMemory, SumTooLarge, Session, NotAnExport, Lost, Row, Border}
 use Rattle.flow_merge.specs.Merging.{LosesNone}
 
 -- there were messages, and nothing was passed over
@@ -26,3 +26,4 @@ IsBadBy r Lost = (r.fault ≡ None) × ReportsExport r × (ReportsNoLoss r → �
 IsBadBy r OutOfMemory = ⊥
 IsBadBy r SumTooLarge = ⊥
 IsBadBy r (Row fault) = ⊥
+IsBadBy r (Border row) = ⊥

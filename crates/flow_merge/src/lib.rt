@@ -1,11 +1,13 @@
 //! Tables that were exported as IPFIX, read back into their rows and added up.
 #![tactic(auto)]
 
+mod borders;
 mod field_reading;
 mod judging;
 mod merge_fault;
 mod merging;
 mod row_fault;
+mod row_intervals;
 mod row_reading;
 mod row_sink;
 mod told_values;

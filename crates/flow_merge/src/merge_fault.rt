@@ -1,7 +1,7 @@
 //! Why exports were not merged.
 
 ghost use Rattle.std.specs.Prelude.{◌≡◌};
-ghost use Rattle.flow_merge.specs.MergeFaults.{number_of, name_of};
+ghost use Rattle.flow_merge.specs.MergeFaults.{fault_of_row, number_of, name_of};
 ghost use Rattle.flow_merge.specs.declared.merge_fault.MergeFault.TheVariants.{OutOfMemory};
 
 use crate::row_fault::RowFault;
@@ -31,9 +31,24 @@ pub enum MergeFault {
     /// A data record is no row under the plan.
     #[error("{0}")]
     Row(RowFault),
+    /// The start and end of the row of this number, counted from 1, aren't within one of the intervals that rows are put
+    /// in. The count stops at `u64::MAX`.
+    #[error("row {0} crosses a border between intervals")]
+    Border(u64),
 }
 
 impl MergeFault {
+    /// The fault of the record of this number in a file, counted from 1.
+    pub(crate) fn of_row(fault: RowFault, number: u64) -> MergeFault
+        ensures { result ≡ fault_of_row number fault }
+    {
+        match fault {
+            RowFault::OutOfMemory => MergeFault::OutOfMemory,
+            RowFault::Border => MergeFault::Border(number),
+            fault => MergeFault::Row(fault),
+        }
+    }
+
     /// The number that reports give for the fault.
     pub fn number(&self) -> u8
         ensures { result ≡ number_of self.now }
@@ -45,6 +60,7 @@ impl MergeFault {
             MergeFault::NotAnExport => 4,
             MergeFault::Lost => 5,
             MergeFault::Row(_) => 6,
+            MergeFault::Border(_) => 12,
         }
     }
 
@@ -59,6 +75,7 @@ impl MergeFault {
             MergeFault::NotAnExport => "NotAnExport",
             MergeFault::Lost => "Lost",
             MergeFault::Row(_) => "Row",
+            MergeFault::Border(_) => "Border",
         }
     }
 }
@@ -68,19 +85,6 @@ impl From<AllocError> for MergeFault {
 
     fn from(_error: AllocError) -> MergeFault {
         MergeFault::OutOfMemory
-    }
-}
-
-impl From<RowFault> for MergeFault {
-    ghost use Rattle.flow_merge.specs.MergeFaults.{fault_of_row};
-
-    ghost from_gives = { λ fault e. e ≡ fault_of_row fault };
-
-    fn from(fault: RowFault) -> MergeFault {
-        match fault {
-            RowFault::OutOfMemory => MergeFault::OutOfMemory,
-            fault => MergeFault::Row(fault),
-        }
     }
 }
 

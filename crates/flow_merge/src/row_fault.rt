@@ -30,6 +30,9 @@ pub enum RowFault {
     /// Its number of flows is 0.
     #[error("the record has no flows")]
     Flows,
+    /// Its start and end aren't within one of the intervals that rows are put in. It comes in place of `Interval`.
+    #[error("the record's times cross a border between intervals")]
+    Border,
 }
 
 impl RowFault {
@@ -44,6 +47,7 @@ impl RowFault {
             RowFault::Interval => 4,
             RowFault::Prefix => 5,
             RowFault::Flows => 6,
+            RowFault::Border => 7,
         }
     }
 
@@ -58,6 +62,7 @@ impl RowFault {
             RowFault::Interval => "Interval",
             RowFault::Prefix => "Prefix",
             RowFault::Flows => "Flows",
+            RowFault::Border => "Border",
         }
     }
 }

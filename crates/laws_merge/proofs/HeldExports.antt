@@ -16,11 +16,14 @@ use Rattle.flow_table.specs.AddedUp.{rows_in, AddUpTooLarge}
 use Rattle.flow_table.specs.Plans.{PlanValue, IsPlan}
 use Rattle.flow_table.specs.SameTables.{RowValue}
 use Rattle.flow_table.proofs.AddedUp.{too_large_more}
-use Rattle.flow_merge.specs.Merging.{AddsExport, GivesExport, AreOfExport, AreRowRecords, FirstOther, FirstTooLarge, IsExport, NoneLost, StandsFor, merging_plan, IsDue as IsMergeDue}
+use Rattle.flow_merge.specs.Merging.{AddsExport, GivesExport, GivesExportIn, AreOfExport, AreRowRecords, FirstOtherIn, FirstTooLargeIn, IsExport, NoneLost, StandsFor, merging_intervals, merging_plan, IsDue as IsMergeDue}
+use Rattle.flow_export.specs.declared.intervals.Intervals.{Intervals}
+use Rattle.flow_export.specs.declared.intervals.Intervals.TheVariants.{OfPlan}
+use Rattle.flow_merge.specs.declared.row_fault.RowFault.TheVariants as faults
 use Rattle.laws_merge.specs.Exports.{HoldsExport, IsExportFault}
 use Rattle.flow_merge.specs.RowRecords.{IsRowRecord}
 use Rattle.flow_merge.specs.declared.merge_fault.MergeFault.{MergeFault}
-use Rattle.flow_merge.specs.declared.merge_fault.MergeFault.TheVariants.{OutOfMemory, SumTooLarge, Session, NotAnExport, Lost, Row}
+use Rattle.flow_merge.specs.declared.merge_fault.MergeFault.TheVariants.{OutOfMemory, SumTooLarge, Session, NotAnExport, Lost, Row, Border}
 use Rattle.flow_merge.specs.declared.merging.Merging.{Merging}
 use Rattle.flow_merge.specs.declared.row_fault.RowFault.{RowFault}
 use Rattle.laws_merge.proofs.ExportedTables.{export_is_export}
@@ -56,12 +59,12 @@ own_row plan [] r others (row ∷ rows) all = (row, all.0)
 own_row plan (x ∷ first) r others [] all = absurd all
 own_row plan (x ∷ first) r others (row ∷ rows) all = own_row plan first r others rows all.1
 
-no_other : (plan : PlanValue) (before : List RowValue) (rs : List DataRecord) (rows : List RowValue) (fault : RowFault) → AreRowRecords plan rs rows → FirstOther plan before rs fault → ⊥
+no_other : (plan : PlanValue) (before : List RowValue) (rs : List DataRecord) (rows : List RowValue) (fault : RowFault) → AreRowRecords plan rs rows → FirstOtherIn OfPlan plan before rs fault → ⊥
 no_other plan before rs rows fault all other =
     let one = own_row plan other.first other.next other.others rows (subst (λ (l : List DataRecord). AreRowRecords plan l rows) other.are all) in
     no_row plan other.next fault one.0 other.not_memory other.other one.1
 
-all_too_large : (plan : PlanValue) (before rows : List RowValue) (rs : List DataRecord) → IsPlan plan → AreRowRecords plan rs rows → FirstTooLarge plan before rs → AddUpTooLarge (before ++ rows)
+all_too_large : (plan : PlanValue) (before rows : List RowValue) (rs : List DataRecord) → IsPlan plan → AreRowRecords plan rs rows → FirstTooLargeIn OfPlan plan before rs → AddUpTooLarge (before ++ rows)
 all_too_large plan before rows rs is_plan all large =
     let more = first_rows plan is_plan large.first large.others rows large.rows (subst (λ (l : List DataRecord). AreRowRecords plan l rows) large.are all) large.records in
     subst AddUpTooLarge (append_assoc before large.rows more.0 ∙ ap (λ (l : List RowValue). before ++ l) (sym more.1)) (too_large_more (before ++ large.rows) more.0 large.large)
@@ -96,9 +99,9 @@ module _ {S : Type 0} (seen : S → SourceView) (limit : ℕ) (before after : S)
       same_rows plan holds.export.is_plan (records_of holds.text) rows own export.records is_export.records
 
   -- its rows were added
-  pub adds_own : (old new : Merging) (rows : List RowValue) → merging_plan old ≡ plan → AddsExport seen limit old before after rows new → StandsFor new (rows ++ own)
-  adds_own old new rows same adds =
-      let read = subst (λ (p : PlanValue). GivesExport seen limit p before after adds.more) same adds.gives_export in
+  pub adds_own : (old new : Merging) (rows : List RowValue) → merging_plan old ≡ plan → merging_intervals old ≡ OfPlan → AddsExport seen limit old before after rows new → StandsFor new (rows ++ own)
+  adds_own old new rows same of_plan adds =
+      let read = subst (λ (p : PlanValue). GivesExport seen limit p before after adds.more) same (subst (λ (i : Intervals). GivesExportIn seen limit i (merging_plan old) before after adds.more) of_plan adds.gives_export) in
       subst (λ (l : List RowValue). StandsFor new (rows ++ l)) (given_own adds.more read) adds.stands
 
   -- a text without a fault doesn't begin with one that has one
@@ -126,6 +129,7 @@ module _ {S : Type 0} (seen : S → SourceView) (limit : ℕ) (before after : S)
   own_fault rows (Session fault) due = session_fault rows fault due
   own_fault rows NotAnExport due = absurd (due.2 (subst (λ (w : List ℕ). AreOfExport (gives w).messages) (sym (whole due.0 due.1)) is_export.messages))
   own_fault rows Lost due = absurd (due.2.1 (subst (λ (w : List ℕ). NoneLost (gives w).messages) (sym (whole due.0 due.1)) is_export.none_lost))
-  own_fault rows (Row fault) due = absurd (no_other plan rows (records_of holds.text) own fault is_export.records (subst (λ (w : List ℕ). FirstOther plan rows (records_of w) fault) (whole due.0 due.1) due.2.2))
+  own_fault rows (Row fault) due = absurd (no_other plan rows (records_of holds.text) own fault is_export.records (subst (λ (w : List ℕ). FirstOtherIn OfPlan plan rows (records_of w) fault) (whole due.0 due.1) due.2.2))
+  own_fault rows (Border row) due = absurd (no_other plan rows (records_of holds.text) own faults.Border is_export.records (subst (λ (w : List ℕ). FirstOtherIn OfPlan plan rows (records_of w) faults.Border) (whole due.0 due.1) due.2.2.other))
   own_fault rows SumTooLarge due =
-      all_too_large plan rows own (records_of holds.text) holds.export.is_plan is_export.records (subst (λ (w : List ℕ). FirstTooLarge plan rows (records_of w)) (whole due.0 due.1) due.2.2)
+      all_too_large plan rows own (records_of holds.text) holds.export.is_plan is_export.records (subst (λ (w : List ℕ). FirstTooLargeIn OfPlan plan rows (records_of w)) (whole due.0 due.1) due.2.2)

@@ -17,10 +17,12 @@ use Rattle.flow_table.specs.declared.table.Table.{Table}
 use Rattle.flow_table.proofs.AddedUp.{too_large_more}
 use Rattle.flow_table.proofs.TablesAdded.{too_large_both}
 use Rattle.flow_export.proofs.RowFields.{AllZip-append}
-use Rattle.flow_merge.specs.Merging.{all_of, AddsExport, GiveExports, GivesExport, IsDue, StandsFor, merging_plan}
+use Rattle.flow_merge.specs.Merging.{all_of, AddsExport, CannotAdd, GiveExports, GivesExport, GivesExportIn, IsDueIn, StandsFor, merging_intervals, merging_plan}
+use Rattle.flow_export.specs.declared.intervals.Intervals.{Intervals}
+use Rattle.flow_export.specs.declared.intervals.Intervals.TheVariants.{OfPlan}
 use Rattle.laws_merge.specs.Exports.{AreExportsOf, HoldsExport, IsExportFault, StopsAt}
 use Rattle.flow_merge.specs.declared.merge_fault.MergeFault.{MergeFault}
-use Rattle.flow_merge.specs.declared.merge_fault.MergeFault.TheVariants.{OutOfMemory, SumTooLarge, Session, NotAnExport, Lost, Row}
+use Rattle.flow_merge.specs.declared.merge_fault.MergeFault.TheVariants.{OutOfMemory, SumTooLarge, Session, NotAnExport, Lost, Row, Border}
 use Rattle.flow_merge.specs.declared.merging.Merging.{Merging}
 
 -- a fault stays due where what is too large is otherwise
@@ -36,6 +38,7 @@ still_due P Q (Session (sessions.Message e)) f h = absurd h
 still_due P Q NotAnExport f h = absurd h
 still_due P Q Lost f h = absurd h
 still_due P Q (Row fault) f h = absurd h
+still_due P Q (Border row) f h = absurd h
 
 module _ {S : Type 0} (seen : S → SourceView) (plan : PlanValue) where
   -- the tables whose exports sources hold
@@ -68,13 +71,15 @@ module _ {S : Type 0} (seen : S → SourceView) (plan : PlanValue) where
   -- what holds while sources are merged
   pub record MergesOn (limit : ℕ) (sources waiting : List S) (m : Merging) : Type 0 where
     pub same_plan : merging_plan m ≡ plan
+    pub of_plan : merging_intervals m ≡ OfPlan
     pub read : HasRead limit sources waiting m
     pub merged : (lists : List (List DataRecord)) → AreExportsOf seen plan sources lists → Merged lists waiting m
 
-  pub none_merged : (limit : ℕ) (sources : List S) (m : Merging) → merging_plan m ≡ plan → StandsFor m [] → MergesOn limit sources sources m
-  none_merged limit sources m same stands =
+  pub none_merged : (limit : ℕ) (sources : List S) (m : Merging) → merging_plan m ≡ plan → merging_intervals m ≡ OfPlan → StandsFor m [] → MergesOn limit sources sources m
+  none_merged limit sources m same of_plan stands =
       record {
         same_plan = same;
+        of_plan = of_plan;
         read = record { used = []; exports = []; split = refl; given = tt; stands = stands };
         merged = λ lists h. record { first = []; tables = []; are_tables = tt; stands = stands; others = lists; wait = h; all = refl };
       }
@@ -129,46 +134,47 @@ module _ {S : Type 0} (seen : S → SourceView) (plan : PlanValue) where
   -- ---- a step, and the end
 
   -- a source was read
-  more_read : (limit : ℕ) (sources : List S) (s : S) (waiting : List S) (old new : Merging) (after : S) (read : HasRead limit sources (s ∷ waiting) old) → merging_plan old ≡ plan
+  more_read : (limit : ℕ) (sources : List S) (s : S) (waiting : List S) (old new : Merging) (after : S) (read : HasRead limit sources (s ∷ waiting) old) → merging_plan old ≡ plan → merging_intervals old ≡ OfPlan
       → AddsExport seen limit old s after (flat_map (λ rows. rows) read.exports) new → HasRead limit sources waiting new
-  more_read limit sources s waiting old new after read same adds =
+  more_read limit sources s waiting old new after read same of_plan adds =
       record {
         used = read.used ++ s ∷ [];
         exports = read.exports ++ adds.more ∷ [];
         split = read.split ∙ sym (append_assoc read.used (s ∷ []) waiting);
         given = all_zipped_more (λ source rows. (left : S) × GivesExport seen limit plan source left rows) read.used read.exports s adds.more read.given
-            (after, subst (λ (p : PlanValue). GivesExport seen limit p s after adds.more) same adds.gives_export);
+            (after, subst (λ (p : PlanValue). GivesExport seen limit p s after adds.more) same (subst (λ (i : Intervals). GivesExportIn seen limit i (merging_plan old) s after adds.more) of_plan adds.gives_export));
         stands = subst (StandsFor new) (flat_map_more (λ r. r) [] read.exports adds.more) adds.stands;
       }
 
-  pub merged_on : (limit : ℕ) (sources before : List S) (s : S) (waiting : List S) (old new : Merging) (after : S) → before ≡ s ∷ waiting → MergesOn limit sources before old → merging_plan new ≡ merging_plan old
+  pub merged_on : (limit : ℕ) (sources before : List S) (s : S) (waiting : List S) (old new : Merging) (after : S) → before ≡ s ∷ waiting → MergesOn limit sources before old → merging_plan new ≡ merging_plan old → merging_intervals new ≡ merging_intervals old
       → ((rows : List RowValue) → StandsFor old rows → AddsExport seen limit old s after rows new)
-      → ((rows : List RowValue) (rs : List DataRecord) (holds : HoldsExport (merging_plan old) (seen s) rs) → StandsFor old rows → StandsFor new (rows ++ rows_in holds.table)) → MergesOn limit sources waiting new
-  merged_on limit sources before s waiting old new after is on same adds exports =
+      → (merging_intervals old ≡ OfPlan → (rows : List RowValue) (rs : List DataRecord) (holds : HoldsExport (merging_plan old) (seen s) rs) → StandsFor old rows → StandsFor new (rows ++ rows_in holds.table)) → MergesOn limit sources waiting new
+  merged_on limit sources before s waiting old new after is on same same_in adds exports =
       let read = subst (λ (l : List S). HasRead limit sources l old) is on.read in
       record {
         same_plan = same ∙ on.same_plan;
-        read = more_read limit sources s waiting old new after read on.same_plan (adds (flat_map (λ rows. rows) read.exports) read.stands);
+        of_plan = same_in ∙ on.of_plan;
+        read = more_read limit sources s waiting old new after read on.same_plan on.of_plan (adds (flat_map (λ rows. rows) read.exports) read.stands);
         merged = λ lists h.
             let now = subst (λ (l : List S). Merged lists l old) is (on.merged lists h) in
             one_merged lists s waiting old new now (λ rs.
             subst (λ (p : PlanValue). (holds : HoldsExport p (seen s) rs) → StandsFor new (flat_map rows_in now.tables ++ rows_in holds.table)) on.same_plan
-            (λ holds. exports (flat_map rows_in now.tables) rs holds now.stands));
+            (λ holds. exports on.of_plan (flat_map rows_in now.tables) rs holds now.stands));
       }
 
   -- a source was refused
   pub refused_on : (limit : ℕ) (sources before : List S) (s : S) (waiting : List S) (old : Merging) (fault : MergeFault) → before ≡ s ∷ waiting → MergesOn limit sources before old
-      → ((rows : List RowValue) (rs : List DataRecord) (holds : HoldsExport (merging_plan old) (seen s) rs) → StandsFor old rows → IsExportFault (AddUpTooLarge (rows ++ rows_in holds.table)) fault)
+      → (merging_intervals old ≡ OfPlan → (rows : List RowValue) (rs : List DataRecord) (holds : HoldsExport (merging_plan old) (seen s) rs) → StandsFor old rows → IsExportFault (AddUpTooLarge (rows ++ rows_in holds.table)) fault)
       → (lists : List (List DataRecord)) → AreExportsOf seen plan sources lists → IsExportFault (HasTooLargeRow plan (all_of lists)) fault
   refused_on limit sources before s waiting old fault is on refuses lists h =
       let now = subst (λ (l : List S). Merged lists l old) is (on.merged lists h) in
       let next = next_held lists s waiting old now in
       still_due _ _ fault (too_large_all lists s waiting old now next)
       (subst (λ (p : PlanValue). (holds : HoldsExport p (seen s) next.0) → IsExportFault (AddUpTooLarge (flat_map rows_in now.tables ++ rows_in holds.table)) fault) on.same_plan
-      (λ holds. refuses (flat_map rows_in now.tables) next.0 holds now.stands) next.2)
+      (λ holds. refuses on.of_plan (flat_map rows_in now.tables) next.0 holds now.stands) next.2)
 
   pub stopped_on : (limit : ℕ) (sources before : List S) (s : S) (waiting : List S) (old : Merging) (after : S) (fault : MergeFault) → before ≡ s ∷ waiting → MergesOn limit sources before old
-      → ((rows : List RowValue) → StandsFor old rows → IsDue seen limit (merging_plan old) rows s after fault) → StopsAt seen limit plan sources fault
+      → ((rows : List RowValue) → StandsFor old rows → CannotAdd seen limit old rows s after fault) → StopsAt seen limit plan sources fault
   stopped_on limit sources before s waiting old after fault is on due =
       let read = subst (λ (l : List S). HasRead limit sources l old) is on.read in
       let rows = flat_map (λ r. r) read.exports in
@@ -180,7 +186,8 @@ module _ {S : Type 0} (seen : S → SourceView) (plan : PlanValue) where
         exports = read.exports;
         given = read.given;
         after = after;
-        due = subst (λ (p : PlanValue). IsDue seen limit p rows s after fault) on.same_plan (due rows read.stands);
+        due = subst (λ (i : Intervals). IsDueIn seen limit i plan rows s after fault) on.of_plan
+            (subst (λ (p : PlanValue). IsDueIn seen limit (merging_intervals old) p rows s after fault) on.same_plan (due rows read.stands));
       }
 
   -- no source waits

@@ -20,7 +20,7 @@ use Rattle.flow_export.specs.CsvText.{first_of, last_of}
 use Rattle.flow_export.specs.IpfixText.{key_field, number_field}
 use Rattle.laws_export.proofs.ValuesRead.{cell_again}
 use Rattle.flow_merge.specs.declared.row_fault.RowFault.{RowFault}
-use Rattle.flow_merge.specs.declared.row_fault.RowFault.TheVariants.{OutOfMemory, Template, Fields, Interval, Prefix, Flows}
+use Rattle.flow_merge.specs.declared.row_fault.RowFault.TheVariants.{OutOfMemory, Template, Fields, Interval, Prefix, Flows, Border}
 use Rattle.flow_merge.specs.InnerReading.{FitsKey, FitsNumber, TellsCells, TellsNumber, TellsNumbers}
 use Rattle.flow_merge.specs.RowFaults.{FieldValues, Tell, IsInterval, IsRowFault}
 use Rattle.flow_merge.specs.RowRecords.{AreProjected, IsRowRecord}
@@ -98,6 +98,7 @@ no_row plan r Fields row other h is = h.1 (values_of plan row) (row_tells plan r
 no_row plan r Interval row other h is =
     let same = same_values plan r.fields (values_of plan row) h.1.0 (row_tells plan r row is) h.1.1 in
     h.1.2 row.interval (subst (λ (v : FieldValues). IsInterval plan row.interval v) same (row_interval plan r row is))
+no_row plan r Border row other h is = h.1.2
 no_row plan r Prefix row other h is =
     let same = same_values plan r.fields (values_of plan row) h.1.0 (row_tells plan r row is) h.1.1 in
     h.1.3 (subst (λ (v : FieldValues). AreProjected plan.keys v.key) same is.of_plan.projected)

@@ -9,10 +9,11 @@ ghost use Rattle.flow_table.specs.Plans.{PlanValue, IsPlan};
 ghost use Rattle.flow_table.specs.SameTables.{RowValue};
 ghost use Rattle.flow_table.specs.declared.table.Table.{Table};
 ghost use Rattle.flow_export.specs.IpfixText.{ipfix_text};
+ghost use Rattle.flow_export.specs.declared.intervals.Intervals.TheVariants.{OfPlan};
 ghost use Rattle.laws_export.specs.ReadBack.{row_record};
-ghost use Rattle.flow_merge.specs.Merging.{merging_plan, AddsAllUp, AddsExport, HasRowsOf, IsDue, IsExport, StandsFor};
+ghost use Rattle.flow_merge.specs.Merging.{merging_intervals, merging_plan, AddsAllUp, AddsExport, HasRowsOf, IsDue, IsExport, StandsFor};
 ghost use Rattle.flow_merge.specs.RowFaults.{IsRowFault};
-ghost use Rattle.flow_merge.specs.RowRecords.{IsRowOf, IsRowRecord};
+ghost use Rattle.flow_merge.specs.RowRecords.{AreOrdered, IsRowOf, IsRowRecord, IsWithin};
 ghost use Rattle.flow_merge.specs.declared.merge_fault.MergeFault.{MergeFault};
 ghost use Rattle.flow_merge.specs.declared.merging.Merging.{Merging};
 ghost use Rattle.flow_merge.specs.declared.row_fault.RowFault.{RowFault};
@@ -53,9 +54,9 @@ pub fn exports_have_their_rows()
 /// What [`Merging::read`](flow_merge::Merging::read) answers of the export of a table: its rows were
 /// added, or else the fault is none of its own, but that sums are too large.
 pub fn exports_are_added_whole<S: Source>()
-    ensures added { (limit : ℕ) (before after : S) (old new : Merging) (rows own : List RowValue)
-        → HoldsRows (merging_plan old) (S.seen before) own
-        → AddsExport S.seen limit old before after rows new → StandsFor new (rows ++ own) }
+    ensures added { (limit : ℕ) (from to : S) (old new : Merging) (rows own : List RowValue)
+        → HoldsRows (merging_plan old) (S.seen from) own → merging_intervals old ≡ OfPlan
+        → AddsExport S.seen limit old from to rows new → StandsFor new (rows ++ own) }
     ensures fault { (limit : ℕ) (old new : S) (plan : PlanValue) (rows own : List RowValue)
         (fault : MergeFault) → HoldsRows plan (S.seen old) own
         → IsDue S.seen limit plan rows old new fault
@@ -92,6 +93,13 @@ pub fn exporters_add_up()
     ensures { (plan : PlanValue) (rs : List DataRecord) (table : Table)
         → IsTable (by_exporter plan) rs table → All HasExporter rs
         → AddUpTo plan rs (rows_in table) }
+{}
+
+/// Between borders, each before those after it, a time is within one interval at most: so each row is put in one, and
+/// is added once.
+pub fn one_interval()
+    ensures { (borders : List ℕ) (k j start end : ℕ) → AreOrdered borders
+        → IsWithin borders k start end → IsWithin borders j start end → k ≡ j }
 {}
 
 /// What rows add up to at an interval and a key is nothing if no row is there, and otherwise, for each

@@ -7,6 +7,7 @@ ghost use Rattle.flow_merge.specs.Merging.{AddsAllUp, HasRowsOf, no_records, non
 ghost use Rattle.flow_merge.specs.declared.merge_fault.MergeFault.TheVariants.{OutOfMemory};
 ghost use Rattle.laws_merge.specs.Exports.{IfExportsOf, IsExportFault, StopsAt};
 
+use flow_export::Intervals;
 use flow_merge::{MergeFault, Merging};
 use flow_table::{FlatTable, Plan};
 use ipfix_session::Source;
@@ -43,7 +44,7 @@ pub fn merge<S: Source + Drop>(
     ensures tally { IfOk result (λ table. table.tally ≡ no_records) }
     ensures missing { IfOk result (λ table. table.missing ≡ none_missing) }
 {
-    let mut merging = Merging::new(alloc, plan)?;
+    let mut merging = Merging::new(alloc, plan, Intervals::OfPlan)?;
     let mut waiting = VecDeque::from_vec(sources);
     while let Some(source) = waiting.pop_front() {
         let mut source = source;

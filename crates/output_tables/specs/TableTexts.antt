@@ -3,29 +3,44 @@ use Rattle.std.specs.Prelude.{◌≡◌, ◌≤◌, ◌^◌, ◌↔◌, ℕ, Lis
 use Rattle.std.specs.Io.KnownBytes.{Appends}
 use Rattle.element_registry.specs.Registries.{Known}
 use Rattle.flow_table.specs.AddedUp.{rows_in}
+use Rattle.flow_table.specs.SameTables.{RowValue}
+use Rattle.flow_export.specs.AnyTables.{intervals_of, table_in}
+use Rattle.flow_export.specs.declared.any_table.AnyTable.{AnyTable}
+use Rattle.flow_export.specs.declared.intervals.Intervals.{Intervals}
+use Rattle.flow_export.specs.declared.intervals.Intervals.TheVariants.{OfPlan}
 use Rattle.flow_table.specs.Plans.{PlanValue}
 use Rattle.flow_table.specs.declared.table.Table.{Table}
 use Rattle.flow_export.specs.declared.fault.ExportFault.{ExportFault}
 use Rattle.flow_export.specs.declared.fault.ExportFault.TheVariants.{TooManyRows}
 use Rattle.flow_export.specs.declared.format.Format.{Format}
 use Rattle.flow_export.specs.declared.format.Format.TheVariants.{Csv, Json, Ipfix}
-use Rattle.flow_export.specs.CsvText.{csv_text}
-use Rattle.flow_export.specs.IpfixText.{ipfix_text}
-use Rattle.flow_export.specs.JsonText.{json_text}
+use Rattle.flow_export.specs.CsvText.{csv_text_in}
+use Rattle.flow_export.specs.IpfixText.{ipfix_text_in}
+use Rattle.flow_export.specs.JsonText.{json_text_in}
 use Rattle.output_tables.specs.declared.output.Output.{Output}
 
 -- a table as it is written, with the names that elements have; IPFIX has no names
-abbrev pub text_by : List Known → Format → ℕ → PlanValue → Table → List ℕ
-text_by known Csv time plan table = csv_text known plan (rows_in table)
-text_by known Json time plan table = json_text known plan (rows_in table)
-text_by known Ipfix time plan table = ipfix_text plan time (rows_in table)
+abbrev pub text_by : Intervals → List Known → Format → ℕ → PlanValue → List RowValue → List ℕ
+text_by intervals known Csv time plan rows = csv_text_in intervals known plan rows
+text_by intervals known Json time plan rows = json_text_in intervals known plan rows
+text_by intervals known Ipfix time plan rows = ipfix_text_in intervals plan time rows
 
+abbrev pub export_text_in : Intervals → List Known → Output → PlanValue → Table → List ℕ
+export_text_in intervals known output plan table = text_by intervals known output.format output.time plan (rows_in table)
+
+-- a table whose rows have these intervals was written, and nothing else
+abbrev pub WritesIn : Intervals → List Known → PlanValue → Output → Option (List ℕ) → Option (List ℕ) → Table → Type 0
+WritesIn intervals known plan output old new table = Appends old new (export_text_in intervals known output plan table)
+
+abbrev pub WritesAny : List Known → PlanValue → Output → Option (List ℕ) → Option (List ℕ) → AnyTable → Type 0
+WritesAny known plan output old new table = WritesIn (intervals_of table) known plan output old new (table_in table)
+
+-- the same of a plan's table
 abbrev pub export_text : List Known → Output → PlanValue → Table → List ℕ
-export_text known output plan table = text_by known output.format output.time plan table
+export_text = export_text_in OfPlan
 
--- a table was written, and nothing else
 abbrev pub Writes : List Known → PlanValue → Output → Option (List ℕ) → Option (List ℕ) → Table → Type 0
-Writes known plan output old new table = Appends old new (export_text known output plan table)
+Writes = WritesIn OfPlan
 
 -- more rows than the sequence numbers of messages of IPFIX count (RFC 7011, section 3.1); in CSV and JSON none are too many
 abbrev pub IsTooMany : Format → ℕ → Type 0

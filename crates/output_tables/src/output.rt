@@ -1,13 +1,13 @@
 //! How a table is written.
 
 ghost use Rattle.std.specs.Prelude.{◌≡◌, ◌↔◌, length, IsErrOf, OnOk};
-ghost use Rattle.flow_table.specs.AddedUp.{rows_in};
+ghost use Rattle.flow_export.specs.AnyTables.{rows_of, table_in};
 ghost use Rattle.flow_table.specs.Fitting.{FitsPlan};
-ghost use Rattle.output_tables.specs.TableTexts.{IsTooMany, Writes};
+ghost use Rattle.output_tables.specs.TableTexts.{IsTooMany, WritesAny};
 
 use element_registry::Elements;
 use flow_export::{AnyTable, ExportFault, Format, TableText, write_table};
-use flow_table::{FlatTable, Plan};
+use flow_table::Plan;
 use std::alloc::Global;
 use std::io::Write;
 
@@ -27,15 +27,15 @@ pub fn export<W: Write>(
     alloc: Global,
     elements: &Elements,
     plan: &Plan,
-    table: &FlatTable,
+    table: &AnyTable,
     output: Output,
     out: &mut W,
 ) -> Result<(), ExportFault>
-    requires { FitsPlan plan.now table.now }
-    ensures ok { OnOk result (Writes elements.now plan.now output
+    requires { FitsPlan plan.now (table_in table.now) }
+    ensures ok { OnOk result (WritesAny elements.now plan.now output
         (W.contents out.old) (W.contents out.new) table.now) }
     ensures many { IsErrOf result ExportFault.TooManyRows
-        ↔ IsTooMany output.format (length (rows_in table.now)) }
+        ↔ IsTooMany output.format (length (rows_of table.now)) }
     ensures untouched { IsErrOf result ExportFault.TooManyRows → out.new ≡ out.old }
 {
     let text = match output.format {
@@ -43,7 +43,7 @@ pub fn export<W: Write>(
         Format::Json => TableText::Json(elements),
         Format::Ipfix => TableText::Ipfix(output.time),
     };
-    write_table(alloc, plan, &AnyTable::Flat(table), &text, out)?;
+    write_table(alloc, plan, table, &text, out)?;
     out.flush()?;
     Ok(())
 }

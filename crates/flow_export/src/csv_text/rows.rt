@@ -3,11 +3,12 @@
 
 ghost use Rattle.std.specs.Prelude.{◌≡◌, ◌++◌, OnOk, flat_map, length};
 ghost use Rattle.std.specs.Fmt.{decimal};
-ghost use Rattle.flow_export.specs.CsvText.{row_line};
+ghost use Rattle.flow_export.specs.CsvText.{row_line_in};
 ghost use Rattle.flow_export.specs.Shown.{shown_cells};
 ghost use Rattle.flow_export.specs.Written.{interval_texts, next_cell, next_number};
 
 use crate::address_text::append_ipv4;
+use crate::intervals::Intervals;
 use crate::row_lines::RowLines;
 use crate::shown_cell::shown_cell;
 use flow_table::{Key, Plan, Row};
@@ -16,14 +17,17 @@ use itoa::Buffer;
 use std::alloc::AllocError;
 
 /// Makes lines of CSV, for any plan.
-pub struct CsvLines;
+#[derive(Clone, Copy)]
+pub struct CsvLines<'a> {
+    pub intervals: Intervals<'a>,
+}
 
-impl RowLines for CsvLines {
+impl RowLines for CsvLines<'_> {
     ghost is_for = { λ _ _. Unit {0} };
 
-    ghost front_of = { λ _. interval_texts };
+    ghost front_of = { λ lines. interval_texts lines.intervals };
 
-    ghost line_of = { λ _. row_line };
+    ghost line_of = { λ lines. row_line_in lines.intervals };
 
     // The first and the last millisecond.
     fn append_front(
@@ -32,10 +36,8 @@ impl RowLines for CsvLines {
         interval: u64,
         out: &mut Vec<u8>,
     ) -> Result<(), AllocError> {
-        let length = u64::from(plan.length());
-        let first = interval * length;
-        append_number(first, out)?;
-        append_next_number(first + length - 1, out)
+        append_number(self.intervals.first(plan, interval), out)?;
+        append_next_number(self.intervals.last(plan, interval), out)
     }
 
     // Its key, its sums and the number of its flows.

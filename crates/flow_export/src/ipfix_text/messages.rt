@@ -7,6 +7,7 @@ ghost use Rattle.flow_export.specs.Fitting.{IsExportable};
 ghost use Rattle.flow_export.specs.IpfixText.{message as message_octets};
 ghost use Rattle.flow_export.specs.RowOctets.{BeginsWithRows, headers_octets};
 
+use crate::intervals::Intervals;
 use crate::ipfix_text::rows::{MOST_OCTETS_A_ROW, ROWS_A_MESSAGE, place_rows};
 use crate::table_rows::TableRows;
 use flow_table::Plan;
@@ -46,6 +47,7 @@ pub fn set_message(
 /// headers are made in a vector of their own, since they say how long the rows are.
 pub fn place_message(
     plan: &Plan,
+    intervals: Intervals,
     rows: &mut TableRows,
     sequence: u32,
     export_time: u32,
@@ -54,13 +56,13 @@ pub fn place_message(
 ) -> Result<usize, AllocError>
     requires fit { All (IsExportable plan.now) rows.old }
     requires room { length octets.old ≡ MOST_OCTETS }
-    ensures message { IfOk result (BeginsWithRows plan.now export_time sequence
+    ensures message { IfOk result (BeginsWithRows intervals.entry plan.now export_time sequence
         (take ROWS_A_MESSAGE rows.old) octets.new) }
     ensures inside { IfOk result (λ end. end ≤ MOST_OCTETS) }
     ensures room { length octets.new ≡ MOST_OCTETS }
     ensures passes { OnOk result (rows.new ≡ drop ROWS_A_MESSAGE rows.old) }
 {
-    let end = place_rows(plan, rows, octets, HEADERS_LENGTH)?;
+    let end = place_rows(plan, intervals, rows, octets, HEADERS_LENGTH)?;
     let body = end - HEADERS_LENGTH;
     set_headers(FIRST_TEMPLATE_ID, body, sequence, export_time, headers)?;
     place(headers.as_slice(), octets, 0);

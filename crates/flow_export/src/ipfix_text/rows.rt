@@ -6,9 +6,10 @@ ghost use Rattle.flow_table.specs.Fitting.{IsCellOf};
 ghost use Rattle.flow_table.specs.SameTables.{value_of};
 ghost use Rattle.ipfix_elements.specs.Placed.{Placed};
 ghost use Rattle.flow_export.specs.Fitting.{IsExportable};
-ghost use Rattle.flow_export.specs.IpfixText.{number_octets, row_octets};
+ghost use Rattle.flow_export.specs.IpfixText.{number_octets, row_octets_in};
 ghost use Rattle.flow_export.specs.RowOctets.{cells_octets, octets_of_rows, wide_octets};
 
+use crate::intervals::Intervals;
 use crate::ipfix_text::placing::{place_lowest, place_number};
 use crate::ipfix_text::widths::width_of;
 use crate::table_rows::TableRows;
@@ -26,6 +27,7 @@ pub const MOST_OCTETS_A_ROW: usize = 184;
 /// where they end.
 pub fn place_rows(
     plan: &Plan,
+    intervals: Intervals,
     rows: &mut TableRows,
     octets: &mut [u8],
     at: usize,
@@ -33,13 +35,13 @@ pub fn place_rows(
     requires fit { All (IsExportable plan.now) rows.old }
     requires room { at + MOST_OCTETS_A_ROW * ROWS_A_MESSAGE ≤ length octets.old }
     ensures placed { IfOk result (Placed octets.old octets.new at
-        (octets_of_rows plan.now (take ROWS_A_MESSAGE rows.old))) }
+        (octets_of_rows intervals.entry plan.now (take ROWS_A_MESSAGE rows.old))) }
     ensures short { IfOk result (λ end. end ≤ at + MOST_OCTETS_A_ROW * ROWS_A_MESSAGE) }
     ensures passes { OnOk result (rows.new ≡ drop ROWS_A_MESSAGE rows.old) }
 {
     let mut end = at;
     for _ in 0..ROWS_A_MESSAGE {
-        end = place_next(plan, rows, octets, end)?;
+        end = place_next(plan, intervals, rows, octets, end)?;
     }
     Ok(end)
 }
@@ -47,6 +49,7 @@ pub fn place_rows(
 // Writes the octets of the next row, if there is one, and passes over it.
 fn place_next(
     plan: &Plan,
+    intervals: Intervals,
     rows: &mut TableRows,
     octets: &mut [u8],
     at: usize,
@@ -54,30 +57,29 @@ fn place_next(
     requires fit { All (IsExportable plan.now) rows.old }
     requires room { at + MOST_OCTETS_A_ROW ≤ length octets.old }
     ensures placed { IfOk result (Placed octets.old octets.new at
-        (octets_of_rows plan.now (take 1 rows.old))) }
+        (octets_of_rows intervals.entry plan.now (take 1 rows.old))) }
     ensures short { IfOk result (λ end. end ≤ at + MOST_OCTETS_A_ROW) }
     ensures passes { OnOk result (rows.new ≡ drop 1 rows.old) }
 {
     let Some(row) = rows.first() else {
         return Ok(at);
     };
-    let end = place_row(plan, row, octets, at);
+    let end = place_row(plan, intervals, row, octets, at);
     rows.pass()?;
     Ok(end)
 }
 
 // Writes the octets of a row: its interval, its key, its sums and the number of its flows.
-fn place_row(plan: &Plan, row: &Row, octets: &mut [u8], at: usize) -> usize
+fn place_row(plan: &Plan, intervals: Intervals, row: &Row, octets: &mut [u8], at: usize) -> usize
     requires fits { IsExportable plan.now (value_of row.now) }
     requires room { at + MOST_OCTETS_A_ROW ≤ length octets.old }
     ensures placed { Placed octets.old octets.new at
-        (row_octets plan.now (value_of row.now)) result }
+        (row_octets_in intervals.entry plan.now (value_of row.now)) result }
     ensures short { result ≤ at + MOST_OCTETS_A_ROW }
 {
-    let length = u64::from(plan.length());
-    let first = row.interval * length;
+    let first = intervals.first(plan, row.interval);
     let times = place_number(first, octets, at);
-    let times = place_number(first + length - 1, octets, times);
+    let times = place_number(intervals.last(plan, row.interval), octets, times);
     let key = place_cells(plan.kinds(), &row.key, octets, times);
     let sums = place_numbers(&row.sums, octets, key);
     place_number(row.flows, octets, sums)

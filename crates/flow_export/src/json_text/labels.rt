@@ -5,6 +5,7 @@ ghost use Rattle.element_registry.specs.Registries.{element_name};
 ghost use Rattle.flow_export.specs.CsvText.{counter_texts, key_text, key_texts};
 ghost use Rattle.flow_export.specs.JsonParts.{AreLabels, AreLabelsOf, label, text_of};
 
+use crate::intervals::Intervals;
 use crate::key_name::{append_key, append_name};
 use element_registry::Elements;
 use flow_table::{Key, Plan};
@@ -21,20 +22,28 @@ pub struct MemberLabel {
 #[derive(Drop)]
 pub struct RowLabels<'a> {
     pub elements: &'a Elements,
+    pub intervals: Intervals<'a>,
     pub keys: Vec<MemberLabel>,
     pub counters: Vec<MemberLabel>,
 }
 
 impl<'a> RowLabels<'a> {
-    /// The labels of a plan.
-    pub fn of(alloc: Global, elements: &'a Elements, plan: &Plan) -> Result<Self, AllocError>
+    /// The labels of a plan, for rows of these intervals.
+    pub fn of(
+        alloc: Global,
+        elements: &'a Elements,
+        plan: &Plan,
+        intervals: Intervals<'a>,
+    ) -> Result<Self, AllocError>
         ensures labels { IfOk result (AreLabels plan.now) }
         ensures elements { IfOk result (λ labels. labels.elements.now ≡ elements.now) }
+        ensures intervals { IfOk result (λ labels. labels.intervals ≡ intervals.entry) }
     {
         let keys = key_labels(alloc, elements, plan.keys())?;
         let counters = counter_labels(alloc, elements, plan.counters())?;
         Ok(RowLabels {
             elements,
+            intervals,
             keys,
             counters,
         })

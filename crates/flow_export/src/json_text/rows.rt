@@ -3,7 +3,7 @@
 
 ghost use Rattle.std.specs.Prelude.{◌≡◌, ◌++◌, OnOk, length};
 ghost use Rattle.flow_export.specs.JsonParts.{AreLabels, interval_members, labelled_cell, labelled_cells, labelled_numbers};
-ghost use Rattle.flow_export.specs.JsonText.{row_object};
+ghost use Rattle.flow_export.specs.JsonText.{row_object_in};
 ghost use Rattle.flow_export.specs.Shown.{shown_cells};
 ghost use Rattle.ipfix_elements.specs.JsonValues.{in_quotes, json_number};
 ghost use Rattle.ipfix_elements.specs.Texts.{ipv4_text};
@@ -19,9 +19,9 @@ use std::alloc::AllocError;
 impl RowLines for RowLabels<'_> {
     ghost is_for = { λ labels plan. AreLabels plan labels };
 
-    ghost front_of = { λ _. interval_members };
+    ghost front_of = { λ labels. interval_members labels.intervals };
 
-    ghost line_of = { λ labels. row_object labels.elements.now };
+    ghost line_of = { λ labels. row_object_in labels.intervals labels.elements.now };
 
     // The first and the last millisecond.
     fn append_front(
@@ -30,10 +30,9 @@ impl RowLines for RowLabels<'_> {
         interval: u64,
         out: &mut Vec<u8>,
     ) -> Result<(), AllocError> {
-        let length = u64::from(plan.length());
-        let first = interval * length;
+        let first = self.intervals.first(plan, interval);
         append_member(b"{\"start\":", first, out)?;
-        append_member(b",\"end\":", first + length - 1, out)
+        append_member(b",\"end\":", self.intervals.last(plan, interval), out)
     }
 
     // Its key, its sums and the number of its flows.

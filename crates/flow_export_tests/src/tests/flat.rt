@@ -4,7 +4,7 @@ ghost use Rattle.flow_table.specs.Fitting.{FitsPlan};
 ghost use Rattle.flow_export.specs.AnyTables.{table_in};
 
 use super::tables::{by_source, flat_of_minutes, table_of_minutes, write_as};
-use flow_export::{AnyTable, ExportFault, Format};
+use flow_export::{AnyTable, ExportFault, Format, Intervals};
 use flow_table::Plan;
 use std::alloc::Global;
 use std::test::Fail;
@@ -27,7 +27,14 @@ fn is_same(alloc: Global, format: Format, rows: u64) -> Result<bool, Fail> {
     let table = table_of_minutes(alloc, &plan, rows)?;
     let flat = flat_of_minutes(alloc, &plan, rows)?;
     let text = written(alloc, &plan, &AnyTable::Rows(&table), format)?;
-    Ok(text == written(alloc, &plan, &AnyTable::Flat(&flat), format)?)
+    Ok(
+        text == written(
+            alloc,
+            &plan,
+            &AnyTable::Flat(&flat, Intervals::OfPlan),
+            format,
+        )?,
+    )
 }
 
 // Lines that are written at once, and then some; whole messages, and one of a row.

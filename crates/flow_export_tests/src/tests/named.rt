@@ -6,7 +6,7 @@ ghost use Rattle.flow_export.specs.AnyTables.{table_in};
 
 use super::tables::{flat_of_minutes, table_of_minutes};
 use element_registry::{Elements, ElementsFault, add_file};
-use flow_export::{AnyTable, ExportFault, TableText, write_table};
+use flow_export::{AnyTable, ExportFault, Intervals, TableText, write_table};
 use flow_table::{Choices, Key, Method, Plan, PlanFault};
 use ipfix_wire::ElementId;
 use std::alloc::Global;
@@ -78,7 +78,12 @@ fn names_of_files_stand_in_texts(rt: HostRuntime) -> Result<(), Fail> {
     let flat = flat_of_minutes(alloc, &plan, 1)?;
     let kept = texts(alloc, &elements, &plan, &AnyTable::Rows(&table))?;
     assert_eq!(rt; kept.as_slice(), want.as_bytes());
-    let made = texts(alloc, &elements, &plan, &AnyTable::Flat(&flat))?;
+    let made = texts(
+        alloc,
+        &elements,
+        &plan,
+        &AnyTable::Flat(&flat, Intervals::OfPlan),
+    )?;
     assert_eq!(rt; made.as_slice(), want.as_bytes());
     Ok(())
 }

@@ -1,6 +1,7 @@
 //! Rows that are read from records of exports.
 
 use super::plans::{by_exporter, by_source};
+use flow_export::Intervals;
 use flow_merge::read_row;
 use ipfix_elements::Cell;
 use ipfix_message::{DataRecord, Fields};
@@ -43,7 +44,7 @@ fn record_of(
 fn row_of(alloc: Global, start: u64, end: u64, last: u8, flows: u64) -> Result<String, Fail> {
     let plan = by_source(alloc, Some(24))?;
     let data_record = record_of(alloc, start, end, last, flows)?;
-    match read_row(alloc, &plan, &data_record) {
+    match read_row(alloc, &plan, Intervals::OfPlan, &data_record) {
         Ok(row) => {
             let (interval, flows) = (row.interval, row.flows);
             Ok(format!(in alloc; "{interval},{flows}")?)
@@ -98,7 +99,12 @@ fn address_record(alloc: Global, number: u16) -> Result<DataRecord, AllocError> 
 // The key of the row that a record has under a plan by exporter, or the number and name of the fault.
 fn key_of(alloc: Global, number: u16) -> Result<String, Fail> {
     let plan = by_exporter(alloc)?;
-    match read_row(alloc, &plan, &address_record(alloc, number)?) {
+    match read_row(
+        alloc,
+        &plan,
+        Intervals::OfPlan,
+        &address_record(alloc, number)?,
+    ) {
         Ok(row) if row.key.first() == Some(&Cell::Ipv6(MAPPED)) => {
             Ok(String::from_str(alloc, "192.0.2.1")?)
         }

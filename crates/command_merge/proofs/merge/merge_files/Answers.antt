@@ -9,7 +9,7 @@ use Rattle.command_merge.proofs.merge.merge_files.Goals as goal
 
 pub loop-index-init : goal.loop-index-init
 loop-index-init g c = record {
-  stands = none_read _ _ c.args.job.now.plan.now _ c.in-Ok.merging c.in-Ok.ensures.plan c.in-Ok.ensures.empty;
+  stands = none_read _ _ c.args.job.now.intervals c.args.job.now.plan.now _ c.in-Ok.merging c.in-Ok.ensures.plan c.in-Ok.ensures.intervals c.in-Ok.ensures.empty;
   same = λ name source opens. opens;
   same_reason = λ name reason refuses. refuses;
   told = none_told (g.E.WriteLines.contents c.args.err.now) (g.E.WriteLines.failed c.args.err.now);
@@ -20,7 +20,7 @@ pub loop-index-preserved : goal.loop-index-preserved
 loop-index-preserved g c =
     let so_far = c.loop-index.invariant in
     record {
-      stands = one_path _ _ c.args.job.now.plan.now _ c.args.paths.now c.loop-index.index _ _ _ _ c.loop-index.merging c.in_ok-merging.merging c.loop-index-test.true
+      stands = one_path _ _ c.args.job.now.intervals c.args.job.now.plan.now _ c.args.paths.now c.loop-index.index _ _ _ _ c.loop-index.merging c.in_ok-merging.merging c.loop-index-test.true
           (λ path source opens. so_far.same path.now source opens) c.in_ok-merging.ensures.added so_far.stands;
       same = λ name source opens. so_far.same name source (c.add_file.ensures.same name source opens);
       same_reason = λ name reason refuses. so_far.same_reason name reason (c.add_file.ensures.same_reason name reason refuses);
@@ -35,13 +35,13 @@ returns-in_err-merging-clause-stops g c =
     passed_on c.from_residual.result c.in_err-merging.field-0.0 _ c.from_residual.ensures.1
     (stops_merge name_of c.args.paths.now _ _ _ _ _ c.args.job.now.verbosity _ (g.O.OpenSource.refuses c.loop-index.files) _ c.loop-index.index _
     (λ path reason refuses. so_far.same_reason path.now reason refuses)
-    (λ number path fault fails. last_fails g.S.Source.seen g.S.Source.failure _ name_of c.args.job.now.plan.now _ c.args.paths.now c.loop-index.index _ _ _ _ c.loop-index.merging fault c.loop-index-test.true so_far.same so_far.stands fails) _
+    (λ number path fault fails. last_fails g.S.Source.seen g.S.Source.failure _ name_of c.args.job.now.intervals c.args.job.now.plan.now _ c.args.paths.now c.loop-index.index _ _ _ _ c.loop-index.merging fault c.loop-index-test.true so_far.same so_far.stands fails) _
     c.loop-index-test.true so_far.told c.in_err-merging.ensures.stops c.add_file.ensures.kept)
 
 pub returns-in-Ok-finish-clause-merged : goal.returns-in-Ok-finish-clause-merged
 returns-in-Ok-finish-clause-merged g c =
     let so_far = c.loop-index.invariant.stands in
-    all_paths _ _ c.args.job.now.plan.now _ c.args.paths.now c.loop-index.index _ c.loop-index.merging c.in-Ok-finish.table c.loop-index-test.false so_far (c.in-Ok-finish.ensures.rows (rows_of so_far.exports) so_far.stands)
+    all_paths _ _ c.args.job.now.intervals c.args.job.now.plan.now _ c.args.paths.now c.loop-index.index _ c.loop-index.merging c.in-Ok-finish.table c.loop-index-test.false so_far (c.in-Ok-finish.ensures.rows (rows_of so_far.exports) so_far.stands)
 
 pub returns-in-Ok-finish-clause-told : goal.returns-in-Ok-finish-clause-told
 returns-in-Ok-finish-clause-told g c =

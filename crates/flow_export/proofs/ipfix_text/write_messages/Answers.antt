@@ -6,7 +6,7 @@ use Rattle.std.proofs.lemmas.List.Elements.{All-drop}
 use Rattle.flow_table.specs.SameTables.{RowValue}
 use Rattle.flow_export.specs.declared.ipfix_text.rows.TheConstants.{ROWS_A_MESSAGE}
 use Rattle.flow_export.specs.Fitting.{IsExportable}
-use Rattle.flow_export.specs.IpfixText.{message_count, message_of_rows, template_message}
+use Rattle.flow_export.specs.IpfixText.{message_count, message_of_rows_in, template_message}
 use Rattle.flow_export.proofs.MessageParts.{hundred_more, message_more}
 use Rattle.flow_export.proofs.ipfix_text.write_messages.Goals as goal
 
@@ -16,7 +16,7 @@ place_message-requires-clause-fit g c =
 
 pub loop-index-preserved : goal.loop-index-preserved
 loop-index-preserved g c = record {
-  written = message_more c.args.plan.now c.args.export_time c.args.rows.now c.loop-index.rows c.loop-index.index (ROWS_A_MESSAGE * c.loop-index.index) _ _ _ _ refl c.loop-index.invariant.left (search rules) c.loop-index.invariant.written c.in_ok-write_all.ensures.bytes;
+  written = message_more c.args.intervals c.args.plan.now c.args.export_time c.args.rows.now c.loop-index.rows c.loop-index.index (ROWS_A_MESSAGE * c.loop-index.index) _ _ _ _ refl c.loop-index.invariant.left (search rules) c.loop-index.invariant.written c.in_ok-write_all.ensures.bytes;
   room = c.in_ok-end.ensures.room;
   left = hundred_more c.args.rows.now c.loop-index.rows _ c.loop-index.index c.loop-index.invariant.left c.in_ok-end.ensures.passes;
 }
@@ -24,7 +24,7 @@ loop-index-preserved g c = record {
 pub returns-clause-ok : goal.returns-clause-ok
 returns-clause-ok g c =
     let plan = c.args.plan.now in
-    let message = message_of_rows plan c.args.export_time c.args.rows.now in
+    let message = message_of_rows_in c.args.intervals plan c.args.export_time c.args.rows.now in
     let all : c.loop-index.index ≡ message_count c.args.rows.now = omega arith in
     let written = subst (λ (n : ℕ). Appends (g.W.Write.contents c.write_template.new.out) (g.W.Write.contents c.loop-index.out) (flat_map message (range_with_len 0 n))) all c.loop-index.invariant.written in
     Appends-trans _ _ _ (template_message plan c.args.export_time) _ c.in_ok-write_template.ensures.ok written

@@ -1,4 +1,4 @@
-use Rattle.std.proofs.Common.{◌≡◌, ℕ, true, length, refl, rules}
+use Rattle.std.proofs.Common.{◌≡◌, true, length, refl, rules}
 use Rattle.flow_export.specs.Shown.{is_mapped}
 use Rattle.flow_export.proofs.ShownKeys.{last_four}
 use Rattle.flow_export.proofs.shown_cell.unmapped.Goals as goal

@@ -7,9 +7,9 @@ use Rattle.laws_merge.proofs.HeldExports.{adds_own, own_fault}
 use Rattle.laws_merge.proofs.laws.exports_are_added_whole.Goals as goal
 
 pub returns-clause-added : goal.returns-clause-added
-returns-clause-added g c = λ limit before after old new rows own held adds.
+returns-clause-added g c = λ limit before after old new rows own held of_plan adds.
     subst (λ (more : List RowValue). StandsFor new (rows ++ more)) (sym held.rows_are)
-    (adds_own g.S.Source.seen limit before after (g.met.S.Source.ended_is_end after) (merging_plan old) held.records held.holds old new rows refl adds)
+    (adds_own g.S.Source.seen limit before after (g.met.S.Source.ended_is_end after) (merging_plan old) held.records held.holds old new rows refl of_plan adds)
 
 pub returns-clause-fault : goal.returns-clause-fault
 returns-clause-fault g c = λ limit before after plan rows own fault held due.

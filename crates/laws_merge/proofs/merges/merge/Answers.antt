@@ -9,7 +9,8 @@ use Rattle.flow_table.specs.Plans.{PlanValue}
 use Rattle.flow_table.specs.Tables.{IsTable}
 use Rattle.flow_table.specs.declared.table.Table.{Table}
 use Rattle.flow_table.proofs.TablesAdded.{too_large_both}
-use Rattle.flow_merge.specs.Merging.{all_of, AddsAllUp, GiveExports, HasRowsOf, merging_plan}
+use Rattle.flow_merge.specs.Merging.{all_of, AddsAllUp, GiveExports, HasRowsOf, IsDueIn, merging_plan}
+use Rattle.flow_export.specs.declared.intervals.Intervals.{Intervals}
 use Rattle.laws_merge.specs.Exports.{AreExportsOf, StopsAt}
 use Rattle.flow_merge.specs.declared.merge_fault.MergeFault.{MergeFault}
 use Rattle.laws_merge.proofs.HeldExports.{adds_own, own_fault}
@@ -17,14 +18,14 @@ use Rattle.laws_merge.proofs.MergesOn.{merged_all, merged_on, none_merged, read_
 use Rattle.laws_merge.proofs.merges.merge.Goals as goal
 
 pub loop-source-init : goal.loop-source-init
-loop-source-init g c = none_merged g.S.Source.seen c.args.plan.now c.args.limit c.from_vec-waiting.result.items c.in_ok-merging.merging c.in_ok-merging.ensures.plan c.in_ok-merging.ensures.empty
+loop-source-init g c = none_merged g.S.Source.seen c.args.plan.now c.args.limit c.from_vec-waiting.result.items c.in_ok-merging.merging c.in_ok-merging.ensures.plan c.in_ok-merging.ensures.intervals c.in_ok-merging.ensures.empty
 
 pub loop-source-preserved : goal.loop-source-preserved
 loop-source-preserved g c =
     merged_on g.S.Source.seen c.args.plan.now c.args.limit c.from_vec-waiting.result.items c.loop-source.waiting.items c.in-Some.source c.pop_front.new.self.items c.loop-source.merging c.in_ok-merging-2.merging c.read.new.source
-    c.in-Some.ensures.items c.loop-source.invariant c.in_ok-merging-2.ensures.plan c.in_ok-merging-2.ensures.ok
-    (λ rows rs holds stands. adds_own g.S.Source.seen c.args.limit c.in-Some.source c.read.new.source (g.met.S.Source.ended_is_end c.read.new.source) (merging_plan c.loop-source.merging) rs holds c.loop-source.merging c.in_ok-merging-2.merging rows
-    refl (c.in_ok-merging-2.ensures.ok rows stands))
+    c.in-Some.ensures.items c.loop-source.invariant c.in_ok-merging-2.ensures.plan c.in_ok-merging-2.ensures.intervals c.in_ok-merging-2.ensures.ok
+    (λ of_plan rows rs holds stands. adds_own g.S.Source.seen c.args.limit c.in-Some.source c.read.new.source (g.met.S.Source.ended_is_end c.read.new.source) (merging_plan c.loop-source.merging) rs holds c.loop-source.merging c.in_ok-merging-2.merging rows
+    refl of_plan (c.in_ok-merging-2.ensures.ok rows stands))
 
 err_due : (answer : Result Table MergeFault) (fault : MergeFault) (P : MergeFault → Type 0) → IsErrAnd answer (λ e. e ≡ fault) → P fault → IfErr answer P
 err_due (Ok table) fault P is due = tt
@@ -35,8 +36,8 @@ returns-in_err-merging-2-clause-fault g c = λ lists h.
     err_due c.from_residual-in_err-merging-2.result c.in_err-merging-2.field-0.0 _ c.from_residual-in_err-merging-2.ensures.1
     (refused_on g.S.Source.seen c.args.plan.now c.args.limit c.from_vec-waiting.result.items c.loop-source.waiting.items c.in-Some.source c.pop_front.new.self.items c.loop-source.merging c.in_err-merging-2.field-0.0
     c.in-Some.ensures.items c.loop-source.invariant
-    (λ rows rs holds stands. own_fault g.S.Source.seen c.args.limit c.in-Some.source c.read.new.source (g.met.S.Source.ended_is_end c.read.new.source) (merging_plan c.loop-source.merging) rs holds rows c.in_err-merging-2.field-0.0
-    (c.in_err-merging-2.ensures.fault rows stands))
+    (λ of_plan rows rs holds stands. own_fault g.S.Source.seen c.args.limit c.in-Some.source c.read.new.source (g.met.S.Source.ended_is_end c.read.new.source) (merging_plan c.loop-source.merging) rs holds rows c.in_err-merging-2.field-0.0
+    (subst (λ (i : Intervals). IsDueIn g.S.Source.seen c.args.limit i (merging_plan c.loop-source.merging) rows c.in-Some.source c.read.new.source c.in_err-merging-2.field-0.0) of_plan (c.in_err-merging-2.ensures.fault rows stands)))
     lists (subst (λ (l : List g.row.S.Denot). AreExportsOf g.S.Source.seen c.args.plan.now l lists) (sym c.from_vec-waiting.ensures.items) h))
 
 pub returns-in_err-merging-2-clause-stops : goal.returns-in_err-merging-2-clause-stops

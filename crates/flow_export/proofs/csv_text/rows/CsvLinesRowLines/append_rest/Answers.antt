@@ -9,5 +9,5 @@ append_cells-requires c =
 
 pub returns : goal.returns
 returns c = λ before front.
-    line_appended c.args.plan.now c.args.row.now c.keys.result.now c.deref.result.now c.deref-2.result.now before _ _ _ _ _ c.keys.ensures.value c.deref.ensures.value c.deref-2.ensures.value front
+    line_appended c.args.self.now.intervals c.args.plan.now c.args.row.now c.keys.result.now c.deref.result.now c.deref-2.result.now before _ _ _ _ _ c.keys.ensures.value c.deref.ensures.value c.deref-2.ensures.value front
     c.in_ok-append_cells.ensures c.in_ok-append_numbers.ensures c.in_ok-append_next_number.ensures c.in_ok-push.ensures.items

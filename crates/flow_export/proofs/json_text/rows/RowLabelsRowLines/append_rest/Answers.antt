@@ -16,6 +16,6 @@ append_sums-requires c =
 
 pub returns : goal.returns
 returns c = λ before front.
-    object_appended c.args.plan.now c.args.self.now c.args.row.now c.deref.result.now c.deref-3.result.now c.keys.result.now c.deref-2.result.now c.deref-4.result.now before _ _ _ _ _
+    object_appended c.args.self.now.intervals c.args.plan.now c.args.self.now c.args.row.now c.deref.result.now c.deref-3.result.now c.keys.result.now c.deref-2.result.now c.deref-4.result.now before _ _ _ _ _
     c.requires.made c.requires.fits c.deref.ensures.value c.keys.ensures.value c.deref-3.ensures.value c.deref-2.ensures.value c.deref-4.ensures.value front
     c.in_ok-append_cells.ensures c.in_ok-append_sums.ensures c.in_ok-append_member.ensures c.in_ok-extend_from_slice.ensures.items
