@@ -23,7 +23,7 @@ use Rattle.flow_collect.specs.Refusals.{AreTooLarge, AreTooLargeInContext}
 use Rattle.flow_collect.specs.Texts.{AreTexts}
 use Rattle.flow_collect.specs.declared.fault.CollectFault.{CollectFault}
 use Rattle.flow_collect.specs.declared.session_context.InContext.{InContext}
-use Rattle.flow_collect.specs.declared.session_context.TheConstants.{NO_CONTEXT}
+use Rattle.flow_collect.specs.declared.session_context.TheConstants.{NOTHING_WANTED}
 use Rattle.flow_collect.proofs.Contexts.{IsUnwanted, first_in_context, given_plain, records_plain, too_large_plain, whole_in_context}
 use Rattle.flow_collect.proofs.InFull.{given_short, short_sessions}
 use Rattle.flow_export.specs.declared.fault.ExportFault.{ExportFault}
@@ -47,14 +47,14 @@ pub record IsPlain {S : Type 0} (given : List (InContext S)) (sources : List S) 
   pub sources_are : sources_of given ≡ sources
   pub unwanted : All IsUnwanted given
 
-pub plainly_given : {S : Type 0} (job : CollectJob) (sources : List S) (origins : List Origin) → job.wanted ≡ NO_CONTEXT.wanted → job.filter ≡ None → IsPlain (in_context job sources origins) sources
-plainly_given job sources origins none all = each job sources job.exporters.now origins none all
+pub plainly_given : {S : Type 0} (job : CollectJob) (sources : List S) (origins : List Origin) → job.wanted ≡ NOTHING_WANTED → job.maps ≡ None → job.filter ≡ None → IsPlain (in_context job sources origins) sources
+plainly_given job sources origins none unmapped all = each job sources job.exporters.now origins none unmapped all
   where
-    each : {S : Type 0} (job : CollectJob) (sources : List S) (told : List (Option IpAddr)) (origins : List Origin) → job.wanted ≡ NO_CONTEXT.wanted → job.filter ≡ None → IsPlain (in_places job sources told origins) sources
-    each job [] told origins none all = record { sources_are = refl; unwanted = All-nil IsUnwanted }
-    each job (s ∷ sources) told origins none all =
-        let rest = each job sources (others_told told) (other_origins origins) none all in
-        record { sources_are = ap (λ (l : List _). s ∷ l) rest.sources_are; unwanted = All-cons IsUnwanted _ _ (none, all) rest.unwanted }
+    each : {S : Type 0} (job : CollectJob) (sources : List S) (told : List (Option IpAddr)) (origins : List Origin) → job.wanted ≡ NOTHING_WANTED → job.maps ≡ None → job.filter ≡ None → IsPlain (in_places job sources told origins) sources
+    each job [] told origins none unmapped all = record { sources_are = refl; unwanted = All-nil IsUnwanted }
+    each job (s ∷ sources) told origins none unmapped all =
+        let rest = each job sources (others_told told) (other_origins origins) none unmapped all in
+        record { sources_are = ap (λ (l : List _). s ∷ l) rest.sources_are; unwanted = All-cons IsUnwanted _ _ (none, refl, unmapped, all) rest.unwanted }
 
 -- the same run, with reports that aren't in full
 abbrev pub short_run : {S : Type 0} → FullSerialAnswer S → SerialAnswer S

@@ -4,8 +4,9 @@ ghost use Rattle.std.specs.Prelude.{◌≡◌, None};
 
 use crate::engine::Engine;
 use element_registry::Elements;
-use flow_collect::NO_CONTEXT;
+use flow_collect::NOTHING_WANTED;
 use flow_filter::Filter;
+use flow_maps::Maps;
 use flow_table::{Context, Plan};
 use output_tables::Output;
 use report_writing::{NOTHING_MORE, Verbosity};
@@ -27,6 +28,8 @@ pub struct CollectJob<'a> {
     pub verbosity: Verbosity,
     /// Which elements of context records get: those that the plan's keys and its conditions name.
     pub wanted: Context,
+    /// The keys whose values are numbers of maps, where the plan has some.
+    pub maps: Option<&'a Maps>,
     /// Which records count, where the plan has conditions.
     pub filter: Option<&'a Filter>,
     /// The exporter that is told of each session, if one is, by its place. Of a connection it is the peer if none is
@@ -35,14 +38,15 @@ pub struct CollectJob<'a> {
 }
 
 impl<'a> CollectJob<'a> {
-    /// One that tells nothing more, wants no context, and has no filter.
+    /// One that tells nothing more, wants no context, and has no maps and no filter.
     pub fn plain(elements: &'a Elements, plan: &'a Plan, engine: Engine, output: Output) -> Self
         ensures elements { result.elements.now ≡ elements.now }
         ensures plan { result.plan.now ≡ plan.now }
         ensures engine { result.engine ≡ engine }
         ensures output { result.output ≡ output }
         ensures verbosity { result.verbosity ≡ NOTHING_MORE }
-        ensures wanted { result.wanted ≡ NO_CONTEXT.wanted }
+        ensures wanted { result.wanted ≡ NOTHING_WANTED }
+        ensures maps { result.maps ≡ None }
         ensures filter { result.filter ≡ None }
     {
         CollectJob {
@@ -51,7 +55,8 @@ impl<'a> CollectJob<'a> {
             engine,
             output,
             verbosity: NOTHING_MORE,
-            wanted: NO_CONTEXT.wanted,
+            wanted: NOTHING_WANTED,
+            maps: None,
             filter: None,
             exporters: &[],
         }

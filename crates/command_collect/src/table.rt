@@ -19,6 +19,7 @@ use crate::gathered::{Gathered, gather};
 use crate::job::CollectJob;
 use element_registry::Elements;
 use flow_collect::{CollectFault, Pool};
+use flow_export::{AnyTable, Intervals};
 use flow_table::Plan;
 use ipfix_session::Source;
 use output_tables::{Output, export, write_export_fault};
@@ -88,8 +89,8 @@ pub fn run_with<S: Source + Send + Drop, W: Write, E: WriteLines, R: Threads + W
             return Status::Failed;
         }
     };
-    let table = &gathered.run.table;
-    if let Err(fault) = export(alloc, job.elements, job.plan, table, job.output, out) {
+    let table = AnyTable::Flat(&gathered.run.table, Intervals::OfPlan);
+    if let Err(fault) = export(alloc, job.elements, job.plan, &table, job.output, out) {
         let _ = write_export_fault(fault, err);
         return Status::Failed;
     }

@@ -1,5 +1,5 @@
 -- Sessions in context, and which of their records count.
-use Rattle.std.proofs.Common.{◌≡◌, ℕ, Bool, true, List, [], ◌∷◌, ◌++◌, filter, Option, None, Some, Result, Err, refl, sym, ap, ◌∙◌, subst, map, append-nil, inl, inr}
+use Rattle.std.proofs.Common.{◌≡◌, ℕ, Bool, ◌||◌, true, List, [], ◌∷◌, ◌++◌, filter, Option, None, Some, Result, Err, refl, sym, ap, ◌∙◌, subst, map, append-nil, inl, inr}
 use Rattle.std.specs.Prelude.{◌⊎◌, All, IfNone, IfSome, IsSome, Vec, vec_len}
 use Rattle.std.specs.Borrow.{Bor}
 use Rattle.std.specs.Int.{w32, to_be_bytes}
@@ -16,15 +16,20 @@ use Rattle.ipfix_session.specs.Sinks.{SinkView}
 use Rattle.ipfix_session.specs.Sources.{SourceView}
 use Rattle.ipfix_session.specs.declared.stop.Stop.TheVariants.{Clean}
 use Rattle.ipfix_session.proofs.Driven.{given_all_of}
+use Rattle.exporter_options.specs.Beside.{Asked, all_told, asked_first, asked_next, with_told}
+use Rattle.exporter_options.proofs.Wants.{told_append, unwanted_all}
 use Rattle.flow_filter.specs.Sinks.{counted, left_out, is_let_by, TakesCounted}
 use Rattle.flow_filter.specs.declared.filter.Filter.{Filter}
 use Rattle.flow_filter.specs.declared.sink.FilterSink.{FilterSink}
+use Rattle.flow_maps.specs.Numbers.{if_mapped}
 use Rattle.flow_filter.proofs.Chains.{counted_chain, left_out_new}
 use Rattle.flow_table.specs.Bags.{IsSameBag}
 use Rattle.flow_table.specs.Plans.{PlanValue}
 use Rattle.flow_table.specs.Tables.{IsTooLarge}
 use Rattle.flow_table.proofs.Bags.{too_large_bag}
-use Rattle.flow_collect.specs.Contexts.{alone, all_in_context, all_with_context, counted_in, left_out_in, named, origin_fields, records_in_context, sources_of, with_context}
+use Rattle.flow_collect.specs.Contexts.{alone, all_in_context, all_with_context, counted_in, left_out_in, named, origin_fields, records_in_context, sources_of, with_context, with_fields, context_fields}
+use Rattle.exporter_options.specs.declared.beside.Wanted.{Wanted}
+use Rattle.exporter_options.specs.declared.beside.TheConstants as options
 use Rattle.flow_collect.specs.Headline.{all_of}
 use Rattle.flow_collect.specs.InFull.{fulls_in, IsGivenInContext, IsGivenInFull}
 use Rattle.flow_collect.specs.Places.{Each4}
@@ -40,19 +45,24 @@ use Rattle.flow_collect.specs.declared.session_context.Exporter.{Exporter}
 use Rattle.flow_collect.specs.declared.session_context.Exporter.TheVariants.{Ipv4, Ipv6}
 use Rattle.flow_collect.specs.declared.session_context.InContext.{InContext}
 use Rattle.flow_collect.specs.declared.session_context.SessionContext.{SessionContext}
-use Rattle.flow_collect.specs.declared.session_context.TheConstants.{NO_CONTEXT}
+use Rattle.flow_collect.specs.declared.session_context.TheConstants.{NOTHING_WANTED}
 use Rattle.flow_collect.proofs.GivenLists.{first_of_text, too_large_lists}
 
 -- ---- a sink that appends
 
+-- records with what a session knows, of which options records told so much before the first
+abbrev pub all_from : Asked → SessionContext → List DataRecord → List DataRecord
+all_from told c q = map (with_context c) (all_told told q)
+
 module _ {K : Type 0} (took : K → DataRecord → K → Type 0) where
   abbrev pub TakesInContext : ContextSink K → DataRecord → ContextSink K → Type 0
-  TakesInContext before item after = IsSome after.lost ⊎ ((before.lost ≡ None) × (after.context ≡ before.context) × took before.sink (with_context before.context item) after.sink)
+  TakesInContext before item after =
+      IsSome after.lost ⊎ ((before.lost ≡ None) × (after.told ≡ asked_next before.told item) × (after.context ≡ before.context) × took before.sink (with_context before.context (with_told before.told item)) after.sink)
 
   -- a chain that lost nothing
   pub record Kept (first : ContextSink K) (q : List DataRecord) (last : ContextSink K) : Type 0 where
     pub none_lost : first.lost ≡ None
-    pub chain : FoldsTo took first.sink (all_with_context first.context q) last.sink
+    pub chain : FoldsTo took first.sink (all_from first.told first.context q) last.sink
 
   pub kept : (first last : ContextSink K) (q : List DataRecord) → FoldsTo TakesInContext first q last → last.lost ≡ None → Kept first q last
   kept first last [] is none = record { none_lost = ap (λ (s : ContextSink K). s.lost) is ∙ none; chain = ap (λ (s : ContextSink K). s.sink) is }
@@ -62,7 +72,12 @@ module _ {K : Type 0} (took : K → DataRecord → K → Type 0) where
         | inl lost ↦ absurd (false≢true (subst IsSome rest.none_lost lost))
         | inr one ↦ record {
           none_lost = one.0;
-          chain = (c.0.sink, one.2, subst (λ (k : SessionContext). FoldsTo took c.0.sink (all_with_context k q) last.sink) one.1 rest.chain);
+          chain = (
+            c.0.sink,
+            one.3,
+            subst (λ (k : SessionContext). FoldsTo took c.0.sink (all_from (asked_next first.told x) k q) last.sink) one.2
+                (subst (λ (t : Asked). FoldsTo took c.0.sink (all_from t c.0.context q) last.sink) one.1 rest.chain),
+          );
         }
       ]
 
@@ -70,33 +85,39 @@ module _ {K : Type 0} (took : K → DataRecord → K → Type 0) where
 
 module _ {S K : Type 0} (view : SinkView K) where
   -- it took those that count, and the others were left out
-  pub kept_counted : (s : InContext S) (first last : ContextSink (FilterSink K)) (q : List DataRecord) → first.context ≡ s.context → first.sink.filter ≡ s.filter → first.sink.filtered ≡ 0
+  pub kept_counted : (s : InContext S) (first last : ContextSink (FilterSink K)) (q : List DataRecord) → first.told ≡ asked_first s.context.options → first.context ≡ s.context → first.sink.filter ≡ s.filter → first.sink.filtered ≡ 0
       → FoldsTo (TakesInContext (TakesCounted view)) first q last → last.lost ≡ None
       → FoldsTo view.took first.sink.sink (counted_in s q) last.sink.sink × (last.sink.filtered ≡ left_out_in s q)
-  kept_counted s first last q context same none c lost =
+  kept_counted s first last q told context same none c lost =
       let keep = kept (TakesCounted view) first last q c lost in
-      let there = subst (λ (k : SessionContext). FoldsTo (TakesCounted view) first.sink (all_with_context k q) last.sink) context keep.chain in (
+      let there = subst (λ (k : SessionContext). FoldsTo (TakesCounted view) first.sink (all_from (asked_first s.context.options) k q) last.sink) context
+      (subst (λ (t : Asked). FoldsTo (TakesCounted view) first.sink (all_from t first.context q) last.sink) told keep.chain) in (
         counted_chain view s.filter (all_with_context s.context q) first.sink last.sink same there,
         left_out_new view first.sink last.sink (all_with_context s.context q) none there ∙ ap (λ f. left_out f (all_with_context s.context q)) same,
       )
 
 -- ---- nothing is wanted, and all count
 
-fields_unwanted : (wanted : Context) (exporter : Option Exporter) (domain : List ℕ) → wanted ≡ NO_CONTEXT.wanted → origin_fields wanted exporter ++ named wanted.observation_domain_id OBSERVATION_DOMAIN_ID domain ≡ []
+fields_unwanted : (wanted : Context) (exporter : Option Exporter) (domain : List ℕ) → wanted ≡ NOTHING_WANTED → origin_fields wanted exporter ++ named wanted.observation_domain_id OBSERVATION_DOMAIN_ID domain ≡ []
 fields_unwanted wanted None domain none = rw none refl
 fields_unwanted wanted (Some (Ipv4 a)) domain none = rw none refl
 fields_unwanted wanted (Some (Ipv6 a)) domain none = rw none refl
 
-with_unwanted : (c : SessionContext) (r : DataRecord) → c.wanted ≡ NO_CONTEXT.wanted → with_context c r ≡ r
-with_unwanted c r none =
-    ap (λ (fields : List Field). record { domain = r.domain; export_time = r.export_time; template = r.template; scope = r.scope; fields = fields })
-    (ap (λ (l : List Field). r.fields ++ l) (fields_unwanted c.wanted c.exporter (to_be_bytes w32 r.domain) none) ∙ append-nil r.fields)
+with_unwanted : (c : SessionContext) (r : DataRecord) → c.wanted ≡ NOTHING_WANTED → c.maps ≡ None → with_context c r ≡ r
+with_unwanted c r none unmapped =
+    ap (λ m. with_fields r (if_mapped m (r.fields ++ context_fields c r.domain))) unmapped
+    ∙ ap (with_fields r) (ap (λ (l : List Field). r.fields ++ l) (fields_unwanted c.wanted c.exporter (to_be_bytes w32 r.domain) none) ∙ append-nil r.fields)
 
-all_with_unwanted : (c : SessionContext) (q : List DataRecord) → c.wanted ≡ NO_CONTEXT.wanted → all_with_context c q ≡ q
-all_with_unwanted c [] none = refl
-all_with_unwanted c (r ∷ q) none =
-    let first = with_unwanted c r none in
-    let rest = all_with_unwanted c q none in cc
+map_unwanted : (c : SessionContext) (q : List DataRecord) → c.wanted ≡ NOTHING_WANTED → c.maps ≡ None → map (with_context c) q ≡ q
+map_unwanted c [] none unmapped = refl
+map_unwanted c (r ∷ q) none unmapped =
+    let first = with_unwanted c r none unmapped in
+    let rest = map_unwanted c q none unmapped in cc
+
+all_with_unwanted : (c : SessionContext) (q : List DataRecord) → c.wanted ≡ NOTHING_WANTED → c.options ≡ options.NOTHING_WANTED → c.maps ≡ None → all_with_context c q ≡ q
+all_with_unwanted c q none untold unmapped =
+    let nothing = ap (λ (w : Wanted). w.init_time || w.sampling) untold in
+    ap (map (with_context c)) (unwanted_all (asked_first c.options) q nothing) ∙ map_unwanted c q none unmapped
 
 counted_all : (q : List DataRecord) → counted None q ≡ q
 counted_all [] = refl
@@ -104,11 +125,11 @@ counted_all (r ∷ q) = ap (λ (l : List DataRecord). r ∷ l) (counted_all q)
 
 -- nothing is wanted of what the session of a source knows, and all of its records count
 abbrev pub IsUnwanted : {S : Type 0} → InContext S → Type 0
-IsUnwanted s = (s.context.wanted ≡ NO_CONTEXT.wanted) × (s.filter ≡ None)
+IsUnwanted s = (s.context.wanted ≡ NOTHING_WANTED) × (s.context.options ≡ options.NOTHING_WANTED) × (s.context.maps ≡ None) × (s.filter ≡ None)
 
 pub counted_unwanted : {S : Type 0} (s : InContext S) (q : List DataRecord) → IsUnwanted s → counted_in s q ≡ q
 counted_unwanted s q none =
-    ap (λ f. counted f (all_with_context s.context q)) none.1 ∙ counted_all (all_with_context s.context q) ∙ all_with_unwanted s.context q none.0
+    ap (λ f. counted f (all_with_context s.context q)) none.3 ∙ counted_all (all_with_context s.context q) ∙ all_with_unwanted s.context q none.0 none.1 none.2
 
 pub records_plain : {S : Type 0} (given : List (InContext S)) (texts : List (List ℕ)) (Reads : S → List ℕ → Type 0) → All IsUnwanted given → AllZip Reads (sources_of given) texts → records_in_context given texts ≡ map records_of texts
 records_plain [] [] Reads none t = refl
@@ -129,7 +150,7 @@ module _ {S : Type 0} where
 
   alone_unwanted : (sources : List S) → All IsUnwanted (map alone sources)
   alone_unwanted [] = All-nil IsUnwanted
-  alone_unwanted (s ∷ sources) = All-cons IsUnwanted (alone s) (map alone sources) (refl, refl) (alone_unwanted sources)
+  alone_unwanted (s ∷ sources) = All-cons IsUnwanted (alone s) (map alone sources) (refl, refl, refl, refl) (alone_unwanted sources)
 
 -- ---- all sessions
 
@@ -138,6 +159,11 @@ prefix_filter p xs ys h = (filter p h.0, ap (filter p) h.1 ∙ filter-append p x
 
 prefix_map : {X Y : Type 0} (f : X → Y) (xs ys : List X) → IsPrefix xs ys → IsPrefix (map f xs) (map f ys)
 prefix_map f xs ys p = (map f p.0, ap (map f) p.1 ∙ map-append f xs p.0)
+
+prefix_told : (told : Asked) (xs ys : List DataRecord) → IsPrefix xs ys → IsPrefix (all_told told xs) (all_told told ys)
+prefix_told told xs ys p =
+    let rest = told_append told xs p.0 in
+    (all_told rest.0 p.0, ap (all_told told) p.1 ∙ rest.1)
 
 module _ {S : Type 0} (seen : S → SourceView) where
   -- without what sessions know
@@ -203,7 +229,7 @@ module _ {S : Type 0} (seen : S → SourceView) where
   first_in_context [] [] [] [] [] e t = tt
   first_in_context (s ∷ befores) (a ∷ afters) (f ∷ fulls) (q ∷ qs) (text ∷ texts) e t =
       let own = first_of_text seen s.source a f.full.report e.0.own text e.0.given.given t.0 in
-      let here = prefix_filter (is_let_by s.filter) _ _ (prefix_map (with_context s.context) e.0.own (records_of text) own) in
+      let here = prefix_filter (is_let_by s.filter) _ _ (prefix_map (with_context s.context) _ _ (prefix_told (asked_first s.context.options) e.0.own (records_of text) own)) in
       (subst (λ (l : List DataRecord). IsPrefix l (counted_in s (records_of text))) (sym e.0.records_are) here, first_in_context befores afters fulls qs texts e.1 t.1)
   first_in_context [] [] [] [] (text ∷ texts) e t = absurd t
   first_in_context (s ∷ befores) (a ∷ afters) (f ∷ fulls) (q ∷ qs) [] e t = absurd t

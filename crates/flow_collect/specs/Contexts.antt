@@ -9,14 +9,17 @@ use Rattle.ipfix_wire.specs.declared.specifier.ElementId.{ElementId}
 use Rattle.ipfix_message.specs.Fields.{Field}
 use Rattle.ipfix_message.specs.declared.record.DataRecord.{DataRecord}
 use Rattle.ipfix_session.specs.Given.{records_of}
+use Rattle.exporter_options.specs.Beside.{all_told, asked_first}
 use Rattle.flow_filter.specs.Sinks.{counted, left_out}
+use Rattle.flow_maps.specs.Numbers.{if_mapped}
+use Rattle.exporter_options.specs.declared.beside.TheConstants as told
 use Rattle.flow_table.specs.declared.context.Context.{Context}
 use Rattle.flow_table.specs.declared.context.TheConstants.{EXPORTER, EXPORTER_IPV4_ADDRESS, EXPORTER_IPV6_ADDRESS, OBSERVATION_DOMAIN_ID}
 use Rattle.flow_collect.specs.declared.session_context.Exporter.{Exporter}
 use Rattle.flow_collect.specs.declared.session_context.Exporter.TheVariants.{Ipv4, Ipv6}
 use Rattle.flow_collect.specs.declared.session_context.InContext.{InContext}
 use Rattle.flow_collect.specs.declared.session_context.SessionContext.{SessionContext}
-use Rattle.flow_collect.specs.declared.session_context.TheConstants.{NO_CONTEXT}
+use Rattle.flow_collect.specs.declared.session_context.TheConstants.{NOTHING_WANTED}
 
 -- an IPv4 address a.b.c.d is ::ffff:a.b.c.d in IPv6 (RFC 4291, section 2.5.5.2)
 abbrev pub mapped : List ℕ → List ℕ
@@ -48,13 +51,25 @@ origin_fields wanted (Some exporter) = exporter_fields wanted exporter
 abbrev pub context_fields : SessionContext → ℕ → List Field
 context_fields c domain = origin_fields c.wanted c.exporter ++ named c.wanted.observation_domain_id OBSERVATION_DOMAIN_ID (to_be_bytes w32 domain)
 
--- a record with these fields after its own: the first field of an element wins, so a field of the record stays what it is
-abbrev pub with_context : SessionContext → DataRecord → DataRecord
-with_context c r =
-    record { domain = r.domain; export_time = r.export_time; template = r.template; scope = r.scope; fields = r.fields ++ context_fields c r.domain }
+-- a record with other fields
+abbrev pub with_fields : DataRecord → List Field → DataRecord
+with_fields r fields = record { domain = r.domain; export_time = r.export_time; template = r.template; scope = r.scope; fields = fields }
 
+-- a record with these fields after its own: the first field of an element wins, so a field of the record stays what it is
+abbrev pub with_session : SessionContext → DataRecord → DataRecord
+with_session c r = with_fields r (r.fields ++ context_fields c r.domain)
+
+-- and then with the numbers of maps
+abbrev pub with_context : SessionContext → DataRecord → DataRecord
+with_context c r = with_fields r (if_mapped c.maps (r.fields ++ context_fields c r.domain))
+
+-- a session's records: before these fields each has those of what options records told before it, as far as it is wanted
 abbrev pub all_with_context : SessionContext → List DataRecord → List DataRecord
-all_with_context c records = map (with_context c) records
+all_with_context c records = map (with_context c) (all_told (asked_first c.options) records)
+
+-- nothing is known, and nothing is wanted
+abbrev pub nothing_known : SessionContext
+nothing_known = record { exporter = None; wanted = NOTHING_WANTED; options = told.NOTHING_WANTED; maps = None }
 
 module _ {S : Type 0} where
   abbrev pub sources_of : List (InContext S) → List S
@@ -62,7 +77,7 @@ module _ {S : Type 0} where
 
   -- a source of whose session nothing is known beside its records, which all count
   abbrev pub alone : S → InContext S
-  alone source = record { source = source; context = NO_CONTEXT; filter = None }
+  alone source = record { source = source; context = nothing_known; filter = None }
 
   -- those of a session's own records that its filter counts, each with what the session knows
   abbrev pub counted_in : InContext S → List DataRecord → List DataRecord

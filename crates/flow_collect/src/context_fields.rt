@@ -1,9 +1,10 @@
 //! The fields that a session appends to its records, made once for all records of a domain.
 
-ghost use Rattle.std.specs.Prelude.{◌≡◌, IfOk, OnErr, OnOk};
-ghost use Rattle.flow_collect.specs.Contexts.{with_context};
+ghost use Rattle.std.specs.Prelude.{◌≡◌, None, IfOk, OnErr, OnOk};
+ghost use Rattle.flow_collect.specs.Contexts.{with_context, with_session};
 
 use crate::session_context::SessionContext;
+use flow_maps::append_numbers;
 use ipfix_message::{DataRecord, SharedFields};
 use std::alloc::{AllocError, Global};
 use std::marker::Model;
@@ -11,14 +12,14 @@ use std::marker::Model;
 /// What a session knows beside its records, and the fields that say so of the domain of its latest record.
 /// Contracts see what it knows.
 #[derive(Drop)]
-pub struct ContextFields {
+pub struct ContextFields<'a> {
     alloc: Global,
-    context: SessionContext,
+    context: SessionContext<'a>,
     domain: u32,
     fields: SharedFields,
 }
 
-impl Model for ContextFields {
+impl<'a> Model for ContextFields<'a> {
     ghost use Rattle.std.specs.Prelude.{◌≡◌};
     ghost use Rattle.flow_collect.specs.Contexts.{context_fields};
     ghost use Rattle.flow_collect.specs.declared.session_context.SessionContext.{SessionContext};
@@ -30,10 +31,10 @@ impl Model for ContextFields {
     ghost invariant = { λ f. f.fields ≡ context_fields f.context f.domain };
 }
 
-impl ContextFields {
+impl<'a> ContextFields<'a> {
     /// Those of a session with this context.
-    pub fn new(alloc: Global, context: SessionContext) -> Result<Self, AllocError>
-        ensures { IfOk result (λ f. f ≡ context) }
+    pub fn new(alloc: Global, context: SessionContext<'a>) -> Result<Self, AllocError>
+        ensures { IfOk result (λ f. f ≡ context.entry) }
     {
         let domain = 0;
         let fields = context.fields(alloc, domain)?.to_shared()?;
@@ -45,10 +46,21 @@ impl ContextFields {
         })
     }
 
-    /// Appends them to a record.
+    /// Appends them to a record, and then the numbers of its maps. At an `Err` the record is as it was if there are no
+    /// maps.
     pub fn append(&mut self, item: &mut DataRecord) -> Result<(), AllocError>
         ensures kept { self.new ≡ self.old }
         ensures ok { OnOk result (item.new ≡ with_context self.old item.old) }
+        ensures err { self.old.maps ≡ None → OnErr result (item.new ≡ item.old) }
+    {
+        self.append_session(item)?;
+        append_numbers(self.alloc, self.context.maps, &mut item.fields)
+    }
+
+    // Appends what the session knows.
+    fn append_session(&mut self, item: &mut DataRecord) -> Result<(), AllocError>
+        ensures kept { self.new ≡ self.old }
+        ensures ok { OnOk result (item.new ≡ with_session self.old item.old) }
         ensures err { OnErr result (item.new ≡ item.old) }
     {
         if self.domain == item.domain {

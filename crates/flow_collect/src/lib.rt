@@ -31,5 +31,5 @@ pub use gate::{Gate, OpenGate};
 pub use ipfix_session::READ_LIMIT;
 pub use link_sink::LinkSink;
 pub use serial::collect_serial;
-pub use session_context::{Exporter, InContext, NO_CONTEXT, SessionContext};
+pub use session_context::{Exporter, InContext, NOTHING_WANTED, SessionContext, no_context};
 pub use without_rest::collect;

@@ -10,6 +10,7 @@ use crate::collected::FilteredReport;
 use crate::context_fields::ContextFields;
 use crate::context_sink::ContextSink;
 use crate::session_context::InContext;
+use exporter_options::ToldFields;
 use flow_filter::FilterSink;
 use flow_table::{Partial, Plan, TableFault};
 use ipfix_message::DataRecord;
@@ -133,7 +134,8 @@ fn drive_one<S: Source + Drop>(
     } = lot;
     let table = TableSink { partial };
     let fields = ContextFields::new(alloc, context)?;
-    let mut sink = ContextSink::new(fields, FilterSink::new(filter, table));
+    let told = ToldFields::new(alloc, context.options)?;
+    let mut sink = ContextSink::new(told, fields, FilterSink::new(filter, table));
     let full = drive_in_full(alloc, &mut source, &mut sink, READ_LIMIT);
     if sink.lost.is_some() || sink.refused > 0 {
         return Err(AllocError);

@@ -1,9 +1,11 @@
 //! What a session knows beside a record: whose it is, and its observation domain.
 
 ghost use Rattle.std.specs.Prelude.{◌≡◌, ◌≤◌, ◌++◌, length, map, IfOk, OnOk};
-ghost use Rattle.flow_collect.specs.Contexts.{alone, context_fields, exporter_at, exporter_fields, mapped, named};
+ghost use Rattle.flow_collect.specs.Contexts.{alone, nothing_known, context_fields, exporter_at, exporter_fields, mapped, named};
 
+use exporter_options::Wanted;
 use flow_filter::Filter;
+use flow_maps::Maps;
 use flow_table::{
     Context, EXPORTER, EXPORTER_IPV4_ADDRESS, EXPORTER_IPV6_ADDRESS, OBSERVATION_DOMAIN_ID,
 };
@@ -39,26 +41,39 @@ impl Exporter {
 }
 
 /// What a session knows beside a record.
-#[derive(Clone, Copy, Debug, PartialEq, Eq)]
-pub struct SessionContext {
+#[derive(Clone, Copy, Debug)]
+pub struct SessionContext<'a> {
     /// Whose session it is, if that is known.
     pub exporter: Option<Exporter>,
     /// Which elements are wanted of it.
     pub wanted: Context,
+    /// What is wanted of what its options records tell.
+    pub options: Wanted,
+    /// The keys whose values are numbers of maps, if there are some.
+    pub maps: Option<&'a Maps>,
 }
 
-/// That of which nothing is wanted.
-pub const NO_CONTEXT: SessionContext = SessionContext {
-    exporter: None,
-    wanted: Context {
-        exporter: false,
-        exporter_ipv4_address: false,
-        exporter_ipv6_address: false,
-        observation_domain_id: false,
-    },
+/// No elements of context.
+pub const NOTHING_WANTED: Context = Context {
+    exporter: false,
+    exporter_ipv4_address: false,
+    exporter_ipv6_address: false,
+    observation_domain_id: false,
 };
 
-impl SessionContext {
+/// That of which nothing is wanted.
+pub fn no_context<'a>() -> SessionContext<'a>
+    ensures { result ≡ nothing_known }
+{
+    SessionContext {
+        exporter: None,
+        wanted: NOTHING_WANTED,
+        options: exporter_options::NOTHING_WANTED,
+        maps: None,
+    }
+}
+
+impl<'a> SessionContext<'a> {
     /// The wanted fields of the records of an observation domain.
     pub fn fields(&self, alloc: Global, domain: u32) -> Result<Fields, AllocError>
         ensures { IfOk result (λ f. f ≡ context_fields self.now domain) }
@@ -135,7 +150,7 @@ fn mapped_octets(address: [u8; 4]) -> [u8; 16]
 #[derive(Drop)]
 pub struct InContext<'a, S> {
     pub source: S,
-    pub context: SessionContext,
+    pub context: SessionContext<'a>,
     /// Which records count, by their own fields and those of the context. Without a filter all do.
     pub filter: Option<&'a Filter>,
 }
@@ -152,7 +167,7 @@ pub fn in_no_context<'a, S: Drop>(
     while let Some(source) = waiting.pop_front() {
         all.push(InContext {
             source,
-            context: NO_CONTEXT,
+            context: no_context(),
             filter: None,
         })?;
     }

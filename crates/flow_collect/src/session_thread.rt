@@ -10,6 +10,7 @@ use crate::gate::Gate;
 use crate::link_sink::LinkSink;
 use crate::session_context::SessionContext;
 use crate::shortage::Shortage;
+use exporter_options::ToldFields;
 use flow_filter::{Filter, FilterSink};
 use flow_link::Sender;
 use ipfix_session::{READ_LIMIT, Source, drive_in_full};
@@ -23,7 +24,7 @@ pub struct Start<'a, S> {
     pub session: usize,
     pub source: S,
     /// What the session knows beside a record.
-    pub context: SessionContext,
+    pub context: SessionContext<'a>,
     /// Which of its records count.
     pub filter: Option<&'a Filter>,
     pub sender: Sender,
@@ -60,7 +61,8 @@ pub fn run_session<S: Source + Drop, G: Gate, R: Wait>(
     let mut source = source;
     let link = LinkSink::new(rt, gate, session, sender);
     let fields = ContextFields::new(alloc, context)?;
-    let mut sink = ContextSink::new(fields, FilterSink::new(filter, link));
+    let told = ToldFields::new(alloc, context.options)?;
+    let mut sink = ContextSink::new(told, fields, FilterSink::new(filter, link));
     let full = drive_in_full(alloc, &mut source, &mut sink, READ_LIMIT);
     let sent = sink.sink.sink.send_last();
     if let Some(shortage) = sink.lost {

@@ -2,9 +2,10 @@
 
 use super::texts::*;
 use element_registry::Elements;
+use exporter_options::NOTHING_WANTED;
 use flow_collect::{
-    ContextFields, Exporter, InContext, NO_CONTEXT, OpenGate, Pool, SessionContext, collect_direct,
-    collect_flat,
+    ContextFields, Exporter, InContext, OpenGate, Pool, SessionContext, collect_direct,
+    collect_flat, no_context,
 };
 use flow_table::{
     Choices, Context, EXPORTER, EXPORTER_IPV4_ADDRESS, EXPORTER_IPV6_ADDRESS, Key, Method,
@@ -92,6 +93,8 @@ fn fields_follow_the_records_own(rt: HostRuntime) -> Result<(), Fail> {
     let context = SessionContext {
         exporter: Some(Exporter::Ipv4(IPV4)),
         wanted: ALL,
+        options: NOTHING_WANTED,
+        maps: None,
     };
     ContextFields::new(rt.alloc(), context)?.append(&mut item)?;
     assert_eq!(rt; item.fields.len(), 4);
@@ -107,6 +110,8 @@ fn each_domain_has_its_own_fields(rt: HostRuntime) -> Result<(), Fail> {
     let context = SessionContext {
         exporter: None,
         wanted: ALL,
+        options: NOTHING_WANTED,
+        maps: None,
     };
     let mut fields = ContextFields::new(rt.alloc(), context)?;
     for domain in [7, 0, 7, 8] {
@@ -122,11 +127,13 @@ fn each_domain_has_its_own_fields(rt: HostRuntime) -> Result<(), Fail> {
 #[test]
 fn only_what_is_wanted_is_appended(rt: HostRuntime) -> Result<(), Fail> {
     let mut item = with_field_130(rt.alloc())?;
-    ContextFields::new(rt.alloc(), NO_CONTEXT)?.append(&mut item)?;
+    ContextFields::new(rt.alloc(), no_context())?.append(&mut item)?;
     assert_eq!(rt; item.fields.len(), 1);
     let of_ipv6 = SessionContext {
         exporter: Some(Exporter::Ipv6(IPV6)),
         wanted: ALL,
+        options: NOTHING_WANTED,
+        maps: None,
     };
     ContextFields::new(rt.alloc(), of_ipv6)?.append(&mut item)?;
     assert_eq!(rt; item.fields.len(), 4);
@@ -146,7 +153,12 @@ fn three_sessions(
         if let Some(source) = one.pop() {
             sources.push(InContext {
                 source,
-                context: SessionContext { exporter, wanted },
+                context: SessionContext {
+                    exporter,
+                    wanted,
+                    options: NOTHING_WANTED,
+                    maps: None,
+                },
                 filter: None,
             })?;
         }

@@ -12,7 +12,7 @@ loop-source-preserved g c =
     let inv = c.loop-source.invariant in (
       inv.0 ++ c.in-Some.source ∷ [],
       split_on _ inv.0 _ _ _ inv.1 c.in-Some.ensures.items,
-      c.in_ok-push.ensures.items ∙ ap (λ r. r ++ alone c.in-Some.source ∷ []) inv.2 ∙ sym (map_push alone inv.0 c.in-Some.source),
+      (rw c.no_context.ensures at c.in_ok-push.ensures.items) ∙ ap (λ r. r ++ alone c.in-Some.source ∷ []) inv.2 ∙ sym (map_push alone inv.0 c.in-Some.source),
     )
 
 pub returns : goal.returns
