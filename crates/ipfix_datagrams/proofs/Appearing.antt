@@ -44,6 +44,18 @@ knows-domain ds domain = by_cases (knows ds domain) refl
     by_cases true e = ap (λ (k : History). knows k domain) (with_known ds domain e) ∙ e
     by_cases false e = ap (λ (k : History). knows k domain) (with_new ds domain e) ∙ ap is_some (found_last ds domain e)
 
+-- and no other is that wasn't
+pub knows-domain_other : (ds : History) (domain q : ℕ) → eqb q domain ≡ false → knows (with_domain ds domain) q ≡ knows ds q
+knows-domain_other ds domain q other = by_cases (knows ds domain) refl
+  where
+    by_lookup : (o : Option (List Event)) → lookup (eqb q) ds ≡ o → is_some (lookup (eqb q) (ds ++ (domain, []) ∷ [])) ≡ is_some o
+    by_lookup (Some es) e = ap is_some (lookup-front (eqb q) ds ((domain, []) ∷ []) es e)
+    by_lookup None e = ap is_some (lookup-append (eqb q) ds ((domain, []) ∷ []) e) ∙ ap (λ (b : Bool). is_some (cond b empty nothing)) other
+
+    by_cases : (b : Bool) → knows ds domain ≡ b → knows (with_domain ds domain) q ≡ knows ds q
+    by_cases true e = ap (λ (k : History). knows k q) (with_known ds domain e)
+    by_cases false e = ap (λ (k : History). knows k q) (with_new ds domain e) ∙ by_lookup (lookup (eqb q) ds) refl
+
 -- and no domain has other events
 pub events-domain : (ds : History) (domain q : ℕ) → events_in (with_domain ds domain) q ≡ events_in ds q
 events-domain ds domain q = by_cases (knows ds domain) refl

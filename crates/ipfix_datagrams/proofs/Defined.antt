@@ -28,7 +28,7 @@ use Rattle.ipfix_datagrams.specs.Datagrams.{Preparation, Represents, with_domain
 use Rattle.ipfix_datagrams.specs.Attempts.{IsFree, CanDefine, Defining, MayWithdraw}
 use Rattle.ipfix_datagrams.proofs.Events.{knows-events, events_now}
 use Rattle.ipfix_message.proofs.PartsOf.{HasRoom}
-use Rattle.ipfix_datagrams.proofs.Appearing.{admits_with, events-domain, knows-domain, room_ok}
+use Rattle.ipfix_datagrams.proofs.Appearing.{admits_with, events-domain, knows-domain, knows-domain_other, room_ok}
 use Rattle.ipfix_datagrams.proofs.Readings.{room_of}
 use Rattle.ipfix_datagrams.proofs.Withdrawn.{given_by}
 use Rattle.ipfix_datagrams.proofs.WithdrawnDomains.{knows-withdrawn, same_withdrawn}
@@ -145,6 +145,15 @@ others_defined ds domain q (t ∷ ts) other = others_defined (with_one_defined d
 
 pub others_prepared : (ds : History) (domain q : ℕ) (p : Preparation) → eqb q domain ≡ false → events_in (prepared ds domain p) q ≡ events_in ds q
 others_prepared ds domain q p other = others_defined (with_withdrawn ds domain p.withdrawn) domain q p.defined other ∙ others_withdrawn ds domain q p.withdrawn other
+
+knows_defined : (ds : History) (domain q : ℕ) (ts : List Template) → eqb q domain ≡ false → knows (with_defined ds domain ts) q ≡ knows ds q
+knows_defined ds domain q [] other = refl
+knows_defined ds domain q (t ∷ ts) other =
+    knows_defined (with_one_defined ds domain t) domain q ts other ∙ knows-events (with_domain ds domain) domain q (Define t ∷ events_in ds domain) ∙ knows-domain_other ds domain q other
+
+-- and no other appears
+pub knows_prepared : (ds : History) (domain q : ℕ) (p : Preparation) → eqb q domain ≡ false → knows (prepared ds domain p) q ≡ knows ds q
+knows_prepared ds domain q p other = knows_defined (with_withdrawn ds domain p.withdrawn) domain q p.defined other ∙ knows-withdrawn ds domain p.withdrawn q
 
 -- none yet
 pub defining_first : (ds : History) (domain : ℕ) (all rest : List Template) (d : DomainsView) → rest ≡ all → Represents d ds → IsOk (admit ds domain) → CanDefine (events_in ds domain) all → Defining ds domain all rest d

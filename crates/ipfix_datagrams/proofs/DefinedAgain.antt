@@ -20,7 +20,7 @@ use Rattle.ipfix_message.specs.Alike.{knows}
 use Rattle.ipfix_message.proofs.Same.{is_same_template}
 use Rattle.ipfix_datagrams.specs.declared.withdrawn_template.WithdrawnTemplate.{WithdrawnTemplate}
 use Rattle.ipfix_datagrams.specs.Withdrawals.{kind_withdrawn}
-use Rattle.ipfix_datagrams.specs.Datagrams.{AreTemplatesOf, KeepsWithdrawn, definition_of, first_definition, known_in, withdrawn_in, with_one_withdrawn, with_withdrawn, has_data_set, unless_other, again, template_in}
+use Rattle.ipfix_datagrams.specs.Datagrams.{AreTemplatesOf, KeepsWithdrawn, definition_of, first_definition, known_in, withdrawn_in, with_one_withdrawn, with_withdrawn, has_data_set, is_barred, unless_barred, unless_other, again, template_in}
 use Rattle.ipfix_datagrams.specs.Attempts.{CanDefine, HasFirst, MayWithdraw}
 use Rattle.ipfix_datagrams.proofs.Events.{knows-events, events_now}
 use Rattle.ipfix_datagrams.proofs.FirstAndLast.{none_defined, defined_id}
@@ -48,14 +48,20 @@ unless_some : (o over : Option Template) (t : Template) → cond (is_some o) Non
 unless_some None over t e = (refl, e)
 unless_some (Some u) over t e = absurd (none_is_not t e)
 
--- it is known over UDP, and isn't in force in the files
-pub again_is : (ds : History) (m : List ℕ) (domain id : ℕ) (t : Template) → again ds m domain id ≡ Some t → (template_for ds domain id ≡ None) × (known_in ds domain id ≡ Some t)
-again_is ds m domain id t e =
-    unless_some (template_for ds domain id) (known_in ds domain id) t
-    (unless_is (withdrawn_in ds domain id) (first_definition m id) t (if_some (has_data_set m id) (unless_other (withdrawn_in ds domain id) (first_definition m id)) t e))
+barred_is : (b : Bool) (o : Option Template) (t : Template) → cond b None o ≡ Some t → o ≡ Some t
+barred_is true o t e = absurd (none_is_not t e)
+barred_is false o t e = e
 
-pub of_id : (ds : History) (m : List ℕ) (domain id : ℕ) (t : Template) → again ds m domain id ≡ Some t → t.id ≡ id
-of_id ds m domain id t e = defined_id (events_in ds domain) id t (again_is ds m domain id t e).1
+-- it is known over UDP, and isn't in force in the files
+pub again_is : (barred : List ℕ) (ds : History) (m : List ℕ) (domain id : ℕ) (t : Template) → again barred ds m domain id ≡ Some t → (template_for ds domain id ≡ None) × (known_in ds domain id ≡ Some t)
+again_is barred ds m domain id t e =
+    let first = first_definition m id in
+    let o = withdrawn_in ds domain id in
+    unless_some (template_for ds domain id) (known_in ds domain id) t
+    (unless_is o first t (barred_is (is_barred barred first id) (unless_other o first) t (if_some (has_data_set m id) (unless_barred barred o first id) t e)))
+
+pub of_id : (barred : List ℕ) (ds : History) (m : List ℕ) (domain id : ℕ) (t : Template) → again barred ds m domain id ≡ Some t → t.id ≡ id
+of_id barred ds m domain id t e = defined_id (events_in ds domain) id t (again_is barred ds m domain id t e).1
 
 -- ---- they can be defined
 
@@ -123,20 +129,22 @@ data_set_is : (ss : List Set) (id : ℕ) → list_any (λ i. eqb id i) (map (λ 
 data_set_is [] id = refl
 data_set_is (s ∷ ss) id = ap (λ (b : Bool). eqb id s.id || b) (data_set_is ss id)
 
-pub again_in : (ds : History) (m : List ℕ) (domain : ℕ) (kept : BTreeMap ℕ (BTreeMap ℕ Template)) (ts first : BTreeMap ℕ Template) (ids : List ℕ) → KeepsWithdrawn kept ds → get nat_cmp kept domain ≡ Some ts
-    → ids ≡ map (λ s. s.id) (sets_of (drop 16 m)).items → HasFirst first m → (id : ℕ) → cond (list_any (λ i. eqb id i) ids) (unless_other (get nat_cmp ts id) (get nat_cmp first id)) None ≡ again ds m domain id
-again_in ds m domain kept ts first ids keeps found are firsts id =
+pub again_in : (barred : List ℕ) (ds : History) (m : List ℕ) (domain : ℕ) (kept : BTreeMap ℕ (BTreeMap ℕ Template)) (ts first : BTreeMap ℕ Template) (ids : List ℕ) → KeepsWithdrawn kept ds → get nat_cmp kept domain ≡ Some ts
+    → ids ≡ map (λ s. s.id) (sets_of (drop 16 m)).items → HasFirst first m → (id : ℕ) → cond (list_any (λ i. eqb id i) ids) (unless_barred barred (get nat_cmp ts id) (get nat_cmp first id) id) None ≡ again barred ds m domain id
+again_in barred ds m domain kept ts first ids keeps found are firsts id =
     let at : get nat_cmp ts id ≡ withdrawn_in ds domain id = sym (ap (λ (o : Option (BTreeMap ℕ Template)). template_in o id) found) ∙ keeps.at domain id in
-    ap (λ (is : List ℕ). cond (list_any (λ i. eqb id i) is) (unless_other (get nat_cmp ts id) (get nat_cmp first id)) None) are
-    ∙ ap (λ (b : Bool). cond b (unless_other (get nat_cmp ts id) (get nat_cmp first id)) None) (data_set_is (sets_of (drop 16 m)).items id)
-    ∙ ap₂ (λ (a b : Option Template). cond (has_data_set m id) (unless_other a b) None) at (firsts.at id)
+    ap (λ (is : List ℕ). cond (list_any (λ i. eqb id i) is) (unless_barred barred (get nat_cmp ts id) (get nat_cmp first id) id) None) are
+    ∙ ap (λ (b : Bool). cond b (unless_barred barred (get nat_cmp ts id) (get nat_cmp first id) id) None) (data_set_is (sets_of (drop 16 m)).items id)
+    ∙ ap₂ (λ (a b : Option Template). cond (has_data_set m id) (unless_barred barred a b id) None) at (firsts.at id)
 
 -- where nothing is kept of a domain
-pub none_again : (ds : History) (m : List ℕ) (domain : ℕ) (kept : BTreeMap ℕ (BTreeMap ℕ Template)) → KeepsWithdrawn kept ds → get nat_cmp kept domain ≡ None → (id : ℕ) → None ≡ again ds m domain id
-none_again ds m domain kept keeps none id =
+pub none_again : (barred : List ℕ) (ds : History) (m : List ℕ) (domain : ℕ) (kept : BTreeMap ℕ (BTreeMap ℕ Template)) → KeepsWithdrawn kept ds → get nat_cmp kept domain ≡ None → (id : ℕ) → None ≡ again barred ds m domain id
+none_again barred ds m domain kept keeps none id =
+    let first = first_definition m id in
     let at : withdrawn_in ds domain id ≡ None = sym (keeps.at domain id) ∙ ap (λ (o : Option (BTreeMap ℕ Template)). template_in o id) none in
-    never (has_data_set m id) (first_definition m id) ∙ ap (λ (o : Option Template). cond (has_data_set m id) (unless_other o (first_definition m id)) None) (sym at)
+    never (has_data_set m id) (is_barred barred first id) first ∙ ap (λ (o : Option Template). cond (has_data_set m id) (unless_barred barred o first id) None) (sym at)
   where
-    never : (b : Bool) (o : Option Template) → None ≡ cond b (unless_other None o) None
-    never true o = refl
-    never false o = refl
+    never : (b c : Bool) (o : Option Template) → None ≡ cond b (cond c None (unless_other None o)) None
+    never true true o = refl
+    never true false o = refl
+    never false c o = refl

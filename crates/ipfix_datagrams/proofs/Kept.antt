@@ -20,10 +20,10 @@ use Rattle.ipfix_message.specs.Alike.{knows}
 use Rattle.ipfix_message.proofs.PartsOf.{was_read}
 use Rattle.ipfix_datagrams.specs.declared.withdrawn_template.WithdrawnTemplate.{WithdrawnTemplate}
 use Rattle.ipfix_datagrams.specs.Withdrawals.{kind_withdrawn}
-use Rattle.ipfix_datagrams.specs.Datagrams.{AreTemplatesOf, KeepsWithdrawn, Preparation, defined_before, definition_of, events_of_message, known_in, last_definition, withdrawn_in, with_one_withdrawn, with_withdrawn, with_one_defined, with_defined, prepared, IsTaken, template_at}
+use Rattle.ipfix_datagrams.specs.Datagrams.{AreTemplatesOf, Basis, KeepsWithdrawn, Preparation, defined_before, definition_of, events_of_message, known_in, last_definition, withdrawn_in, with_one_withdrawn, with_withdrawn, with_one_defined, with_defined, prepared, IsTaken, template_at}
 use Rattle.ipfix_datagrams.specs.Attempts.{CanPrepare, MayWithdraw, with_ended}
 use Rattle.ipfix_datagrams.proofs.Answered.{taken_prepares}
-use Rattle.ipfix_datagrams.proofs.Defined.{others_prepared, defined_now}
+use Rattle.ipfix_datagrams.proofs.Defined.{others_prepared, defined_now, knows_prepared}
 use Rattle.ipfix_datagrams.proofs.InForce.{known_or}
 use Rattle.ipfix_datagrams.proofs.Replacing.{contains_map}
 use Rattle.ipfix_datagrams.proofs.Resumed.{before_id}
@@ -89,21 +89,21 @@ or_first None p t e = absurd (none_is_not t e)
     none_is_not t e = cc
 or_first (Some u) p t e = e
 
-known_prepared : (resumed : List Template) (ds : History) (m : List ℕ) (domain : ℕ) (p : Preparation) (id : ℕ) → CanPrepare ds domain p → AreTemplatesOf (defined_before resumed ds m domain) p.defined
-    → known_in (prepared ds domain p) domain id ≡ option_or (defined_before resumed ds m domain id) (known_in ds domain id)
-known_prepared resumed ds m domain p id can are =
+known_prepared : (basis : Basis) (ds : History) (m : List ℕ) (domain : ℕ) (p : Preparation) (id : ℕ) → CanPrepare ds domain p → AreTemplatesOf (defined_before basis ds m domain) p.defined
+    → known_in (prepared ds domain p) domain id ≡ option_or (defined_before basis ds m domain id) (known_in ds domain id)
+known_prepared basis ds m domain p id can are =
     known_defined (with_withdrawn ds domain p.withdrawn) domain p.defined f id
     (All-weaker (λ t. before t.id ≡ Some t) (λ t. f t.id ≡ Some t) (λ t is. or_first (before t.id) (known_in ds domain t.id) t is) p.defined are.each) (by_cases (before id) refl)
   where
     before : ℕ → Option Template
-    before = defined_before resumed ds m domain
+    before = defined_before basis ds m domain
 
     f : ℕ → Option Template
     f = λ q. option_or (before q) (known_in ds domain q)
 
     by_cases : (o : Option Template) → before id ≡ o → (known_in (with_withdrawn ds domain p.withdrawn) domain id ≡ f id) ⊎ (list_any (eqb id) (map (λ t. t.id) p.defined) ≡ true)
     by_cases None e = inl (known_withdrawn ds domain p.withdrawn id can.0 ∙ sym (ap (λ (o : Option Template). option_or o (known_in ds domain id)) e))
-    by_cases (Some t) e = inr (is_among before p.defined t id are e (before_id resumed ds m domain id t e))
+    by_cases (Some t) e = inr (is_among before p.defined t id are e (before_id basis ds m domain id t e))
 
 -- ---- after a datagram
 
@@ -111,71 +111,96 @@ known_prepared resumed ds m domain p id can are =
 same_header : (ds es : History) (m : List ℕ) (x y : Message) → message_gives ds m ≡ Ok x → message_gives es m ≡ Ok y → y.header ≡ x.header
 same_header ds es m x y first second = header_same es m x.header y (was_read ds m x first).header second
 
-first_domain : (resumed : List Template) (ds : History) (m : List ℕ) (p : Preparation) (x : Message) (t : IsTaken resumed ds m p x) → x.header.domain ≡ t.first.header.domain
-first_domain resumed ds m p x t = ap (λ (h : Header). h.domain) (same_header _ _ m t.first x t.is_prepared.read t.read)
+first_domain : (basis : Basis) (ds : History) (m : List ℕ) (p : Preparation) (x : Message) (t : IsTaken basis ds m p x) → x.header.domain ≡ t.first.header.domain
+first_domain basis ds m p x t = ap (λ (h : Header). h.domain) (same_header _ _ m t.first x t.is_prepared.read t.read)
 
 -- other domains stay as they are
-other_events : (resumed : List Template) (ds : History) (m : List ℕ) (p : Preparation) (x : Message) (q : ℕ) → IsTaken resumed ds m p x → eqb q x.header.domain ≡ false → events_in x.domains q ≡ events_in ds q
-other_events resumed ds m p x q taken other =
+other_events : (basis : Basis) (ds : History) (m : List ℕ) (p : Preparation) (x : Message) (q : ℕ) → IsTaken basis ds m p x → eqb q x.header.domain ≡ false → events_in x.domains q ≡ events_in ds q
+other_events basis ds m p x q taken other =
     let d = taken.first.header.domain in
     let w = was_read (prepared ds d p) m x taken.read in
-    let elsewhere : eqb q d ≡ false = ap (eqb q) (sym (first_domain resumed ds m p x taken)) ∙ other in
+    let elsewhere : eqb q d ≡ false = ap (eqb q) (sym (first_domain basis ds m p x taken)) ∙ other in
     w.steps.events_at q ∙ ap (λ (b : Bool). cond b x.decoding.events (events_in (prepared ds d p) q)) other ∙ others_prepared ds d q p elsewhere
 
-other_withdrawn : (resumed : List Template) (ds : History) (m : List ℕ) (p : Preparation) (x : Message) (q id : ℕ) → IsTaken resumed ds m p x → eqb q x.header.domain ≡ false → withdrawn_in x.domains q id ≡ withdrawn_in ds q id
-other_withdrawn resumed ds m p x q id taken other =
-    let events = other_events resumed ds m p x q taken other in
+other_withdrawn : (basis : Basis) (ds : History) (m : List ℕ) (p : Preparation) (x : Message) (q id : ℕ) → IsTaken basis ds m p x → eqb q x.header.domain ≡ false → withdrawn_in x.domains q id ≡ withdrawn_in ds q id
+other_withdrawn basis ds m p x q id taken other =
+    let events = other_events basis ds m p x q taken other in
     ap₂ (λ (o k : Option Template). cond (is_some o) None k) (template_is x.domains q id ∙ ap (λ (es : List Event). in_force es id) events ∙ sym (template_is ds q id)) (ap (λ (es : List Event). definition_of es id) events)
 
 -- in its domain what it defines last is known, or what was known before
-known_after : (resumed : List Template) (ds : History) (m : List ℕ) (p : Preparation) (x : Message) (id : ℕ) → IsTaken resumed ds m p x → known_in x.domains x.header.domain id ≡ option_or (last_definition m id) (option_or (defined_before resumed ds m x.header.domain id) (known_in ds x.header.domain id))
-known_after resumed ds m p x id taken =
+pub known_after : (basis : Basis) (ds : History) (m : List ℕ) (p : Preparation) (x : Message) (id : ℕ) → IsTaken basis ds m p x → known_in x.domains x.header.domain id ≡ option_or (last_definition m id) (option_or (defined_before basis ds m x.header.domain id) (known_in ds x.header.domain id))
+known_after basis ds m p x id taken =
     let d = taken.first.header.domain in
-    let same = first_domain resumed ds m p x taken in
+    let same = first_domain basis ds m p x taken in
     let w = was_read (prepared ds d p) m x taken.read in
     let good = (was_read (with_withdrawn ds d p.withdrawn) m taken.first taken.is_prepared.read).header in
     let here : eqb x.header.domain x.header.domain ≡ true = eq-eqb x.header.domain x.header.domain refl in
     let events : events_in x.domains x.header.domain ≡ reverse (events_of_message m) ++ events_in (prepared ds d p) x.header.domain = w.steps.events_at x.header.domain ∙ rw here refl ∙ message_given (prepared ds d p) m x taken.read in
-    let before : known_in (prepared ds d p) x.header.domain id ≡ option_or (defined_before resumed ds m x.header.domain id) (known_in ds x.header.domain id) =
-    ap (λ (q : ℕ). known_in (prepared ds d p) q id) same ∙ known_prepared resumed ds m d p id (taken_prepares resumed ds m taken.first.header p x good taken) taken.is_prepared.again
-    ∙ ap (λ (q : ℕ). option_or (defined_before resumed ds m q id) (known_in ds q id)) (sym same) in
+    let before : known_in (prepared ds d p) x.header.domain id ≡ option_or (defined_before basis ds m x.header.domain id) (known_in ds x.header.domain id) =
+    ap (λ (q : ℕ). known_in (prepared ds d p) q id) same ∙ known_prepared basis ds m d p id (taken_prepares basis ds m taken.first.header p x good taken) taken.is_prepared.again
+    ∙ ap (λ (q : ℕ). option_or (defined_before basis ds m q id) (known_in ds q id)) (sym same) in
     ap (λ (es : List Event). definition_of es id) events ∙ definition-append (reverse (events_of_message m)) (events_in (prepared ds d p) x.header.domain) id
     ∙ ap (option_or (last_definition m id)) before
 
+-- its domain has appeared then
+pub knows_after : (basis : Basis) (ds : History) (m : List ℕ) (p : Preparation) (x : Message) → IsTaken basis ds m p x → knows x.domains x.header.domain ≡ true
+knows_after basis ds m p x taken =
+    let d = x.header.domain in
+    let w = was_read (prepared ds taken.first.header.domain p) m x taken.read in
+    w.steps.knows_at d ∙ ap (λ (b : Bool). knows (prepared ds taken.first.header.domain p) d || b) (eq-eqb d d refl) ∙ or_true_right (knows (prepared ds taken.first.header.domain p) d)
+  where
+    or_true_right : (b : Bool) → (b || true) ≡ true
+    or_true_right true = refl
+    or_true_right false = refl
+
+-- and no other, and what is known there stays
+pub known_elsewhere : (basis : Basis) (ds : History) (m : List ℕ) (p : Preparation) (x : Message) (q : ℕ) → IsTaken basis ds m p x → eqb q x.header.domain ≡ false → (knows x.domains q ≡ knows ds q) × ((id : ℕ) → known_in x.domains q id ≡ known_in ds q id)
+known_elsewhere basis ds m p x q taken other =
+    let d = taken.first.header.domain in
+    let w = was_read (prepared ds d p) m x taken.read in
+    let elsewhere : eqb q d ≡ false = ap (eqb q) (sym (first_domain basis ds m p x taken)) ∙ other in (
+      w.steps.knows_at q ∙ ap (λ (b : Bool). knows (prepared ds d p) q || b) other ∙ or_false (knows (prepared ds d p) q) ∙ knows_prepared ds d q p elsewhere,
+      λ id. ap (λ (es : List Event). definition_of es id) (other_events basis ds m p x q taken other),
+    )
+  where
+    or_false : (b : Bool) → (b || false) ≡ b
+    or_false true = refl
+    or_false false = refl
+
 -- ---- the code
 
-pub record_domain : (resumed : List Template) (ds : History) (m : List ℕ) (x : Message) (p : Preparation) (h : Header) → message_header m ≡ Ok h → IsTaken resumed ds m p x → x.header.domain ≡ h.domain
-record_domain resumed ds m x p h good taken = ap (λ (g : Header). g.domain) (header_same (prepared ds taken.first.header.domain p) m h x good taken.read)
+pub record_domain : (basis : Basis) (ds : History) (m : List ℕ) (x : Message) (p : Preparation) (h : Header) → message_header m ≡ Ok h → IsTaken basis ds m p x → x.header.domain ≡ h.domain
+record_domain basis ds m x p h good taken = ap (λ (g : Header). g.domain) (header_same (prepared ds taken.first.header.domain p) m h x good taken.read)
 
 ended_here : (now last given before kept : Option Template) → cond (is_some now) None (with_ended now last (with_ended now given (with_ended now before kept))) ≡ cond (is_some now) None (option_or last (option_or given (option_or before kept)))
 ended_here None last given before kept = refl
 ended_here (Some t) last given before kept = refl
 
 -- what is put there for an id is withdrawn then
-kept_here : (resumed : List Template) (ds : History) (m : List ℕ) (p : Preparation) (x : Message) (id : ℕ) (now last given before kept : Option Template) → IsTaken resumed ds m p x → now ≡ in_force x.decoding.events id → last ≡ last_definition m id → given ≡ defined_before resumed ds m x.header.domain id → before ≡ template_for ds x.header.domain id
+kept_here : (basis : Basis) (ds : History) (m : List ℕ) (p : Preparation) (x : Message) (id : ℕ) (now last given before kept : Option Template) → IsTaken basis ds m p x → now ≡ in_force x.decoding.events id → last ≡ last_definition m id → given ≡ defined_before basis ds m x.header.domain id → before ≡ template_for ds x.header.domain id
     → kept ≡ withdrawn_in ds x.header.domain id → cond (is_some now) None (with_ended now last (with_ended now given (with_ended now before kept))) ≡ withdrawn_in x.domains x.header.domain id
-kept_here resumed ds m p x id now last given before kept taken is_now is_last is_given is_before is_kept =
+kept_here basis ds m p x id now last given before kept taken is_now is_last is_given is_before is_kept =
     let d = x.header.domain in
     let left : now ≡ template_for x.domains d id = is_now ∙ sym (template_behind (prepared ds taken.first.header.domain p) m x id taken.read) in
     let known : option_or last (option_or given (option_or before kept)) ≡ known_in x.domains d id =
-    ap₂ (λ (a b : Option Template). option_or a b) is_last (ap₂ (λ (a b : Option Template). option_or a b) is_given (ap₂ (λ (a b : Option Template). option_or a b) is_before is_kept ∙ sym (known_or ds d id))) ∙ sym (known_after resumed ds m p x id taken) in
+    ap₂ (λ (a b : Option Template). option_or a b) is_last (ap₂ (λ (a b : Option Template). option_or a b) is_given (ap₂ (λ (a b : Option Template). option_or a b) is_before is_kept ∙ sym (known_or ds d id))) ∙ sym (known_after basis ds m p x id taken) in
     ended_here now last given before kept ∙ ap₂ (λ (o k : Option Template). cond (is_some o) None k) left known
 
 -- what is kept then, by what was put there
-pub keeps_with : (resumed : List Template) (ds : History) (m : List ℕ) (p : Preparation) (x : Message) (domain : ℕ) (old out new : BTreeMap ℕ (BTreeMap ℕ Template)) (now last given before at_first at_last : ℕ → Option Template) → KeepsWithdrawn old ds → IsTaken resumed ds m p x → x.header.domain ≡ domain
-    → ((id : ℕ) → now id ≡ in_force x.decoding.events id) → ((id : ℕ) → last id ≡ last_definition m id) → ((id : ℕ) → given id ≡ defined_before resumed ds m x.header.domain id) → ((id : ℕ) → before id ≡ template_for ds domain id)
+pub keeps_with : (basis : Basis) (ds : History) (m : List ℕ) (p : Preparation) (x : Message) (domain : ℕ) (old out new : BTreeMap ℕ (BTreeMap ℕ Template)) (now last given before at_first at_last : ℕ → Option Template) → KeepsWithdrawn old ds → IsTaken basis ds m p x → x.header.domain ≡ domain
+    → ((id : ℕ) → now id ≡ in_force x.decoding.events id) → ((id : ℕ) → last id ≡ last_definition m id) → ((id : ℕ) → given id ≡ defined_before basis ds m x.header.domain id) → ((id : ℕ) → before id ≡ template_for ds domain id)
     → ((id : ℕ) → at_first id ≡ template_at old domain id) → ((id : ℕ) → at_last id ≡ cond (is_some (now id)) None (with_ended (now id) (last id) (with_ended (now id) (given id) (with_ended (now id) (before id) (at_first id)))))
     → ((q id : ℕ) → template_at out q id ≡ cond (eqb q domain) None (template_at old q id)) → ((q id : ℕ) → template_at new q id ≡ cond (eqb q domain) (at_last id) (template_at out q id)) → KeepsWithdrawn new x.domains
-keeps_with resumed ds m p x domain old out new now last given before at_first at_last keeps taken same nows lasts givens befores firsts lefts outs is = record {
+keeps_with basis ds m p x domain old out new now last given before at_first at_last keeps taken same nows lasts givens befores firsts lefts outs is = record {
   at = λ q id. elim (eqb_tells q domain) [
     | inl here ↦
         let there : q ≡ x.header.domain = here.1 ∙ sym same in
         is q id ∙ rw here.0 refl ∙ lefts id
-        ∙ kept_here resumed ds m p x id (now id) (last id) (given id) (before id) (at_first id) taken (nows id) (lasts id) (givens id) (befores id ∙ ap (λ (n : ℕ). template_for ds n id) (sym same)) (firsts id ∙ keeps.at domain id ∙ ap (λ (n : ℕ). withdrawn_in ds n id) (sym same))
+        ∙ kept_here basis ds m p x id (now id) (last id) (given id) (before id) (at_first id) taken (nows id) (lasts id) (givens id) (befores id ∙ ap (λ (n : ℕ). template_for ds n id) (sym same)) (firsts id ∙ keeps.at domain id ∙ ap (λ (n : ℕ). withdrawn_in ds n id) (sym same))
         ∙ ap (λ (n : ℕ). withdrawn_in x.domains n id) (sym there)
     | inr other ↦
         let elsewhere : eqb q x.header.domain ≡ false = ap (eqb q) same ∙ other.0 in
-        is q id ∙ rw other.0 refl ∙ outs q id ∙ rw other.0 refl ∙ keeps.at q id ∙ sym (other_withdrawn resumed ds m p x q id taken elsewhere)
+        is q id ∙ rw other.0 refl ∙ outs q id ∙ rw other.0 refl ∙ keeps.at q id ∙ sym (other_withdrawn basis ds m p x q id taken elsewhere)
   ];
 }
 

@@ -16,6 +16,8 @@ pub mod DataSets
 pub mod WithdrawnKept
 pub mod Attempted
 pub mod Answered
+mod Attempting
 pub mod Kept
+pub mod Weighed
 pub mod Reaches
 pub mod Streams

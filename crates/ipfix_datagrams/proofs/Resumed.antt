@@ -14,7 +14,7 @@ use Rattle.ipfix_message.specs.TemplatesInForce.{in_force, is_other}
 use Rattle.ipfix_message.specs.Domains.{History, events_in, template_for}
 use Rattle.ipfix_message.specs.Alike.{knows}
 use Rattle.ipfix_datagrams.specs.declared.withdrawn_template.WithdrawnTemplate.{WithdrawnTemplate}
-use Rattle.ipfix_datagrams.specs.Datagrams.{AreTemplatesOf, KeepsWithdrawn, definition_of, first_definition, known_in, withdrawn_in, with_withdrawn, again, is_open, resumed_before, defined_before, template_at, template_in}
+use Rattle.ipfix_datagrams.specs.Datagrams.{AreTemplatesOf, Basis, KeepsWithdrawn, definition_of, first_definition, known_in, withdrawn_in, with_withdrawn, again, is_open, resumed_before, defined_before, template_at, template_in}
 use Rattle.ipfix_datagrams.specs.Attempts.{CanDefine, HasFirst, MayWithdraw, is_open_by, resumed_by}
 use Rattle.ipfix_datagrams.proofs.DefinedAgain.{FreeFor, again_is, can_define_all, none_left, of_id}
 use Rattle.ipfix_datagrams.proofs.InForce.{in_force_known, known_or}
@@ -70,30 +70,30 @@ either : (o p : Option Template) (t : Template) → option_or o p ≡ Some t →
 either None p t e = inr e
 either (Some u) p t e = inl e
 
-pub before_id : (resumed : List Template) (ds : History) (m : List ℕ) (domain id : ℕ) (t : Template) → defined_before resumed ds m domain id ≡ Some t → t.id ≡ id
-before_id resumed ds m domain id t e = elim (either (again ds m domain id) (resumed_before resumed ds m domain id) t e) [
-  | inl a ↦ of_id ds m domain id t a
-  | inr r ↦ (resumed_is resumed ds m domain id t r).0
+pub before_id : (basis : Basis) (ds : History) (m : List ℕ) (domain id : ℕ) (t : Template) → defined_before basis ds m domain id ≡ Some t → t.id ≡ id
+before_id basis ds m domain id t e = elim (either (again basis.barred ds m domain id) (resumed_before basis.resumed ds m domain id) t e) [
+  | inl a ↦ of_id basis.barred ds m domain id t a
+  | inr r ↦ (resumed_is basis.resumed ds m domain id t r).0
 ]
 
-before_free : (resumed : List Template) (ds : History) (m : List ℕ) (domain id : ℕ) (t : Template) → defined_before resumed ds m domain id ≡ Some t → template_for ds domain id ≡ None
-before_free resumed ds m domain id t e = elim (either (again ds m domain id) (resumed_before resumed ds m domain id) t e) [
-  | inl a ↦ (again_is ds m domain id t a).0
-  | inr r ↦ unknown_not ds domain id (resumed_is resumed ds m domain id t r).1
+before_free : (basis : Basis) (ds : History) (m : List ℕ) (domain id : ℕ) (t : Template) → defined_before basis ds m domain id ≡ Some t → template_for ds domain id ≡ None
+before_free basis ds m domain id t e = elim (either (again basis.barred ds m domain id) (resumed_before basis.resumed ds m domain id) t e) [
+  | inl a ↦ (again_is basis.barred ds m domain id t a).0
+  | inr r ↦ unknown_not ds domain id (resumed_is basis.resumed ds m domain id t r).1
 ]
 
 -- ---- all of them
 
-pub are_before : (resumed : List Template) (ds : History) (m : List ℕ) (domain : ℕ) (ts : BTreeMap ℕ Template) → IsOrdered nat_cmp ts → ((id : ℕ) → get nat_cmp ts id ≡ defined_before resumed ds m domain id)
-    → AreTemplatesOf (defined_before resumed ds m domain) (values ts)
-are_before resumed ds m domain ts ordered same = are_templates (defined_before resumed ds m domain) ts (before_id resumed ds m domain) ordered same
+pub are_before : (basis : Basis) (ds : History) (m : List ℕ) (domain : ℕ) (ts : BTreeMap ℕ Template) → IsOrdered nat_cmp ts → ((id : ℕ) → get nat_cmp ts id ≡ defined_before basis ds m domain id)
+    → AreTemplatesOf (defined_before basis ds m domain) (values ts)
+are_before basis ds m domain ts ordered same = are_templates (defined_before basis ds m domain) ts (before_id basis ds m domain) ordered same
 
 -- they can be defined
-pub can_define : (resumed : List Template) (ds : History) (m : List ℕ) (domain : ℕ) (ws : List WithdrawnTemplate) (ts : List Template) → MayWithdraw ds domain ws → AreTemplatesOf (defined_before resumed ds m domain) ts
+pub can_define : (basis : Basis) (ds : History) (m : List ℕ) (domain : ℕ) (ws : List WithdrawnTemplate) (ts : List Template) → MayWithdraw ds domain ws → AreTemplatesOf (defined_before basis ds m domain) ts
     → CanDefine (events_in (with_withdrawn ds domain ws) domain) ts
-can_define resumed ds m domain ws ts may are =
-    can_define_all (defined_before resumed ds m domain) (events_in (with_withdrawn ds domain ws) domain) ts
-    (λ id t is. inl (none_left ds domain ws id may (sym (template_is ds domain id) ∙ before_free resumed ds m domain id t is))) are.each
+can_define basis ds m domain ws ts may are =
+    can_define_all (defined_before basis ds m domain) (events_in (with_withdrawn ds domain ws) domain) ts
+    (λ id t is. inl (none_left ds domain ws id may (sym (template_is ds domain id) ∙ before_free basis ds m domain id t is))) are.each
 
 -- ---- by what is kept
 

@@ -1,11 +1,11 @@
 -- One attempt to read a datagram, after templates are withdrawn and defined or none, and what is kept of those that were withdrawn.
-use Rattle.std.specs.Prelude.{◌≡◌, ◌⊎◌, ◌==◌, ◌&&◌, ℕ, Bool, true, not, if◌then◌else◌, is_some, List, [], ◌∷◌, reverse, count_by, flat_map, Option, Some, None, Ok, IsOk, Result, MatchResult}
+use Rattle.std.specs.Prelude.{◌≡◌, ◌≢◌, ◌⊎◌, ◌==◌, ◌&&◌, ℕ, Bool, true, false, not, if◌then◌else◌, is_some, List, [], ◌∷◌, reverse, count_by, flat_map, Option, Some, None, Ok, Err, IsOk, Result, MatchResult}
 use Rattle.std.specs.List.{find}
 use Rattle.std.specs.Option.{option_or}
 use Rattle.std.specs.Ordering.{nat_cmp}
 use Rattle.std.specs.BTreeMap.{BTreeMap, get}
 use Rattle.ipfix_message.specs.declared.fault.MessageFault.{MessageFault}
-use Rattle.ipfix_message.specs.declared.fault.MessageFault.TheVariants.{OutOfMemory}
+use Rattle.ipfix_message.specs.declared.fault.MessageFault.TheVariants.{OutOfMemory, TemplateChanged}
 use Rattle.ipfix_message.specs.declared.record.Template.{Template}
 use Rattle.ipfix_message.specs.declared.template_record.Event.{Event}
 use Rattle.ipfix_message.specs.declared.template_record.Event.TheVariants.{Define}
@@ -13,7 +13,7 @@ use Rattle.ipfix_message.specs.TemplatesInForce.{in_force, is_other}
 use Rattle.ipfix_message.specs.Alike.{knows}
 use Rattle.ipfix_message.specs.Sets.{sets_of}
 use Rattle.ipfix_session.specs.Ledger.{capped}
-use Rattle.ipfix_message.specs.Domains.{DomainsView, History, Message, admit, events_in, message_gives}
+use Rattle.ipfix_message.specs.Domains.{ChangesNothing, DomainsView, History, Message, admit, events_in, message_gives}
 use Rattle.ipfix_datagrams.specs.Datagrams.{are_sets_of_withdrawals, events_of_set, is_withdrawal, MayChange, Preparation, Represents, Leaves, LeavesBy, definition_of, first_definition, given_after, template_in, with_defined, with_withdrawn}
 use Rattle.ipfix_datagrams.specs.declared.definitions.Definitions.{Definitions}
 use Rattle.ipfix_datagrams.specs.declared.withdrawn_template.WithdrawnTemplate.{WithdrawnTemplate}
@@ -82,11 +82,17 @@ pub record Reads (ds : History) (domain : ℕ) (p : Preparation) (m : List ℕ) 
   pub read : given_after ds domain p m ≡ Ok given
   pub leaves : Leaves after given
 
+-- none is to be withdrawn, and it changes no template
+abbrev pub IsPlain : Result Bool MessageFault → List WithdrawnTemplate → History → List ℕ → Type 0
+IsPlain (Ok true) ws ds m = (ws ≡ []) × ChangesNothing ds m
+IsPlain (Ok false) ws ds m = Unit {0}
+IsPlain (Err f) ws ds m = (ws ≡ []) × (message_gives ds m ≡ Err f) × (f ≢ TemplateChanged)
+
 -- it is read after the templates are withdrawn that it replaces, and none is defined
-pub record FirstReads (ds : History) (domain : ℕ) (m : List ℕ) (ws : List WithdrawnTemplate) (after : Option DomainsView) : Type 0 where
+pub record FirstReads (barred : List ℕ) (ds : History) (domain : ℕ) (m : List ℕ) (ws : List WithdrawnTemplate) (after : Option DomainsView) : Type 0 where
   pub given : Message
   pub domain_is : given.header.domain ≡ domain
-  pub changes : MayChange ds m domain ws
+  pub changes : MayChange barred ds m domain ws
   pub read : message_gives (with_withdrawn ds domain ws) m ≡ Ok given
   pub leaves : LeavesBy after ds given
 
@@ -123,3 +129,8 @@ PutsOthers old new others = (id : ℕ) → get nat_cmp new id ≡ option_or (get
 -- the templates that are not in force after a datagram among others
 abbrev pub with_ended : Option Template → Option Template → Option Template → Option Template
 with_ended now ended kept = if is_some now then kept else option_or ended kept
+
+-- the entries of a map, or of another in its place
+abbrev pub kept_entries : BTreeMap ℕ ℕ → Option (BTreeMap ℕ ℕ) → List (ℕ × ℕ)
+kept_entries kept None = kept.entries
+kept_entries kept (Some after) = after.entries

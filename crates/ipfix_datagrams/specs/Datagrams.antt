@@ -1,10 +1,12 @@
 -- What the datagrams of a peer give (RFC 7011, sections 8.1 and 8.4). Over UDP a definition replaces an older one of its id, and a
 -- withdrawal is ignored. A datagram of withdrawals alone is not kept. In the files, which are read by the rules of a connection, a withdrawal ends its template.
-use Rattle.std.specs.Prelude.{◌≡◌, ◌≢◌, ◌⊎◌, ◌==◌, ◌&&◌, ℕ, Bool, false, true, nat_lt, not, is_some, is_ok, List, [], ◌∷◌, map, ◌++◌, reverse, length, drop, count_by, flat_map, if◌then◌else◌, Option, Some, None, Ok, Err, All, Contains}
+use Rattle.std.specs.Prelude.{◌≡◌, ◌≢◌, ◌⊎◌, ◌==◌, ◌&&◌, ◌||◌, ◌+◌, ◌<◌, ◌≤◌, ℕ, Bool, false, true, nat_lt, not, is_some, is_ok, List, [], ◌∷◌, map, ◌++◌, filter, reverse, length, drop, count_by, flat_map, sum, if◌then◌else◌, Option, Some, None, option_map, unwrap_or, Ok, Err, All, Contains}
 use Rattle.std.specs.Option.{option_and_then, option_or}
+use Rattle.std.specs.Global.{Vec}
 use Rattle.std.specs.List.{find, list_all, list_any}
 use Rattle.std.specs.List.Sorted.{IsStrictlySortedBy}
-use Rattle.std.specs.Ordering.{nat_cmp}
+use Rattle.std.specs.Map.{keys_of, lookup, values_of}
+use Rattle.std.specs.Ordering.{nat_cmp, eq_by_cmp}
 use Rattle.std.specs.BTreeMap.{BTreeMap, get, values}
 use Rattle.ipfix_wire.specs.declared.header.Header.{Header}
 use Rattle.ipfix_wire.specs.declared.header.TheConstants.{HEADER_LENGTH}
@@ -27,7 +29,9 @@ use Rattle.ipfix_datagrams.specs.Withdrawals.{HasTemplateId, kind_withdrawn}
 use Rattle.ipfix_datagrams.specs.declared.withdrawn_template.WithdrawnTemplate.{WithdrawnTemplate}
 use Rattle.ipfix_datagrams.specs.declared.reading.DatagramReading.{DatagramReading}
 use Rattle.ipfix_datagrams.specs.declared.reading.Reading.{Reading}
-use Rattle.ipfix_datagrams.specs.declared.reading.Reading.TheVariants.{Ignored, Kept}
+use Rattle.ipfix_datagrams.specs.declared.reading.Reading.TheVariants.{Ignored, TooMuch, Kept}
+use Rattle.ipfix_datagrams.specs.declared.weighing.TheConstants.{DOMAIN_FIELDS, TEMPLATE_FIELDS}
+use Rattle.ipfix_datagrams.specs.declared.known_templates.KnownTemplates.{KnownTemplates}
 
 -- ---- definitions
 
@@ -127,17 +131,36 @@ replaced_by t (Some u) = if same_template t u then [] else record { id = t.id; i
 abbrev pub replaced : List Event → List Template → List WithdrawnTemplate
 replaced es ts = flat_map (λ t. replaced_by t (in_force es t.id)) ts
 
--- a datagram defines a template otherwise than it is in force; those in force are withdrawn that its first definitions replace, and
--- no others
-pub record Changes (ds : History) (m : List ℕ) (domain : ℕ) (ws : List WithdrawnTemplate) : Type 0 where
-  pub changed : message_gives ds m ≡ Err TemplateChanged
+-- ---- ids that have no template
+
+-- an id that has none keeps none before and in a datagram that doesn't define it
+abbrev pub is_barred : List ℕ → Option Template → ℕ → Bool
+is_barred barred first id = list_any (λ b. b == id) barred && not (is_some first)
+
+-- what is in force for such an id, by the first definition of the id
+abbrev pub dropped_by : Option Template → Option Template → List WithdrawnTemplate
+dropped_by (Some t) now = []
+dropped_by None None = []
+dropped_by None (Some u) = record { id = u.id; is_options = is_of Options u } ∷ []
+
+-- those are withdrawn before a datagram that are in force for ids that have no template
+abbrev pub dropped : List ℕ → History → List ℕ → ℕ → List WithdrawnTemplate
+dropped barred ds m domain = flat_map (λ id. dropped_by (first_definition m id) (in_force (events_in ds domain) id)) barred
+
+abbrev pub without_barred : List ℕ → History → List ℕ → ℕ → History
+without_barred barred ds m domain = with_withdrawn ds domain (dropped barred ds m domain)
+
+-- a datagram defines a template otherwise than it is in force; then those in force are withdrawn, too, that its first definitions
+-- replace, and no others
+pub record Changes (barred : List ℕ) (ds : History) (m : List ℕ) (domain : ℕ) (ws : List WithdrawnTemplate) : Type 0 where
+  pub changed : message_gives (without_barred barred ds m domain) m ≡ Err TemplateChanged
   pub templates : List Template
   pub are_first : AreTemplatesOf (first_definition m) templates
-  pub are : ws ≡ replaced (events_in ds domain) templates
+  pub are : ws ≡ dropped barred ds m domain ++ replaced (events_in ds domain) templates
 
--- and before any other none is
-abbrev pub MayChange : History → List ℕ → ℕ → List WithdrawnTemplate → Type 0
-MayChange ds m domain ws = (ws ≡ []) ⊎ Changes ds m domain ws
+-- and before any other none of these is
+abbrev pub MayChange : List ℕ → History → List ℕ → ℕ → List WithdrawnTemplate → Type 0
+MayChange barred ds m domain ws = (ws ≡ dropped barred ds m domain) ⊎ Changes barred ds m domain ws
 
 -- ---- templates that are defined again
 
@@ -163,10 +186,14 @@ abbrev pub unless_other : Option Template → Option Template → Option Templat
 unless_other None o = None
 unless_other (Some t) o = if is_other t o then None else Some t
 
+-- and unless the id has none
+abbrev pub unless_barred : List ℕ → Option Template → Option Template → ℕ → Option Template
+unless_barred barred o first id = if is_barred barred first id then None else unless_other o first
+
 -- what is defined again for an id before a datagram: the template that was withdrawn in the files, if the datagram has data sets of
--- the id, and doesn't define it otherwise
-abbrev pub again : History → List ℕ → ℕ → ℕ → Option Template
-again ds m domain id = if has_data_set m id then unless_other (withdrawn_in ds domain id) (first_definition m id) else None
+-- the id, and doesn't define it otherwise, and the id has a template
+abbrev pub again : List ℕ → History → List ℕ → ℕ → ℕ → Option Template
+again barred ds m domain id = if has_data_set m id then unless_barred barred (withdrawn_in ds domain id) (first_definition m id) id else None
 
 -- ---- templates that are resumed
 
@@ -178,11 +205,17 @@ is_open ds m domain t = not (is_some (known_in ds domain t.id)) && not (is_other
 abbrev pub resumed_before : List Template → History → List ℕ → ℕ → ℕ → Option Template
 resumed_before resumed ds m domain id = find (λ t. (id == t.id) && is_open ds m domain t) resumed
 
--- what is defined for an id before a datagram: again, or since it is resumed
-abbrev pub defined_before : List Template → History → List ℕ → ℕ → ℕ → Option Template
-defined_before resumed ds m domain id = option_or (again ds m domain id) (resumed_before resumed ds m domain id)
+-- what is known of the domain of a datagram beside what the files define: the templates that are resumed before it, and the ids that
+-- have no template
+pub record Basis : Type 0 where
+  pub resumed : List Template
+  pub barred : List ℕ
 
--- ---- a datagram, before which these templates are resumed
+-- what is defined for an id before a datagram: again, or since it is resumed
+abbrev pub defined_before : Basis → History → List ℕ → ℕ → ℕ → Option Template
+defined_before basis ds m domain id = option_or (again basis.barred ds m domain id) (resumed_before basis.resumed ds m domain id)
+
+-- ---- a datagram
 
 -- what is done before a datagram is read: templates are withdrawn, and then others defined again
 pub record Preparation : Type 0 where
@@ -201,42 +234,43 @@ abbrev pub given_after : History → ℕ → Preparation → List ℕ → Read M
 given_after ds domain p m = message_gives (prepared ds domain p) m
 
 -- before a datagram those are withdrawn that it replaces, after which it is read; and others are defined again or resumed
-pub record IsPrepared (resumed : List Template) (ds : History) (m : List ℕ) (p : Preparation) (first : Message) : Type 0 where
-  pub changes : MayChange ds m first.header.domain p.withdrawn
+pub record IsPrepared (basis : Basis) (ds : History) (m : List ℕ) (p : Preparation) (first : Message) : Type 0 where
+  pub changes : MayChange basis.barred ds m first.header.domain p.withdrawn
   pub read : message_gives (with_withdrawn ds first.header.domain p.withdrawn) m ≡ Ok first
-  pub again : AreTemplatesOf (defined_before resumed ds m first.header.domain) p.defined
+  pub again : AreTemplatesOf (defined_before basis ds m first.header.domain) p.defined
 
 -- a datagram is taken: it is read after that
-pub record IsTaken (resumed : List Template) (ds : History) (m : List ℕ) (p : Preparation) (x : Message) : Type 0 where
+pub record IsTaken (basis : Basis) (ds : History) (m : List ℕ) (p : Preparation) (x : Message) : Type 0 where
   pub kept : withdraws_only m ≡ false
   pub first : Message
-  pub is_prepared : IsPrepared resumed ds m p first
+  pub is_prepared : IsPrepared basis ds m p first
   pub read : given_after ds first.header.domain p m ≡ Ok x
 
--- why it is refused: the fault of its message; where that is a changed template, the fault that it has after those that it replaces
--- are withdrawn
-abbrev pub FailsPlainly : History → List ℕ → MessageFault → Type 0
-FailsPlainly ds m f = (message_gives ds m ≡ Err f) × (f ≢ TemplateChanged)
+-- why it is refused: the fault of its header; the fault of its message, where ids have no template; where that is a changed template, the
+-- fault that it has after those that it replaces are withdrawn
+abbrev pub FailsPlainly : List ℕ → History → List ℕ → Read Header → MessageFault → Type 0
+FailsPlainly barred ds m (Ok h) f = (message_gives (without_barred barred ds m h.domain) m ≡ Err f) × (f ≢ TemplateChanged)
+FailsPlainly barred ds m (Err fault) f = f ≡ fault
 
-pub record FailsChanged (ds : History) (m : List ℕ) (f : MessageFault) : Type 0 where
+pub record FailsChanged (barred : List ℕ) (ds : History) (m : List ℕ) (f : MessageFault) : Type 0 where
   pub header : Header
   pub is_header : message_header m ≡ Ok header
   pub withdrawn : List WithdrawnTemplate
-  pub changes : Changes ds m header.domain withdrawn
+  pub changes : Changes barred ds m header.domain withdrawn
   pub fault : message_gives (with_withdrawn ds header.domain withdrawn) m ≡ Err f
 
 -- or the fault that it has after templates are defined before it
-pub record FailsAgain (resumed : List Template) (ds : History) (m : List ℕ) (f : MessageFault) : Type 0 where
+pub record FailsAgain (basis : Basis) (ds : History) (m : List ℕ) (f : MessageFault) : Type 0 where
   pub preparation : Preparation
   pub first : Message
-  pub is_prepared : IsPrepared resumed ds m preparation first
+  pub is_prepared : IsPrepared basis ds m preparation first
   pub fault : given_after ds first.header.domain preparation m ≡ Err f
 
-abbrev pub HasFault : List Template → History → List ℕ → MessageFault → Type 0
-HasFault resumed ds m f = FailsPlainly ds m f ⊎ (FailsChanged ds m f ⊎ FailsAgain resumed ds m f)
+abbrev pub HasFault : Basis → History → List ℕ → MessageFault → Type 0
+HasFault basis ds m f = FailsPlainly basis.barred ds m (message_header m) f ⊎ (FailsChanged basis.barred ds m f ⊎ FailsAgain basis ds m f)
 
-abbrev pub IsRefused : List Template → History → List ℕ → MessageFault → Type 0
-IsRefused resumed ds m f = (f ≡ OutOfMemory) ⊎ ((withdraws_only m ≡ false) × HasFault resumed ds m f)
+abbrev pub IsRefused : Basis → History → List ℕ → MessageFault → Type 0
+IsRefused basis ds m f = (f ≡ OutOfMemory) ⊎ ((withdraws_only m ≡ false) × HasFault basis ds m f)
 
 -- ---- what is answered and kept
 
@@ -261,26 +295,94 @@ abbrev pub preparation_of : DatagramReading → Preparation
 preparation_of r = preparation_by r.withdrawn.items r.defined
 
 -- exactly these templates, by id, are defined before a datagram
-abbrev pub AreDefinedBefore : List Template → History → List ℕ → ℕ → BTreeMap ℕ Template → Type 0
-AreDefinedBefore resumed ds m domain defined = (id : ℕ) → get nat_cmp defined id ≡ defined_before resumed ds m domain id
+abbrev pub AreDefinedBefore : Basis → History → List ℕ → ℕ → BTreeMap ℕ Template → Type 0
+AreDefinedBefore basis ds m domain defined = (id : ℕ) → get nat_cmp defined id ≡ defined_before basis ds m domain id
 
 -- an answer says how a datagram is taken and what is defined before it, what it leaves, what it defines last for each id, and how many
 -- withdrawals it has
-pub record IsReadingOf (resumed : List Template) (ds : History) (m : List ℕ) (r : DatagramReading) (x : Message) : Type 0 where
-  pub taken : IsTaken resumed ds m (preparation_of r) x
-  pub before : AreDefinedBefore resumed ds m x.header.domain r.defined
+pub record IsReadingOf (basis : Basis) (ds : History) (m : List ℕ) (r : DatagramReading) (x : Message) : Type 0 where
+  pub taken : IsTaken basis ds m (preparation_of r) x
+  pub before : AreDefinedBefore basis ds m x.header.domain r.defined
   pub leaves : LeavesBy r.after ds x
   pub defines : (id : ℕ) → get nat_cmp r.definitions id ≡ last_definition m id
   pub withdrawals : r.withdrawals ≡ capped (withdrawals_in m)
 
--- a datagram is ignored, and so many withdrawals with it, or it is taken
-abbrev pub Answers : List Template → History → List ℕ → Reading → Type 0
-Answers resumed ds m (Ignored withdrawals) = (withdraws_only m ≡ true) × (withdrawals ≡ capped (withdrawals_in m))
-Answers resumed ds m (Kept r) = (x : Message) × IsReadingOf resumed ds m r x
+-- ---- what templates count, and the budget that a peer has for them
+
+-- a template counts 8 and its field specifiers, those of its scope among them
+abbrev pub fields_of : Template → ℕ
+fields_of t = TEMPLATE_FIELDS + length t.specs
+
+-- a domain counts 16 and the templates that are known in it over UDP, each once
+pub record Weighs (n : ℕ) (ds : History) (domain : ℕ) : Type 0 where
+  pub counts : List (ℕ × ℕ)
+  pub ascending : IsStrictlySortedBy nat_cmp (keys_of counts)
+  pub at : (id : ℕ) → lookup (eq_by_cmp nat_cmp id) counts ≡ option_map fields_of (known_in ds domain id)
+  pub is : n ≡ DOMAIN_FIELDS + sum (values_of counts)
+
+-- what a domain counts, if it has appeared
+abbrev pub WeighsIf : Option ℕ → History → ℕ → Type 0
+WeighsIf None ds domain = knows ds domain ≡ false
+WeighsIf (Some n) ds domain = (knows ds domain ≡ true) × Weighs n ds domain
+
+-- what each domain counts
+pub record AreWeighed (ws : List (ℕ × ℕ)) (ds : History) : Type 0 where
+  pub ascending : IsStrictlySortedBy nat_cmp (keys_of ws)
+  pub at : (domain : ℕ) → WeighsIf (lookup (eq_by_cmp nat_cmp domain) ws) ds domain
+
+-- all count no more than a budget
+pub record Fits (budget : ℕ) (ws : List (ℕ × ℕ)) (ds : History) : Type 0 where
+  pub weighed : AreWeighed ws ds
+  pub within : sum (values_of ws) ≤ budget
+
+-- or they count more: one domain by itself, or all together
+pub record OneExceeds (budget : ℕ) (ds : History) : Type 0 where
+  pub domain : ℕ
+  pub weight : ℕ
+  pub weighs : Weighs weight ds domain
+  pub above : budget < weight
+
+pub record AllExceed (budget : ℕ) (ds : History) : Type 0 where
+  pub weights : List (ℕ × ℕ)
+  pub weighed : AreWeighed weights ds
+  pub above : budget < sum (values_of weights)
+
+abbrev pub Exceeds : ℕ → History → Type 0
+Exceeds budget ds = OneExceeds budget ds ⊎ AllExceed budget ds
+
+-- a datagram changes what is known for an id: it defines another template last
+abbrev pub is_changed_by : Option Template → Option Template → Bool
+is_changed_by None known = false
+is_changed_by (Some t) known = is_other t known
+
+abbrev pub is_changed : History → List ℕ → ℕ → ℕ → Bool
+is_changed ds m domain id = is_changed_by (last_definition m id) (known_in ds domain id)
+
+-- it would be taken, but what would be known then counts more than the budget; these are the ids for which it would change what is
+-- known
+pub record IsTooMuch (basis : Basis) (budget : ℕ) (ds : History) (m : List ℕ) (changed : List ℕ) : Type 0 where
+  pub preparation : Preparation
+  pub given : Message
+  pub taken : IsTaken basis ds m preparation given
+  pub exceeds : Exceeds budget given.domains
+  pub are_changed : (id : ℕ) → list_any (λ q. q == id) changed ≡ is_changed ds m given.header.domain id
+
+-- what each domain counts after a datagram: this, if it is there, or what it did
+abbrev pub WeighAfter : Option (BTreeMap ℕ ℕ) → ℕ → History → History → Type 0
+WeighAfter None budget ds after = after ≡ ds
+WeighAfter (Some ws) budget ds after = Fits budget ws.entries after
+
+-- a datagram is ignored, and so many withdrawals with it; or it is refused for what it defines; or it is taken, and what is known then
+-- is within the budget
+abbrev pub Answers : Basis → ℕ → History → List ℕ → Reading → Type 0
+Answers basis budget ds m (Ignored withdrawals) = (withdraws_only m ≡ true) × (withdrawals ≡ capped (withdrawals_in m))
+Answers basis budget ds m (TooMuch changed) = IsTooMuch basis budget ds m changed.items
+Answers basis budget ds m (Kept r) = (x : Message) × IsReadingOf basis ds m r x × WeighAfter r.weights budget ds x.domains
 
 -- what is withdrawn before it are ids that templates have
 abbrev pub HasTemplateIds : Reading → Type 0
 HasTemplateIds (Ignored withdrawals) = Unit {0}
+HasTemplateIds (TooMuch changed) = Unit {0}
 HasTemplateIds (Kept r) = All HasTemplateId r.withdrawn.items
 
 -- the template for an id in a domain's templates, if the domain has any
@@ -295,6 +397,36 @@ template_at kept domain id = template_in (get nat_cmp kept domain) id
 pub record KeepsWithdrawn (kept : BTreeMap ℕ (BTreeMap ℕ Template)) (ds : History) : Type 0 where
   pub at : (domain id : ℕ) → template_at kept domain id ≡ withdrawn_in ds domain id
 
--- a fact of a history for which domains stand, and in which these are withdrawn
-abbrev pub IfOf : DomainsView → BTreeMap ℕ (BTreeMap ℕ Template) → History → Type 0 → Type 0
-IfOf domains kept ds P = Represents domains ds → KeepsWithdrawn kept ds → P
+-- ---- what is kept beside the files
+
+-- the ids of a domain that have no template
+abbrev pub barred_in : BTreeMap ℕ (Vec ℕ) → ℕ → List ℕ
+barred_in barred domain = unwrap_or (option_map (λ v. v.items) (get nat_cmp barred domain)) []
+
+-- the templates that are known over UDP and that the files don't have in force, and what all that are known count, within the budget
+pub record KeepsKnown (k : KnownTemplates) (ds : History) : Type 0 where
+  pub withdrawn : KeepsWithdrawn k.withdrawn ds
+  pub fits : Fits k.budget k.weights.entries ds
+
+-- a fact of a history for which domains stand, and beside which that is kept
+abbrev pub IfOf : DomainsView → KnownTemplates → History → Type 0 → Type 0
+IfOf domains k ds P = Represents domains ds → KeepsKnown k ds → P
+
+-- what is known beside the files in a domain, with these templates of an earlier run
+abbrev pub basis_of : KnownTemplates → BTreeMap ℕ Template → ℕ → Basis
+basis_of k resumed domain = record { resumed = values resumed; barred = barred_in k.barred domain }
+
+-- an id has a template again that a datagram defines
+abbrev pub barred_after : List ℕ → List ℕ → List ℕ
+barred_after barred m = filter (λ id. not (is_some (last_definition m id))) barred
+
+-- a datagram of a domain was taken
+pub record KeepsAfter (old new : KnownTemplates) (m : List ℕ) (x : Message) : Type 0 where
+  pub keeps : KeepsKnown new x.domains
+  pub barred : (domain : ℕ) → barred_in new.barred domain ≡ (if domain == x.header.domain then barred_after (barred_in old.barred domain) m else barred_in old.barred domain)
+  pub budget : new.budget ≡ old.budget
+
+-- these ids of a domain have no template from now on, and nothing else has changed
+pub record Bars (old new : KnownTemplates) (domain : ℕ) (ids : List ℕ) : Type 0 where
+  pub others : new ≡ record old { barred = new.barred }
+  pub barred : (q id : ℕ) → list_any (λ b. b == id) (barred_in new.barred q) ≡ (list_any (λ b. b == id) (barred_in old.barred q) || ((q == domain) && list_any (λ b. b == id) ids))

@@ -6,3 +6,4 @@ pub mod Reaches
 pub mod Streams
 -- What only inner functions and proofs need.
 pub mod Attempts
+pub mod Readings

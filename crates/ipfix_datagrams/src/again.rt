@@ -6,7 +6,7 @@ ghost use Rattle.std.specs.Option.{option_or};
 ghost use Rattle.std.specs.BTreeMap.{get};
 ghost use Rattle.std.specs.Ordering.{nat_cmp};
 ghost use Rattle.ipfix_message.specs.TemplatesInForce.{is_other};
-ghost use Rattle.ipfix_datagrams.specs.Datagrams.{unless_other};
+ghost use Rattle.ipfix_datagrams.specs.Datagrams.{is_barred, unless_barred};
 
 use ipfix_message::{Template, Templates, is_same_template};
 use std::alloc::{AllocError, Global};
@@ -22,21 +22,29 @@ pub fn is_replaced(template: &Template, id: u16, first: &Templates) -> bool
     !is_same_template(template, known.template())
 }
 
+// Whether an id has no template, and the first definitions have none of it.
+fn has_none(barred: &[u16], first: &Templates, id: u16) -> bool
+    ensures { result ≡ is_barred barred.now (get nat_cmp first.now id) id }
+{
+    barred.contains(&id) && !first.contains_key(&id)
+}
+
 // Puts the template that is defined again for an id among them, if there is one.
 fn put_again(
     id: u16,
     withdrawn: &Templates,
+    barred: &[u16],
     first: &Templates,
     defined: &mut Templates,
 ) -> Result<(), AllocError>
     ensures { OnOk result ((q : ℕ) → get nat_cmp defined.new q ≡ option_or
-        (if q == id then unless_other (get nat_cmp withdrawn.now q) (get nat_cmp first.now q)
-        else None) (get nat_cmp defined.old q)) }
+        (if q == id then unless_barred barred.now (get nat_cmp withdrawn.now q)
+        (get nat_cmp first.now q) q else None) (get nat_cmp defined.old q)) }
 {
     let Some(known) = withdrawn.get(&id) else {
         return Ok(());
     };
-    if is_replaced(known.template(), id, first) {
+    if has_none(barred, first, id) || is_replaced(known.template(), id, first) {
         return Ok(());
     }
     defined.insert(id, known.clone()?)?;
@@ -44,20 +52,21 @@ fn put_again(
 }
 
 /// Those of the templates that were withdrawn that are defined again before a datagram with sets of these ids
-/// and these first definitions.
+/// and these first definitions, where some ids have no template.
 pub fn defined_again(
     alloc: Global,
     withdrawn: &Templates,
+    barred: &[u16],
     first: &Templates,
     ids: &[u16],
 ) -> Result<Templates, AllocError>
     ensures { IfOk result (λ defined. (q : ℕ) → get nat_cmp defined q
-        ≡ (if list_any (λ id. q == id) ids.now
-        then unless_other (get nat_cmp withdrawn.now q) (get nat_cmp first.now q) else None)) }
+        ≡ (if list_any (λ id. q == id) ids.now then unless_barred barred.now
+        (get nat_cmp withdrawn.now q) (get nat_cmp first.now q) q else None)) }
 {
     let mut defined = BTreeMap::new(alloc);
     for id in ids {
-        put_again(*id, withdrawn, first, &mut defined)?;
+        put_again(*id, withdrawn, barred, first, &mut defined)?;
     }
     Ok(defined)
 }

@@ -1,15 +1,16 @@
 //! The templates of a peer that were withdrawn in its files, and that are known over UDP.
 
-ghost use Rattle.std.specs.Prelude.{◌≡◌, ◌==◌, ℕ, List, OnOk, if◌then◌else◌, is_some, None, option_copied};
+ghost use Rattle.std.specs.Prelude.{◌≡◌, ◌==◌, ℕ, OnOk, if◌then◌else◌, is_some, None, option_copied};
 ghost use Rattle.std.specs.Option.{option_or};
 ghost use Rattle.std.specs.BTreeMap.{get};
 ghost use Rattle.std.specs.Ordering.{nat_cmp};
-ghost use Rattle.ipfix_message.specs.declared.record.Template.{Template};
-ghost use Rattle.ipfix_message.specs.Domains.{History, Message};
 ghost use Rattle.ipfix_datagrams.specs.Attempts.{with_ended};
-ghost use Rattle.ipfix_datagrams.specs.Datagrams.{IfOf, IsReadingOf, KeepsWithdrawn, Represents, template_at, template_in};
+ghost use Rattle.ipfix_datagrams.specs.Datagrams.{KeepsAfter, KeepsKnown, KeepsWithdrawn, WeighAfter, template_at, template_in};
+ghost use Rattle.ipfix_datagrams.specs.Readings.{ReadSo};
 
+use crate::known_templates::{KnownTemplates, drop_defined};
 use crate::reading::DatagramReading;
+use crate::weighing::keep_weights;
 use ipfix_message::{Domains, Templates};
 use std::alloc::{AllocError, Global};
 use std::collections::BTreeMap;
@@ -113,19 +114,18 @@ fn put_back(
     Ok(())
 }
 
-/// Keeps, where a datagram is taken as its reading says, the templates that are withdrawn in the files after
-/// it, and that are known over UDP. `domains` are those of the files before it, and `domain` is that of the
-/// datagram. Out of memory, what is kept is of no use.
-pub fn keep_withdrawn(
+// Keeps, where a datagram is taken as its reading says, the templates that are withdrawn in the files after
+// it, and that are known over UDP. Out of memory, what is kept is of no use.
+fn keep_withdrawn(
     alloc: Global,
     withdrawn: &mut WithdrawnTemplates,
     domains: &Domains,
     domain: u32,
     reading: &DatagramReading,
 ) -> Result<(), AllocError>
-    ensures { (resumed : List Template) (ds : History) (m : List ℕ) (x : Message)
-        → IfOf domains.now withdrawn.old ds (IsReadingOf resumed ds m reading.now x
-        → x.header.domain ≡ domain → OnOk result (KeepsWithdrawn withdrawn.new x.domains)) }
+    ensures { (s : ReadSo domains.now domain reading.now)
+        → KeepsWithdrawn withdrawn.old s.history
+        → OnOk result (KeepsWithdrawn withdrawn.new s.given.domains) }
 {
     let Some(domain_after) = &reading.after else {
         return Ok(());
@@ -137,4 +137,24 @@ pub fn keep_withdrawn(
     put_ended(&reading.definitions, after, &mut kept)?;
     drop_known(after, &mut kept);
     put_back(kept, withdrawn, domain)
+}
+
+/// Keeps, where a datagram is taken as its reading says, what is known of the peer's templates after it beside those that are in
+/// force in the files. `domains` are those of the files before it, and `domain` is that of the
+/// datagram. Out of memory, what is kept is of no use.
+pub fn keep_known(
+    alloc: Global,
+    known: &mut KnownTemplates,
+    domains: &Domains,
+    domain: u32,
+    reading: &DatagramReading,
+) -> Result<(), AllocError>
+    ensures { (s : ReadSo domains.now domain reading.now) → KeepsKnown known.old s.history
+        → WeighAfter reading.now.weights known.old.budget s.history s.given.domains
+        → OnOk result (KeepsAfter known.old known.new s.datagram s.given) }
+{
+    keep_withdrawn(alloc, &mut known.withdrawn, domains, domain, reading)?;
+    keep_weights(&mut known.weights, &reading.weights)?;
+    drop_defined(alloc, &mut known.barred, domain, &reading.definitions)?;
+    Ok(())
 }

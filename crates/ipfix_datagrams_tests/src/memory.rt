@@ -1,7 +1,7 @@
 //! What is answered where memory runs out.
 
 use crate::octets::CHANGES_256;
-use ipfix_datagrams::{Reading, WithdrawnTemplate, read_datagram};
+use ipfix_datagrams::{KnownTemplates, Reading, WithdrawnTemplate, read_datagram};
 use ipfix_message::{Domains, MessageFault, header_of};
 use std::collections::BTreeMap;
 use std::test::*;
@@ -16,7 +16,7 @@ fn reading_survives_refused_memory(rt: HostRuntime) -> Result<(), Fail> {
     match read_datagram(
         rt.alloc(),
         &domains,
-        &BTreeMap::new(rt.alloc()),
+        &KnownTemplates::new(rt.alloc(), 16_384),
         &BTreeMap::new(rt.alloc()),
         &header,
         CHANGES_256,
@@ -29,7 +29,7 @@ fn reading_survives_refused_memory(rt: HostRuntime) -> Result<(), Fail> {
             assert_eq!(rt; reading.withdrawn.as_slice(), [expected].as_slice());
             let _ = eprintln!(rt; "read: right");
         }
-        Ok(Reading::Ignored(_)) => return Err(Fail::from("ignored")),
+        Ok(_) => return Err(Fail::from("not kept")),
         Err(fault) => {
             assert_eq!(rt; fault, MessageFault::OutOfMemory);
             let _ = eprintln!(rt; "read: OutOfMemory");

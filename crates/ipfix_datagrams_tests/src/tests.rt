@@ -3,8 +3,8 @@
 
 use crate::octets::*;
 use ipfix_datagrams::{
-    DatagramReading, Reading, WithdrawnTemplate, WithdrawnTemplates, append_withdrawals,
-    keep_withdrawn, read_datagram,
+    DatagramReading, KnownTemplates, Reading, WithdrawnTemplate, append_withdrawals, keep_known,
+    read_datagram,
 };
 use ipfix_message::{Decoded, Domains, MessageFault, Stamp, append_template_message, header_of};
 use ipfix_wire::Header;
@@ -19,6 +19,9 @@ use worked_examples::flows::{
 use worked_examples::header;
 use worked_examples::templates::*;
 
+// What the templates may count, where that isn't tested.
+const BUDGET: u64 = 16_384;
+
 const TEMPLATE: WithdrawnTemplate = WithdrawnTemplate {
     id: 256,
     is_options: false,
@@ -31,25 +34,31 @@ const OPTIONS: WithdrawnTemplate = WithdrawnTemplate {
 
 // What is answered of a datagram, where no template was withdrawn.
 fn answer(alloc: Global, domains: &Domains, datagram: &[u8]) -> Result<Reading, MessageFault> {
-    answer_after(alloc, domains, &BTreeMap::new(alloc), datagram)
+    answer_after(
+        alloc,
+        domains,
+        &KnownTemplates::new(alloc, BUDGET),
+        datagram,
+    )
 }
 
 // What is answered of a datagram.
 fn answer_after(
     alloc: Global,
     domains: &Domains,
-    withdrawn: &WithdrawnTemplates,
+    known: &KnownTemplates,
     datagram: &[u8],
 ) -> Result<Reading, MessageFault> {
     let header = header_of(datagram)?;
     let resumed = BTreeMap::new(alloc);
-    read_datagram(alloc, domains, withdrawn, &resumed, &header, datagram)
+    read_datagram(alloc, domains, known, &resumed, &header, datagram)
 }
 
 // How a datagram is taken that is not ignored.
 fn kept(reading: Reading) -> Option<DatagramReading> {
     match reading {
         Reading::Kept(reading) => Some(reading),
+        Reading::TooMuch(_) => None,
         Reading::Ignored(_) => None,
     }
 }
@@ -58,6 +67,7 @@ fn kept(reading: Reading) -> Option<DatagramReading> {
 fn ignored(alloc: Global, datagram: &[u8]) -> Result<Option<u64>, MessageFault> {
     match answer(alloc, &Domains::new(alloc), datagram)? {
         Reading::Kept(_) => Ok(None),
+        Reading::TooMuch(_) => Ok(None),
         Reading::Ignored(withdrawals) => Ok(Some(withdrawals)),
     }
 }
@@ -190,14 +200,14 @@ fn withdrawals_alone_are_ignored(rt: HostRuntime) -> Result<(), Fail> {
 fn take(
     alloc: Global,
     domains: &mut Domains,
-    known: &mut WithdrawnTemplates,
+    known: &mut KnownTemplates,
     datagram: &[u8],
 ) -> Result<Decoded, Fail> {
     let header = header_of(datagram)?;
     let resumed = BTreeMap::new(alloc);
     let read = read_datagram(alloc, domains, known, &resumed, &header, datagram)?;
     let reading = kept(read).ok_or("ignored")?;
-    keep_withdrawn(alloc, known, domains, header.domain, &reading)?;
+    keep_known(alloc, known, domains, header.domain, &reading)?;
     let mut message = Vec::new(alloc);
     for template in reading.withdrawn.as_slice() {
         message.clear();
@@ -225,7 +235,7 @@ fn assert_records(
     datagrams: &[(&[u8], usize)],
 ) -> Result<(), Fail> {
     let mut domains = domains_after(alloc, &[ONE_FLOW])?;
-    let mut known = BTreeMap::new(alloc);
+    let mut known = KnownTemplates::new(alloc, BUDGET);
     for (datagram, records) in datagrams {
         let decoded = take(alloc, &mut domains, &mut known, datagram)?;
         assert_eq!(rt; decoded.records.len(), *records);
@@ -237,7 +247,7 @@ fn assert_records(
 fn defined_before(
     alloc: Global,
     domains: &Domains,
-    known: &WithdrawnTemplates,
+    known: &KnownTemplates,
     datagram: &[u8],
 ) -> Result<usize, Fail> {
     let reading = kept(answer_after(alloc, domains, known, datagram)?).ok_or("ignored")?;
@@ -250,14 +260,14 @@ fn defined_before(
 fn a_withdrawn_template_is_defined_again(rt: HostRuntime) -> Result<(), Fail> {
     let alloc: Global = rt.alloc();
     let mut domains = domains_after(alloc, &[ONE_FLOW])?;
-    let mut known = BTreeMap::new(alloc);
+    let mut known = KnownTemplates::new(alloc, BUDGET);
     let _ = take(alloc, &mut domains, &mut known, WITHDRAWS_256)?;
     for (datagram, defined) in [(NEXT_FLOW, 1), (CHANGES_256, 0), (TEMPLATE_256, 0)] {
         assert_eq!(rt; defined_before(alloc, &domains, &known, datagram)?, defined);
     }
     let decoded = take(alloc, &mut domains, &mut known, NEXT_FLOW)?;
     assert_eq!(rt; decoded.records.len(), 1);
-    assert!(rt; known.is_empty());
+    assert!(rt; known.withdrawn.is_empty());
     Ok(())
 }
 
@@ -382,8 +392,8 @@ fn resuming(alloc: Global, datagram: &[u8]) -> Result<DatagramReading, Fail> {
     let resumed = earlier.templates(1).ok_or("no templates")?;
     let header = header_of(datagram)?;
     let domains = Domains::new(alloc);
-    let none = BTreeMap::new(alloc);
-    let read = read_datagram(alloc, &domains, &none, resumed, &header, datagram)?;
+    let known = KnownTemplates::new(alloc, BUDGET);
+    let read = read_datagram(alloc, &domains, &known, resumed, &header, datagram)?;
     Ok(kept(read).ok_or("ignored")?)
 }
 
@@ -400,5 +410,46 @@ fn templates_of_an_earlier_run_are_defined(rt: HostRuntime) -> Result<(), Fail> 
 fn what_a_datagram_defines_is_not_resumed(rt: HostRuntime) -> Result<(), Fail> {
     let reading = resuming(rt.alloc(), CHANGES_256)?;
     assert_eq!(rt; (reading.defined.len(), reading.defines()), (0, true));
+    Ok(())
+}
+
+// What becomes of a datagram with this budget, where nothing is known yet.
+fn is_too_much(alloc: Global, budget: u64, datagram: &[u8]) -> Result<bool, MessageFault> {
+    let known = KnownTemplates::new(alloc, budget);
+    match answer_after(alloc, &Domains::new(alloc), &known, datagram)? {
+        Reading::TooMuch(_) => Ok(true),
+        Reading::Kept(_) => Ok(false),
+        Reading::Ignored(_) => Ok(false),
+    }
+}
+
+// A domain counts 16, and a template of four fields 12.
+#[test]
+fn a_template_counts_its_fields(rt: HostRuntime) -> Result<(), Fail> {
+    assert!(rt; is_too_much(rt.alloc(), 27, ONE_FLOW)?);
+    assert!(rt; !is_too_much(rt.alloc(), 28, ONE_FLOW)?);
+    Ok(())
+}
+
+// A template is changed that has no room: its id has none from then on, and its data sets are unknown.
+#[test]
+fn a_template_that_has_no_room_is_known_no_more(rt: HostRuntime) -> Result<(), Fail> {
+    let alloc: Global = rt.alloc();
+    let mut domains = Domains::new(alloc);
+    let mut known = KnownTemplates::new(alloc, 28);
+    let _ = take(alloc, &mut domains, &mut known, ONE_FLOW)?;
+    let Reading::TooMuch(ids) = answer_after(alloc, &domains, &known, DEFINES_300_AND_CHANGES_256)?
+    else {
+        return Err(Fail::from("taken"));
+    };
+    assert_eq!(rt; ids.as_slice(), [256].as_slice());
+    known.bar(alloc, 1, &ids)?;
+    for _time in 0..2 {
+        let decoded = take(alloc, &mut domains, &mut known, NEXT_FLOW)?;
+        assert_eq!(rt; (decoded.records.len(), decoded.unknown_sets), (0, 1));
+    }
+    let _ = take(alloc, &mut domains, &mut known, TEMPLATE_256)?;
+    let decoded = take(alloc, &mut domains, &mut known, NEXT_FLOW)?;
+    assert_eq!(rt; (decoded.records.len(), decoded.unknown_sets), (1, 0));
     Ok(())
 }

@@ -16,7 +16,7 @@ use Rattle.recording_datagrams.specs.Ending.{TellsSome}
 use Rattle.recording_datagrams.specs.Turns.{IsTurnTold, IsTurn, HadTurn, HadTurns, EndsOneSilent, AreSilent, EndsSilent, in_turn}
 
 pub limits_both : {F : Type 0} {old mid new : Peers F} → KeepsLimits old mid → KeepsLimits mid new → KeepsLimits old new
-limits_both h k = record { room = k.room ∙ h.room; reorder = k.reorder ∙ h.reorder }
+limits_both h k = record { room = k.room ∙ h.room; limits = k.limits ∙ h.limits }
 
 module _ {F : Type 0} (seen : F → FilesView) (finishes : F → FileReport → Result (Unit {0}) NotWritten → Type 0) (second : ℕ) (is_over : Bool) where
   -- the last peers, as many as had their turn, stand before the others now

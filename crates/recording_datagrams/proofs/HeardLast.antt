@@ -9,6 +9,7 @@ use Rattle.recording_files.specs.Periods.{ClockView}
 use Rattle.recording_files.specs.declared.file_report.FileReport.{FileReport}
 use Rattle.recording_files.specs.declared.file_series.NotWritten.{NotWritten}
 use Rattle.recording_files.specs.declared.record_fault.RecordFault.{RecordFault}
+use Rattle.recording_peers.specs.declared.session_limits.SessionLimits.{SessionLimits}
 use Rattle.recording_peers.specs.Steps.{Reception, Records, RecordsBy, first_by, kept_by}
 use Rattle.recording_peers.specs.Table.{same_peer, of_peer, others_for}
 use Rattle.recording_peers.specs.declared.datagram_source.NoDatagram.{NoDatagram}
@@ -83,14 +84,14 @@ module _ {F : Type 0} where
   turned (Err fault) second e new behind after h same o is = subst (λ (l : List (SocketAddr × PeerState F)). IsInOrder second l) (sym is) (later e.1.heard second behind h o)
 
 module _ {F : Type 0} (seen : F → FilesView) (finishes : F → FileReport → Result (Unit {0}) NotWritten → Type 0) where
-  module _ (made_for : F → SocketAddr → Type 0) (seconds most : ℕ) (r : Reception F) (es after : List (SocketAddr × PeerState F)) where
-    records_by : (became : Became F) → IsInOrder r.second es → RecordsBy seen made_for seconds became most r es after → IsInOrder r.second after
+  module _ (made_for : F → SocketAddr → Type 0) (limits : SessionLimits) (most : ℕ) (r : Reception F) (es after : List (SocketAddr × PeerState F)) where
+    records_by : (became : Became F) → IsInOrder r.second es → RecordsBy seen made_for limits became most r es after → IsInOrder r.second after
     records_by NoPlace o t = subst (λ (l : List (SocketAddr × PeerState F)). IsInOrder r.second l) (sym t.nothing.same) o
     records_by NoMemory o t = subst (λ (l : List (SocketAddr × PeerState F)). IsInOrder r.second l) (sym t.same) o
     records_by Taken o t = by_answer t.answer r.second most r.peer t.new es after o (heard_at seen t.old t.new r.octets r.second t.answer t.takes) t.others
     records_by (Ended k) o t = by_answer t.answer r.second most r.peer t.new es after o (heard_at seen t.old t.new r.octets r.second t.answer t.takes) t.others
 
-    records : IsInOrder r.second es → Records seen made_for seconds most r es after → IsInOrder r.second after
+    records : IsInOrder r.second es → Records seen made_for limits most r es after → IsInOrder r.second after
     records o t = records_by r.became o t
 
   had_turns : (at : ℕ) (is_over : Bool) (second : ℕ) (es after : List (SocketAddr × PeerState F)) (lines : List ℕ) → IsInOrder second es → HadTurns seen finishes at is_over es after lines → IsInOrder second after
@@ -105,7 +106,7 @@ module _ {F : Type 0} (seen : F → FilesView) (finishes : F → FileReport → 
   takes_if : (made_for : F → SocketAddr → Type 0) (may_send : Bool) (before after : Peers F) (shared then : SharedCounts) (from : SocketAddr) (m : List ℕ) (now : ℕ) (lines : List ℕ) → IsInOrder now before.kept.entries
       → IsProcessedIf seen finishes made_for before after may_send shared then from m now lines → IsInOrder now after.kept.entries
   takes_if made_for true before after shared then from m now lines o t =
-      records made_for before.reorder before.kept.cap (record { peer = from; octets = m; second = now; became = t.became; gone = t.gone }) before.kept.entries after.kept.entries o t.records
+      records made_for before.limits before.kept.cap (record { peer = from; octets = m; second = now; became = t.became; gone = t.gone }) before.kept.entries after.kept.entries o t.records
   takes_if made_for false before after shared then from m now lines o t = subst (λ (k : Peers F). IsInOrder now k.kept.entries) (sym t.1) o
 
 module _ {F P W : Type 0} (seen : F → FilesView) (finishes : F → FileReport → Result (Unit {0}) NotWritten → Type 0) (made_for : F → SocketAddr → Type 0) (asked : P → ClockView) where

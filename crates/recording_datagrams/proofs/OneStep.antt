@@ -6,6 +6,7 @@ use Rattle.ipfix_message.specs.Domains.{message_header}
 use Rattle.ipfix_message.specs.declared.fault.MessageFault.{MessageFault}
 use Rattle.recording_files.specs.Files.{FilesView}
 use Rattle.recording_files.specs.declared.record_fault.RecordFault.{RecordFault}
+use Rattle.recording_peers.specs.declared.session_limits.SessionLimits.{SessionLimits}
 use Rattle.recording_peers.specs.Calls.{Takes, TakesBy, TakesTurn}
 use Rattle.recording_peers.specs.Happenings.{Happening, DatagramCame, SecondBegan}
 use Rattle.recording_peers.specs.Kept.{IsSession}
@@ -24,12 +25,12 @@ use Rattle.recording_datagrams.specs.Standing.{IsHeard, came_among}
 -- ---- what the sessions of peers stand for, by the laws of theirs
 
 abbrev pub StandAfters : {F : Type 0} → (F → FilesView) → (F → SocketAddr → Type 0) → Type 0
-StandAfters {F} seen made_for = (seconds most : ℕ) (r : Reception F) (es after : List (SocketAddr × PeerState F)) (cs : PeerHappenings)
-    → StandFor seen seconds es cs → Records seen made_for seconds most r es after → StandAfter seen seconds most r after cs
+StandAfters {F} seen made_for = (limits : SessionLimits) (most : ℕ) (r : Reception F) (es after : List (SocketAddr × PeerState F)) (cs : PeerHappenings)
+    → StandFor seen limits es cs → Records seen made_for limits most r es after → StandAfter seen limits most r after cs
 
 abbrev pub StandInTurns : {F : Type 0} → (F → FilesView) → Type 0
-StandInTurns {F} seen = (seconds second : ℕ) (is_over : Bool) (es after : List (SocketAddr × PeerState F)) (cs : PeerHappenings) (t : InTurn F)
-    → StandFor seen seconds es cs → GoesOn seen second is_over es after t → StandAfterTurn seen seconds second t after cs
+StandInTurns {F} seen = (limits : SessionLimits) (second : ℕ) (is_over : Bool) (es after : List (SocketAddr × PeerState F)) (cs : PeerHappenings) (t : InTurn F)
+    → StandFor seen limits es cs → GoesOn seen second is_over es after t → StandAfterTurn seen limits second t after cs
 
 pub record SessionsStand {F : Type 0} (seen : F → FilesView) (made_for : F → SocketAddr → Type 0) : Type 0 where
   pub datagrams : StandAfters seen made_for
@@ -75,24 +76,24 @@ module _ {F : Type 0} (seen : F → FilesView) where
   others_heard (Ok x) k most r new es after cs p became e = absurd cc
   others_heard (Err fault) k most r new es after cs p became e = subst (λ (l : List (SocketAddr × PeerState F)). Paired IsHeard l (others_for most r.peer cs)) (sym e) (paired_others IsHeard most r.peer es cs p)
 
-  module _ (made_for : F → SocketAddr → Type 0) (seconds most : ℕ) (r : Reception F) (es after : List (SocketAddr × PeerState F)) (cs : PeerHappenings) where
-    heard_by_became : (became : Became F) → r.became ≡ became → Paired IsHeard es cs → RecordsBy seen made_for seconds became most r es after → Paired IsHeard after (happened_by became most r cs)
+  module _ (made_for : F → SocketAddr → Type 0) (limits : SessionLimits) (most : ℕ) (r : Reception F) (es after : List (SocketAddr × PeerState F)) (cs : PeerHappenings) where
+    heard_by_became : (became : Became F) → r.became ≡ became → Paired IsHeard es cs → RecordsBy seen made_for limits became most r es after → Paired IsHeard after (happened_by became most r cs)
     heard_by_became Taken is p t = kept_heard t.answer most r t.new es after cs p (heard_now t.old t.new r.octets r.second t.answer (happened_to r.peer cs) t.takes) (sym is ∙ t.became) t.others
     heard_by_became (Ended k) is p t = others_heard t.answer k most r t.new es after cs p (sym is ∙ t.became) t.others
     heard_by_became NoPlace is p t = subst (λ (l : List (SocketAddr × PeerState F)). Paired IsHeard l cs) (sym t.nothing.same) p
     heard_by_became NoMemory is p t = subst (λ (l : List (SocketAddr × PeerState F)). Paired IsHeard l cs) (sym t.same) p
 
-    pub heard_after : Paired IsHeard es cs → Records seen made_for seconds most r es after → Paired IsHeard after (happened_in most r cs)
+    pub heard_after : Paired IsHeard es cs → Records seen made_for limits most r es after → Paired IsHeard after (happened_in most r cs)
     heard_after p t = heard_by_became r.became refl p t
 
-    stands_by : (became : Became F) → StandBy seen seconds became most r after cs → StandFor seen seconds after (happened_by became most r cs)
+    stands_by : (became : Became F) → StandBy seen limits became most r after cs → StandFor seen limits after (happened_by became most r cs)
     stands_by Taken s = s.0
     stands_by (Ended k) s = s.0
     stands_by NoPlace s = s.0
     stands_by NoMemory s = s.0
 
-    pub stand_after : StandAfters seen made_for → StandFor seen seconds es cs → Records seen made_for seconds most r es after → StandFor seen seconds after (happened_in most r cs)
-    stand_after law p t = stands_by r.became (law seconds most r es after cs p t)
+    pub stand_after : StandAfters seen made_for → StandFor seen limits es cs → Records seen made_for limits most r es after → StandFor seen limits after (happened_in most r cs)
+    stand_after law p t = stands_by r.became (law limits most r es after cs p t)
 
   module _ (second : ℕ) (is_over : Bool) (old new : PeerState F) (turn : Turn) (hs : List Happening) where
     pub heard_in_turn : IsHeard old hs → TakesTurn seen old new second is_over turn → IsHeard new (hs ++ SecondBegan second ∷ [])
@@ -105,23 +106,23 @@ module _ {F : Type 0} (seen : F → FilesView) where
     }
 
   -- by the answer
-  abbrev pub TurnsTo : ℕ → Result (Unit {0}) RecordFault → PeerState F → List Happening → Type 0
-  TurnsTo seconds (Ok x) new hs = IsSession seen new seconds hs
-  TurnsTo seconds (Err fault) new hs = Unit {0}
+  abbrev pub TurnsTo : SessionLimits → Result (Unit {0}) RecordFault → PeerState F → List Happening → Type 0
+  TurnsTo limits (Ok x) new hs = IsSession seen new limits hs
+  TurnsTo limits (Err fault) new hs = Unit {0}
 
   -- of one peer that is kept
-  turns_so : (seconds second : ℕ) (answer : Result (Unit {0}) RecordFault) (peer : SocketAddr) (new : PeerState F) (hs : List Happening) (c : SocketAddr × List Happening) → c ≡ (peer, hs)
-      → StandInTurn seen seconds second (ended_by answer new) (first_by answer peer new []) ((peer, hs) ∷ []) c → TurnsTo seconds answer new (hs ++ SecondBegan second ∷ [])
-  turns_so seconds second (Ok x) peer new hs c is s = subst (λ (d : SocketAddr × List Happening). IsSession seen new seconds (d.1 ++ SecondBegan second ∷ [])) is s.0.1
-  turns_so seconds second (Err fault) peer new hs c is s = tt
+  turns_so : (limits : SessionLimits) (second : ℕ) (answer : Result (Unit {0}) RecordFault) (peer : SocketAddr) (new : PeerState F) (hs : List Happening) (c : SocketAddr × List Happening) → c ≡ (peer, hs)
+      → StandInTurn seen limits second (ended_by answer new) (first_by answer peer new []) ((peer, hs) ∷ []) c → TurnsTo limits answer new (hs ++ SecondBegan second ∷ [])
+  turns_so limits second (Ok x) peer new hs c is s = subst (λ (d : SocketAddr × List Happening). IsSession seen new limits (d.1 ++ SecondBegan second ∷ [])) is s.0.1
+  turns_so limits second (Err fault) peer new hs c is s = tt
 
-  pub turned : (law : StandInTurns seen) (seconds second : ℕ) (is_over : Bool) (peer : SocketAddr) (old new : PeerState F) (turn : Turn) (hs : List Happening) → IsSession seen old seconds hs → TakesTurn seen old new second is_over turn
-      → TurnsTo seconds turn.answer new (hs ++ SecondBegan second ∷ [])
-  turned law seconds second is_over peer old new turn hs s t =
+  pub turned : (law : StandInTurns seen) (limits : SessionLimits) (second : ℕ) (is_over : Bool) (peer : SocketAddr) (old new : PeerState F) (turn : Turn) (hs : List Happening) → IsSession seen old limits hs → TakesTurn seen old new second is_over turn
+      → TurnsTo limits turn.answer new (hs ++ SecondBegan second ∷ [])
+  turned law limits second is_over peer old new turn hs s t =
       let alone : InTurn F = record { peer = peer; refused = turn.refused; orders = turn.orders; resumed = turn.resumed; ended = ended_by turn.answer new } in
       let goes_on : GoesOn seen second is_over ((peer, old) ∷ []) (first_by turn.answer peer new []) alone =
       record { old = old; last = refl; new = new; turn = turn; takes = t; refused = refl; orders = refl; resumed = refl; ended = refl; others = refl } in
-      let stand = law seconds second is_over ((peer, old) ∷ []) (first_by turn.answer peer new []) ((peer, hs) ∷ []) alone ((refl, s), tt) goes_on in
+      let stand = law limits second is_over ((peer, old) ∷ []) (first_by turn.answer peer new []) ((peer, hs) ∷ []) alone ((refl, s), tt) goes_on in
       let found : Some (peer, hs) ≡ Some stand.last = stand.is in
       let is : stand.last ≡ (peer, hs) = cc in
-      turns_so seconds second turn.answer peer new hs stand.last is stand.stand
+      turns_so limits second turn.answer peer new hs stand.last is stand.stand

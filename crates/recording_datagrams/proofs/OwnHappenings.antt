@@ -8,6 +8,7 @@ use Rattle.recording_files.specs.Files.{FilesView}
 use Rattle.recording_files.specs.declared.file_report.FileReport.{FileReport}
 use Rattle.recording_files.specs.declared.file_series.NotWritten.{NotWritten}
 use Rattle.recording_files.specs.declared.record_fault.RecordFault.{RecordFault}
+use Rattle.recording_peers.specs.declared.session_limits.SessionLimits.{SessionLimits}
 use Rattle.recording_peers.specs.Happenings.{Happening, SecondBegan}
 use Rattle.recording_peers.specs.Kept.{IsSession}
 use Rattle.recording_peers.specs.Runs.{happened_by, happened_in}
@@ -199,7 +200,7 @@ last_same own all (c ∷ cs) e l = (record { before = l.0.before; are = sym (e c
 
 -- ---- after a datagram
 
-module _ {F : Type 0} (seen : F → FilesView) (seconds : ℕ) (own : SocketAddr → List Happening) where
+module _ {F : Type 0} (seen : F → FilesView) (limits : SessionLimits) (own : SocketAddr → List Happening) where
   first_stands : (most : ℕ) (from : SocketAddr) (h : Happening) (cs : PeerHappenings) → AreApart cs → HaveLast own cs → AreApart (with_happening most cs from h) × HaveLast (own_with own from h) (with_happening most cs from h)
   first_stands most from h cs a l =
       let less = less_others own most from cs a l in
@@ -213,81 +214,81 @@ module _ {F : Type 0} (seen : F → FilesView) (seconds : ℕ) (own : SocketAddr
   rest_stands : (most : ℕ) (from : SocketAddr) (h : Happening) (cs : PeerHappenings) → AreApart cs → HaveLast own cs → AreApart (others_for most from cs) × HaveLast (own_with own from h) (others_for most from cs)
   rest_stands most from h cs a l = let less = less_others own most from cs a l in (less.apart, last_of_others own from h (others_for most from cs) (others_are most from cs a) less.last)
 
-  none_of : (o : Option (PeerState F)) (q : Option (List Happening)) → Both (λ k hs. IsSession seen k seconds hs) o q → o ≡ None → q ≡ None
+  none_of : (o : Option (PeerState F)) (q : Option (List Happening)) → Both (λ k hs. IsSession seen k limits hs) o q → o ≡ None → q ≡ None
   none_of None None b e = refl
   none_of None (Some hs) b e = absurd b
   none_of (Some k) q b e = absurd cc
 
-  pub last_by : (made_for : F → SocketAddr → Type 0) (became : Became F) (most : ℕ) (r : Reception F) (es after : List (SocketAddr × PeerState F)) (cs : PeerHappenings) → StandFor seen seconds es cs → AreApart cs → HaveLast own cs
-      → RecordsBy seen made_for seconds became most r es after → AreApart (happened_by became most r cs) × HaveLast (own_with own r.peer (came_in r)) (happened_by became most r cs)
+  pub last_by : (made_for : F → SocketAddr → Type 0) (became : Became F) (most : ℕ) (r : Reception F) (es after : List (SocketAddr × PeerState F)) (cs : PeerHappenings) → StandFor seen limits es cs → AreApart cs → HaveLast own cs
+      → RecordsBy seen made_for limits became most r es after → AreApart (happened_by became most r cs) × HaveLast (own_with own r.peer (came_in r)) (happened_by became most r cs)
   last_by made_for Taken most r es after cs p a l t = first_stands most r.peer (came_in r) cs a l
   last_by made_for (Ended k) most r es after cs p a l t = rest_stands most r.peer (came_in r) cs a l
   last_by made_for NoPlace most r es after cs p a l t =
-      let none = none_of (of_peer r.peer es) (of_peer r.peer cs) (paired_lookup (λ (k : PeerState F) (hs : List Happening). IsSession seen k seconds hs) (same_peer r.peer) es cs p) t.nothing.begins in
+      let none = none_of (of_peer r.peer es) (of_peer r.peer cs) (paired_lookup (λ (k : PeerState F) (hs : List Happening). IsSession seen k limits hs) (same_peer r.peer) es cs p) t.nothing.begins in
       (a, last_of_others own r.peer (came_in r) cs (not_found r.peer cs none) l)
   last_by made_for NoMemory most r es after cs p a l t =
-      let none = none_of (of_peer r.peer es) (of_peer r.peer cs) (paired_lookup (λ (k : PeerState F) (hs : List Happening). IsSession seen k seconds hs) (same_peer r.peer) es cs p) t.begins in
+      let none = none_of (of_peer r.peer es) (of_peer r.peer cs) (paired_lookup (λ (k : PeerState F) (hs : List Happening). IsSession seen k limits hs) (same_peer r.peer) es cs p) t.begins in
       (a, last_of_others own r.peer (came_in r) cs (not_found r.peer cs none) l)
 
 -- the sessions of these peers stand for the last ones of their own, and each heard of its peer last as it says
-pub record Stands {F : Type 0} (seen : F → FilesView) (seconds : ℕ) (own : SocketAddr → List Happening) (es : List (SocketAddr × PeerState F)) : Type 0 where
+pub record Stands {F : Type 0} (seen : F → FilesView) (limits : SessionLimits) (own : SocketAddr → List Happening) (es : List (SocketAddr × PeerState F)) : Type 0 where
   pub cs : PeerHappenings
-  pub stand : StandFor seen seconds es cs
+  pub stand : StandFor seen limits es cs
   pub heard : Paired IsHeard es cs
   pub apart : AreApart cs
   pub last : HaveLast own cs
 
 -- and so of those that are left of others
-pub record StandLess {F : Type 0} (seen : F → FilesView) (seconds : ℕ) (own : SocketAddr → List Happening) (cs : PeerHappenings) (after : List (SocketAddr × PeerState F)) : Type 0 where
+pub record StandLess {F : Type 0} (seen : F → FilesView) (limits : SessionLimits) (own : SocketAddr → List Happening) (cs : PeerHappenings) (after : List (SocketAddr × PeerState F)) : Type 0 where
   pub ds : PeerHappenings
-  pub stand : StandFor seen seconds after ds
+  pub stand : StandFor seen limits after ds
   pub heard : Paired IsHeard after ds
   pub less : Less own ds cs
 
-module _ {F : Type 0} (seen : F → FilesView) (seconds : ℕ) where
-  pub same_stand : (own all : SocketAddr → List Happening) (es after : List (SocketAddr × PeerState F)) → ((peer : SocketAddr) → own peer ≡ all peer) → after ≡ es → Stands seen seconds own es → Stands seen seconds all after
+module _ {F : Type 0} (seen : F → FilesView) (limits : SessionLimits) where
+  pub same_stand : (own all : SocketAddr → List Happening) (es after : List (SocketAddr × PeerState F)) → ((peer : SocketAddr) → own peer ≡ all peer) → after ≡ es → Stands seen limits own es → Stands seen limits all after
   same_stand own all es after e same s = record {
     cs = s.cs;
-    stand = subst (λ (l : List (SocketAddr × PeerState F)). StandFor seen seconds l s.cs) (sym same) s.stand;
+    stand = subst (λ (l : List (SocketAddr × PeerState F)). StandFor seen limits l s.cs) (sym same) s.stand;
     heard = subst (λ (l : List (SocketAddr × PeerState F)). Paired IsHeard l s.cs) (sym same) s.heard;
     apart = s.apart;
     last = last_same own all s.cs e s.last;
   }
 
-  pub fewer_stand : (own : SocketAddr → List Happening) (cs : PeerHappenings) (after : List (SocketAddr × PeerState F)) → StandLess seen seconds own cs after → Stands seen seconds own after
+  pub fewer_stand : (own : SocketAddr → List Happening) (cs : PeerHappenings) (after : List (SocketAddr × PeerState F)) → StandLess seen limits own cs after → Stands seen limits own after
   fewer_stand own cs after b = record { cs = b.ds; stand = b.stand; heard = b.heard; apart = b.less.apart; last = b.less.last }
 
   module _ (own : SocketAddr → List Happening) where
-    pub behind_datagram : (made_for : F → SocketAddr → Type 0) (law : StandAfters seen made_for) (most : ℕ) (r : Reception F) (es after : List (SocketAddr × PeerState F)) → Stands seen seconds own es → Records seen made_for seconds most r es after
-        → Stands seen seconds (own_with own r.peer (came_in r)) after
+    pub behind_datagram : (made_for : F → SocketAddr → Type 0) (law : StandAfters seen made_for) (most : ℕ) (r : Reception F) (es after : List (SocketAddr × PeerState F)) → Stands seen limits own es → Records seen made_for limits most r es after
+        → Stands seen limits (own_with own r.peer (came_in r)) after
     behind_datagram made_for law most r es after s t =
-        let next = last_by seen seconds own made_for r.became most r es after s.cs s.stand s.apart s.last t in
+        let next = last_by seen limits own made_for r.became most r es after s.cs s.stand s.apart s.last t in
         record {
           cs = happened_in most r s.cs;
-          stand = stand_after seen made_for seconds most r es after s.cs law s.stand t;
-          heard = heard_after seen made_for seconds most r es after s.cs s.heard t;
+          stand = stand_after seen made_for limits most r es after s.cs law s.stand t;
+          heard = heard_after seen made_for limits most r es after s.cs s.heard t;
           apart = next.0;
           last = next.1;
         }
 
     -- after the turns of all peers
     turned_by : (answer : Result (Unit {0}) RecordFault) (peer : SocketAddr) (new : PeerState F) (others after : List (SocketAddr × PeerState F)) (c : SocketAddr × List Happening) (cs : PeerHappenings) → AreApart (c ∷ cs) → HaveLast own (c ∷ cs)
-        → peer ≡ c.0 → TurnsTo seen seconds answer new c.1 → IsHeard new c.1 → after ≡ first_by answer peer new others → StandLess seen seconds own cs others → StandLess seen seconds own (c ∷ cs) after
+        → peer ≡ c.0 → TurnsTo seen limits answer new c.1 → IsHeard new c.1 → after ≡ first_by answer peer new others → StandLess seen limits own cs others → StandLess seen limits own (c ∷ cs) after
     turned_by (Ok x) peer new others after c cs a l same t heard e b = record {
       ds = c ∷ b.ds;
-      stand = subst (λ (l : List (SocketAddr × PeerState F)). StandFor seen seconds l (c ∷ b.ds)) (sym e) ((same, t), b.stand);
+      stand = subst (λ (l : List (SocketAddr × PeerState F)). StandFor seen limits l (c ∷ b.ds)) (sym e) ((same, t), b.stand);
       heard = subst (λ (l : List (SocketAddr × PeerState F)). Paired IsHeard l (c ∷ b.ds)) (sym e) ((same, heard), b.heard);
       less = less_first own c b.ds cs a l b.less;
     }
     turned_by (Err fault) peer new others after c cs a l same t heard e b = record {
       ds = b.ds;
-      stand = subst (λ (l : List (SocketAddr × PeerState F)). StandFor seen seconds l b.ds) (sym e) b.stand;
+      stand = subst (λ (l : List (SocketAddr × PeerState F)). StandFor seen limits l b.ds) (sym e) b.stand;
       heard = subst (λ (l : List (SocketAddr × PeerState F)). Paired IsHeard l b.ds) (sym e) b.heard;
       less = less_rest own c b.ds cs a b.less;
     }
 
     -- those in front
-    pub front_of : (after gone : List (SocketAddr × PeerState F)) (cs : PeerHappenings) → StandFor seen seconds (after ++ gone) cs → Paired IsHeard (after ++ gone) cs → AreApart cs → HaveLast own cs → StandLess seen seconds own cs after
+    pub front_of : (after gone : List (SocketAddr × PeerState F)) (cs : PeerHappenings) → StandFor seen limits (after ++ gone) cs → Paired IsHeard (after ++ gone) cs → AreApart cs → HaveLast own cs → StandLess seen limits own cs after
     front_of [] gone cs p h a l = record { ds = []; stand = tt; heard = tt; less = less_none own cs }
     front_of (e ∷ after) gone [] p h a l = absurd p
     front_of (e ∷ after) gone (c ∷ cs) p h a l =
@@ -295,11 +296,11 @@ module _ {F : Type 0} (seen : F → FilesView) (seconds : ℕ) where
         record { ds = c ∷ on.ds; stand = (p.0, on.stand); heard = (h.0, on.heard); less = less_first own c on.ds cs a l on.less }
 
   module _ (own : SocketAddr → List Happening) (finishes : F → FileReport → Result (Unit {0}) NotWritten → Type 0) (second : ℕ) (is_over : Bool) (law : StandInTurns seen) where
-    pub behind_turns : (es after : List (SocketAddr × PeerState F)) (cs : PeerHappenings) (lines : List ℕ) → StandFor seen seconds es cs → Paired IsHeard es cs → AreApart cs → HaveLast own cs → HadTurns seen finishes second is_over es after lines
-        → StandLess seen seconds (own_and own (SecondBegan second)) (all_with (SecondBegan second) cs) after
+    pub behind_turns : (es after : List (SocketAddr × PeerState F)) (cs : PeerHappenings) (lines : List ℕ) → StandFor seen limits es cs → Paired IsHeard es cs → AreApart cs → HaveLast own cs → HadTurns seen finishes second is_over es after lines
+        → StandLess seen limits (own_and own (SecondBegan second)) (all_with (SecondBegan second) cs) after
     behind_turns [] after [] lines p h a l t = record {
       ds = [];
-      stand = subst (λ (l : List (SocketAddr × PeerState F)). StandFor seen seconds l []) (sym t.0) tt;
+      stand = subst (λ (l : List (SocketAddr × PeerState F)). StandFor seen limits l []) (sym t.0) tt;
       heard = subst (λ (l : List (SocketAddr × PeerState F)). Paired IsHeard l []) (sym t.0) tt;
       less = less_none (own_and own (SecondBegan second)) [];
     }
@@ -308,15 +309,15 @@ module _ {F : Type 0} (seen : F → FilesView) (seconds : ℕ) where
     behind_turns (e ∷ es) after (c ∷ cs) lines p h a l t =
         let began = SecondBegan second in
         let on = behind_turns es t.0 cs t.1 p.1 h.1 a.1 l.1 t.3 in
-        let session = turned seen law seconds second is_over e.0 e.1 t.4.new t.4.turn c.1 p.0.1 t.4.takes in
+        let session = turned seen law limits second is_over e.0 e.1 t.4.new t.4.turn c.1 p.0.1 t.4.takes in
         let heard = heard_in_turn seen second is_over e.1 t.4.new t.4.turn c.1 h.0.1 t.4.takes in
         turned_by (own_and own began) t.4.turn.answer e.0 t.4.new t.0 after (c.0, c.1 ++ began ∷ []) (all_with began cs)
         (apart_all began (c ∷ cs) a) (last_all own began (c ∷ cs) l) p.0.0 session heard t.4.kept on
 
-    pub turns_stand : (es after : List (SocketAddr × PeerState F)) (lines : List ℕ) → Stands seen seconds own es → HadTurns seen finishes second is_over es after lines → Stands seen seconds (own_and own (SecondBegan second)) after
+    pub turns_stand : (es after : List (SocketAddr × PeerState F)) (lines : List ℕ) → Stands seen limits own es → HadTurns seen finishes second is_over es after lines → Stands seen limits (own_and own (SecondBegan second)) after
     turns_stand es after lines s t = fewer_stand (own_and own (SecondBegan second)) (all_with (SecondBegan second) s.cs) after (behind_turns es after s.cs lines s.stand s.heard s.apart s.last t)
 
-  pub front_stands : (own : SocketAddr → List Happening) (es after gone : List (SocketAddr × PeerState F)) → es ≡ after ++ gone → Stands seen seconds own es → Stands seen seconds own after
+  pub front_stands : (own : SocketAddr → List Happening) (es after gone : List (SocketAddr × PeerState F)) → es ≡ after ++ gone → Stands seen limits own es → Stands seen limits own after
   front_stands own es after gone e s =
-      fewer_stand own s.cs after (front_of own after gone s.cs (subst (λ (l : List (SocketAddr × PeerState F)). StandFor seen seconds l s.cs) e s.stand)
+      fewer_stand own s.cs after (front_of own after gone s.cs (subst (λ (l : List (SocketAddr × PeerState F)). StandFor seen limits l s.cs) e s.stand)
       (subst (λ (l : List (SocketAddr × PeerState F)). Paired IsHeard l s.cs) e s.heard) s.apart s.last)

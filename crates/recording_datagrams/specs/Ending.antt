@@ -16,12 +16,12 @@ use Rattle.recording_peer.specs.Recording.{Tells as Reports, answer_of}
 use Rattle.recording_peer.specs.declared.peer_session.PeerSession.{PeerSession}
 use Rattle.recording_peer.specs.declared.resumption.Resumption.{Resumption}
 use Rattle.recording_peers.specs.Calls.{Follows}
+use Rattle.recording_peers.specs.DatagramFaults.{number_of, name_of}
 use Rattle.recording_peers.specs.declared.peer_state.PeerState.{PeerState}
 use Rattle.recording_peers.specs.declared.refusals.Refusals.{Refusals}
 use Rattle.report_writing.specs.Writing.{Tells}
 use Rattle.recording_lines.specs.RecordLines.{advance_line, order_line, peer_ended_line, refused_datagrams_line, resumed_line}
 use Rattle.recording_connections.specs.Serving.{session_lines}
-use Rattle.ipfix_message.specs.Faults.{number_of, name_of}
 use Rattle.recording_datagrams.specs.declared.ending.EndCause.{EndCause}
 use Rattle.recording_datagrams.specs.declared.ending.EndCause.TheVariants.{LongestSilent, Idle}
 

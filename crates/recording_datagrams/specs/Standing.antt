@@ -5,6 +5,7 @@ use Rattle.recording_files.specs.Files.{FilesView}
 use Rattle.recording_files.specs.Periods.{ClockView}
 use Rattle.recording_files.specs.declared.file_report.FileReport.{FileReport}
 use Rattle.recording_files.specs.declared.file_series.NotWritten.{NotWritten}
+use Rattle.recording_peers.specs.declared.session_limits.SessionLimits.{SessionLimits}
 use Rattle.recording_peers.specs.Happenings.{Happening, DatagramCame, SecondBegan}
 use Rattle.recording_peers.specs.Kept.{IsSession}
 use Rattle.recording_peers.specs.Table.{same_peer, of_peer, Paired}
@@ -73,9 +74,9 @@ module _ {F P W : Type 0} {seen : F → FilesView} {finishes : F → FileReport 
   own_by run peer = own_of peer run.old.second run.rounds
 
 -- the session of each of these peers stands for the last ones of its own, and says when the last datagram among them came
-pub record StandForLast {F : Type 0} (seen : F → FilesView) (seconds : ℕ) (own : SocketAddr → List Happening) (es : List (SocketAddr × PeerState F)) : Type 0 where
+pub record StandForLast {F : Type 0} (seen : F → FilesView) (limits : SessionLimits) (own : SocketAddr → List Happening) (es : List (SocketAddr × PeerState F)) : Type 0 where
   pub happened : PeerHappenings
-  pub stand : StandFor seen seconds es happened
+  pub stand : StandFor seen limits es happened
   pub last : HaveLast own happened
   pub heard : Paired IsHeard es happened
 
@@ -89,9 +90,9 @@ AreHeard since (e ∷ es) = (since ≤ e.1.heard) × AreHeard since es
 -- ---- a peer whose session stays
 
 -- a session stands for all of these from the first datagram on; where there is none, no datagram came
-abbrev pub StandsForAll : {F : Type 0} → (F → FilesView) → ℕ → Option (PeerState F) → List Happening → Type 0
-StandsForAll seen seconds None all = came_among all ≡ []
-StandsForAll seen seconds (Some k) all = (hs : List Happening) × HaveAllCame hs all × IsSession seen k seconds hs
+abbrev pub StandsForAll : {F : Type 0} → (F → FilesView) → SessionLimits → Option (PeerState F) → List Happening → Type 0
+StandsForAll seen limits None all = came_among all ≡ []
+StandsForAll seen limits (Some k) all = (hs : List Happening) × HaveAllCame hs all × IsSession seen k limits hs
 
 abbrev pub IsKept : {F P W : Type 0} → SocketAddr → DatagramTaker F P W → Type 0
 IsKept peer r = IsSome (of_peer peer r.peers.kept.entries)

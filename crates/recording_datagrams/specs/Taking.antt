@@ -58,7 +58,7 @@ module _ {F : Type 0} (seen : F → FilesView) (finishes : F → FileReport → 
     pub became : Became F
     pub counted : then ≡ unserved_by became shared from
     pub gone : Option (SocketAddr × PeerState F)
-    pub records : Records seen made_for before.reorder before.kept.cap (record { peer = from; octets = m; second = now; became = became; gone = gone })
+    pub records : Records seen made_for before.limits before.kept.cap (record { peer = from; octets = m; second = now; became = became; gone = gone })
         before.kept.entries after.kept.entries
     pub limits : KeepsLimits before after
     pub gone_lines : List ℕ

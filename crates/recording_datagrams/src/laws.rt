@@ -23,7 +23,7 @@ pub fn sessions_stand_behind_rounds<
     W: WriteLines + Drop,
 >()
     ensures { (run : FromNone W F.seen F.finishes P.made_for P.asked)
-        → StandForLast F.seen run.old.peers.reorder (own_by run) run.new.peers.kept.entries }
+        → StandForLast F.seen run.old.peers.limits (own_by run) run.new.peers.kept.entries }
 {
     sessions_stand_for_their_datagrams::<F, P>();
     sessions_stand_in_turn::<F>();
@@ -38,7 +38,7 @@ pub fn session_that_stays_stands_for_all<
     W: WriteLines + Drop,
 >()
     ensures { (run : FromNone W F.seen F.finishes P.made_for P.asked) (peer : SocketAddr)
-        → NeverEnds peer run → StandsForAll F.seen run.old.peers.reorder
+        → NeverEnds peer run → StandsForAll F.seen run.old.peers.limits
         (of_peer peer run.new.peers.kept.entries) (own_by run peer) }
 {
     sessions_stand_for_their_datagrams::<F, P>();

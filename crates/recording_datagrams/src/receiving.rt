@@ -16,7 +16,7 @@ use recording_connections::{RecorderRun, RecordingFiles, SharedCounts};
 use recording_files::PeriodClock;
 use recording_folder::{EarlierPeers, SystemPlace};
 use recording_lines::{WholeLines, write_threads};
-use recording_peers::{PeerPlace, Peers};
+use recording_peers::{PeerPlace, Peers, SessionLimits};
 use report_writing::WriteLines;
 use std::alloc::{AllocError, Global};
 use std::fs::File;
@@ -115,7 +115,8 @@ fn taker_of<'x, E: Write + Copy + Drop, R: Wait>(
         taker.peers.kept ≡ lru_cache [] (non_zero_usize_get limits.most)) }
     ensures idle { IfOk result (λ taker. taker.idle ≡ limits.idle) }
     ensures earlier { IfOk result (λ taker. taker.place.kept_for ≡ limits.idle) }
-    ensures reorder { IfOk result (λ taker. taker.peers.reorder ≡ limits.reorder) }
+    ensures session { IfOk result (λ taker. taker.peers.limits
+        ≡ record { reorder = limits.reorder; templates = limits.templates }) }
     ensures second { IfOk result (λ taker. taker.second ≡ 0) }
 {
     let place = SystemPlace::new(run.rt, run.folder, run.order.every.get());
@@ -126,7 +127,10 @@ fn taker_of<'x, E: Write + Copy + Drop, R: Wait>(
             run.alloc,
             limits.most,
             RandomState::new(run.rt)?,
-            limits.reorder,
+            SessionLimits {
+                reorder: limits.reorder,
+                templates: limits.templates,
+            },
         )?,
         place: PeerFolder {
             place,

@@ -5,7 +5,7 @@ use network_prefixes::{PeerFilter, Prefix};
 use recording_connections::SharedCounts;
 use recording_datagrams::DatagramTaker;
 use recording_files::ScriptClock;
-use recording_peers::{Datagram, Peers};
+use recording_peers::{Datagram, Peers, SessionLimits};
 use std::alloc::Global;
 use std::hash::RandomState;
 use std::net::{IpAddr, Ipv4Addr, SocketAddr};
@@ -51,7 +51,10 @@ fn tell_all(rt: &HostRuntime, out: &mut FailingWriter) -> Result<(), Fail> {
             alloc,
             NonZeroUsize::new(2).unwrap(),
             RandomState::new(rt)?,
-            0,
+            SessionLimits {
+                reorder: 0,
+                templates: 16384,
+            },
         )?,
         place: PlaceInPeriods {
             place: SmallPlace { room: 100 },

@@ -6,7 +6,7 @@ use network_prefixes::PeerFilter;
 use recording_connections::SharedCounts;
 use recording_datagrams::{DatagramTaker, record_datagrams};
 use recording_files::ScriptClock;
-use recording_peers::{Peers, ScriptDatagrams, ScriptedDatagram};
+use recording_peers::{Peers, ScriptDatagrams, ScriptedDatagram, SessionLimits};
 use std::alloc::{AllocError, Global};
 use std::hash::RandomState;
 use std::net::{IpAddr, Ipv4Addr, SocketAddr};
@@ -60,7 +60,10 @@ fn taker_of<'a, 'w>(
             alloc,
             NonZeroUsize::new(1).unwrap(),
             RandomState::new(rt)?,
-            reorder,
+            SessionLimits {
+                reorder,
+                templates: 16384,
+            },
         )?,
         place: PlaceInPeriods {
             place: SmallPlace { room: 1000 },

@@ -1,44 +1,66 @@
 -- Which datagram begins the session of a peer.
-use Rattle.std.proofs.Common.{◌≡◌, ℕ, Bool, true, false, List, [], Ok, Option, sym, ap, subst, ◌∙◌, inl, inr}
-use Rattle.std.specs.Prelude.{◌≢◌, ◌⊎◌, MatchBool, length}
+use Rattle.std.proofs.Common.{◌≡◌, ℕ, Bool, true, false, List, [], Ok, Option, Some, None, sym, ap, subst, ◌∙◌, inl, inr}
+use Rattle.std.specs.Prelude.{◌≢◌, ◌⊎◌, IfOk, Result, Err, length}
 use Rattle.std.specs.BTreeMap.{BTreeMap, values, get}
 use Rattle.std.specs.Ordering.{nat_cmp}
 use Rattle.ipfix_wire.specs.declared.header.Header.{Header}
-use Rattle.ipfix_message.specs.Domains.{DomainsView, Message, StandsFor, message_header}
+use Rattle.ipfix_message.specs.Domains.{DomainsView, History, Message, StandsFor, message_header}
 use Rattle.ipfix_message.specs.declared.record.Template.{Template}
-use Rattle.ipfix_datagrams.specs.Datagrams.{KeepsWithdrawn, IsReadingOf, Represents, defines_template, preparation_of}
+use Rattle.ipfix_datagrams.specs.Datagrams.{Answers, Basis, Fits, HasFault, IsRefused, barred_in, basis_of, IsReadingOf, Represents, WeighAfter, defines_template, preparation_of}
 use Rattle.ipfix_datagrams.specs.declared.reading.DatagramReading.{DatagramReading}
+use Rattle.ipfix_datagrams.specs.declared.reading.Reading.{Reading}
+use Rattle.ipfix_datagrams.specs.declared.known_templates.KnownTemplates.{KnownTemplates}
+use Rattle.ipfix_message.specs.declared.fault.MessageFault.{MessageFault}
+use Rattle.ipfix_message.specs.declared.fault.MessageFault.TheVariants.{OutOfMemory}
 use Rattle.ipfix_datagrams.proofs.Answered.{no_values, some_values}
-use Rattle.ipfix_datagrams.proofs.Kept.{none_kept, no_entry}
 use Rattle.recording_resumption.specs.Resumption.{resumed_by}
 use Rattle.recording_resumption.specs.declared.earlier_domain.EarlierDomain.{EarlierDomain}
-use Rattle.recording_peer.specs.Beginnings.{BeginsPeer, WhyNone, resumed_first}
-use Rattle.recording_peer.specs.Peers.{Resumed, resumed_at, resumed_of}
+use Rattle.recording_peer.specs.Beginnings.{BeginsIf, BeginsPeer, first_basis, resumed_first}
+use Rattle.recording_peer.specs.Peers.{resumed_at, resumed_of}
 
 -- of a peer of which nothing is kept
 pub no_domains : (d : DomainsView) → d.spent ≡ false → StandsFor d.domains [] → Represents d []
 no_domains d fresh stands = record { fresh = fresh; stands = stands }
 
-pub none_withdrawn : (s : BTreeMap ℕ (BTreeMap ℕ Template)) → s.entries ≡ [] → KeepsWithdrawn s []
-none_withdrawn s none = none_kept s (λ domain id. no_entry s domain id none)
-
 -- a datagram that is taken
-begins : (ts : List Template) (m : List ℕ) (r : DatagramReading) (x : Message) → IsReadingOf ts [] m r x → (defines_template m ≡ true) ⊎ (ts ≢ []) → BeginsPeer ts m
-begins ts m r x is leaves = record { preparation = preparation_of r; given = x; taken = is.taken; leaves = leaves }
+begins : (budget : ℕ) (ws : List (ℕ × ℕ)) (ts : List Template) (m : List ℕ) (r : DatagramReading) (x : Message) → IsReadingOf (first_basis ts) [] m r x → Fits budget ws x.domains → (defines_template m ≡ true) ⊎ (ts ≢ []) → BeginsPeer budget ts m
+begins budget ws ts m r x is fits leaves = record { preparation = preparation_of r; weights = ws; given = x; taken = is.taken; fits = fits; leaves = leaves }
 
 -- where none is resumed
-pub begins_by_own : (ts : BTreeMap ℕ Template) (m : List ℕ) (r : DatagramReading) (x : Message) (defines : Bool) → IsReadingOf (values ts) [] m r x → length ts.entries ≡ 0
-    → defines ≡ defines_template m → MatchBool defines (BeginsPeer (values ts) m) (WhyNone (values ts) m)
-begins_by_own ts m r x true is none d = begins (values ts) m r x is (inl (sym d))
-begins_by_own ts m r x false is none d = inr (inr (sym d, no_values ts none))
+pub begins_by_own : (budget : ℕ) (ws : List (ℕ × ℕ)) (ts : BTreeMap ℕ Template) (m : List ℕ) (r : DatagramReading) (x : Message) (defines : Bool) → IsReadingOf (first_basis (values ts)) [] m r x → Fits budget ws x.domains → length ts.entries ≡ 0
+    → defines ≡ defines_template m → BeginsIf budget (values ts) m defines
+begins_by_own budget ws ts m r x true is fits none d = begins budget ws (values ts) m r x is fits (inl (sym d))
+begins_by_own budget ws ts m r x false is fits none d = inr (inr (inr (sym d, no_values ts none)))
 
 -- and where some are
-pub begins_by_resumed : (ts : BTreeMap ℕ Template) (m : List ℕ) (r : DatagramReading) (x : Message) → IsReadingOf (values ts) [] m r x → (length ts.entries ≡ 0 → ⊥) → BeginsPeer (values ts) m
-begins_by_resumed ts m r x is some = begins (values ts) m r x is (inr (some_values ts some))
+pub begins_by_resumed : (budget : ℕ) (ws : List (ℕ × ℕ)) (ts : BTreeMap ℕ Template) (m : List ℕ) (r : DatagramReading) (x : Message) → IsReadingOf (first_basis (values ts)) [] m r x → Fits budget ws x.domains → (length ts.entries ≡ 0 → ⊥) → BeginsPeer budget (values ts) m
+begins_by_resumed budget ws ts m r x is fits some = begins budget ws (values ts) m r x is fits (inr (some_values ts some))
+
+-- what is counted after it
+pub fits_after : (budget : ℕ) (o : Option (BTreeMap ℕ ℕ)) (ws : List (ℕ × ℕ)) (after : History) → WeighAfter o budget [] after → Fits budget ws [] → (vs : List (ℕ × ℕ)) × Fits budget vs after
+fits_after budget None ws after same fits = (ws, subst (Fits budget ws) (sym same) fits)
+fits_after budget (Some vs) ws after fits none = (vs.entries, fits)
+
+-- where no id is without a template
+pub answers_first : (k : KnownTemplates) (ts : BTreeMap ℕ Template) (d budget : ℕ) (m : List ℕ) (r : Reading) → k.budget ≡ budget → ((domain : ℕ) → barred_in k.barred domain ≡ []) → Answers (basis_of k ts d) k.budget [] m r → Answers (first_basis (values ts)) budget [] m r
+answers_first k ts d budget m r same none answers =
+    subst (λ (ids : List ℕ). Answers (record { resumed = values ts; barred = ids }) budget [] m r) (none d) (subst (λ (n : ℕ). Answers (basis_of k ts d) n [] m r) same answers)
+
+pub refused_first : (k : KnownTemplates) (ts : BTreeMap ℕ Template) (d : ℕ) (m : List ℕ) (f : MessageFault) → ((domain : ℕ) → barred_in k.barred domain ≡ []) → IsRefused (basis_of k ts d) [] m f → IsRefused (first_basis (values ts)) [] m f
+refused_first k ts d m f none refused = subst (λ (ids : List ℕ). IsRefused (record { resumed = values ts; barred = ids }) [] m f) (none d) refused
+
+-- one with a fault begins none
+has_fault : (basis : Basis) (m : List ℕ) (f : MessageFault) → IsRefused basis [] m f → f ≢ OutOfMemory → HasFault basis [] m f
+has_fault basis m f (inl memory) other = absurd (other memory)
+has_fault basis m f (inr fault) other = fault.1
+
+pub none_begun : {E : Type 0} (budget : ℕ) (ts : List Template) (m : List ℕ) (f : MessageFault) (r : Result Bool E) → IsRefused (first_basis ts) [] m f → IfOk r (λ b. (b ≡ false) × (f ≢ OutOfMemory)) → IfOk r (BeginsIf budget ts m)
+none_begun budget ts m f (Ok b) refused none = subst (BeginsIf budget ts m) (sym none.0) (inl (f, has_fault (first_basis ts) m f refused none.1))
+none_begun budget ts m f (Err e) refused none = tt
 
 -- with what is resumed
-pub with_resumed : (left : BTreeMap ℕ EarlierDomain) (m : List ℕ) (h : Header) (o : Option EarlierDomain) (b : Bool) → message_header m ≡ Ok h → resumed_by (get nat_cmp left h.domain) h ≡ o
-    → MatchBool b (BeginsPeer (resumed_of o).templates m) (WhyNone (resumed_of o).templates m) → MatchBool b (BeginsPeer (resumed_first left m) m) (WhyNone (resumed_first left m) m)
-with_resumed left m h o b good is so =
+pub with_resumed : {E : Type 0} (left : BTreeMap ℕ EarlierDomain) (m : List ℕ) (h : Header) (o : Option EarlierDomain) (b : Result Bool E) (budget : ℕ) → message_header m ≡ Ok h → resumed_by (get nat_cmp left h.domain) h ≡ o
+    → IfOk b (BeginsIf budget (resumed_of o).templates m) → IfOk b (BeginsIf budget (resumed_first left m) m)
+with_resumed left m h o b budget good is so =
     let same : resumed_first left m ≡ (resumed_of o).templates = ap (λ r. (resumed_at left [] r).templates) good ∙ ap (λ (p : Option EarlierDomain). (resumed_of p).templates) is in
-    subst (λ (ts : List Template). MatchBool b (BeginsPeer ts m) (WhyNone ts m)) (sym same) so
+    subst (λ (ts : List Template). IfOk b (BeginsIf budget ts m)) (sym same) so

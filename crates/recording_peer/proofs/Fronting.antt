@@ -8,7 +8,7 @@ use Rattle.ipfix_wire.specs.declared.header.Header.{Header}
 use Rattle.ipfix_message.specs.declared.record.Template.{Template}
 use Rattle.ipfix_message.specs.declared.template_record.Event.{Event}
 use Rattle.ipfix_message.specs.WrittenTemplates.{IsTemplate, template_set}
-use Rattle.ipfix_message.specs.Domains.{History, Message, events_in, message_header, message_gives}
+use Rattle.ipfix_message.specs.Domains.{History, Message, message_header, message_gives}
 use Rattle.ipfix_message.specs.Outcome.{Fails}
 use Rattle.ipfix_message.specs.Alike.{knows}
 use Rattle.ipfix_message.specs.declared.fault.MessageFault.{MessageFault}
@@ -27,7 +27,7 @@ use Rattle.recording_files.specs.Recorders.{State, Keeps, IsCountOf}
 use Rattle.recording_files.proofs.Growing.{writes_more}
 use Rattle.ipfix_datagrams.specs.declared.reading.DatagramReading.{DatagramReading}
 use Rattle.ipfix_datagrams.specs.declared.withdrawn_template.WithdrawnTemplate.{WithdrawnTemplate}
-use Rattle.ipfix_datagrams.specs.Datagrams.{Preparation, preparation_of, prepared, with_withdrawn, with_one_withdrawn, with_one_defined, with_defined, IsTaken}
+use Rattle.ipfix_datagrams.specs.Datagrams.{Basis, Preparation, preparation_of, prepared, with_withdrawn, with_one_withdrawn, with_one_defined, with_defined, IsTaken}
 use Rattle.ipfix_message.proofs.PartsOf.{HasRoom, was_read}
 use Rattle.ipfix_datagrams.proofs.Appearing.{room_ok}
 use Rattle.ipfix_datagrams.specs.Attempts.{CanDefine}
@@ -37,7 +37,7 @@ use Rattle.ipfix_datagrams.proofs.WithdrawnDomains.{knows-withdrawn}
 use Rattle.ipfix_datagrams.proofs.Answered.{taken_prepares}
 use Rattle.ipfix_datagrams.proofs.Defined.{Defined, defines, defined_now, knows-one_defined}
 use Rattle.ipfix_datagrams.proofs.Readings.{header_same, only_memory}
-use Rattle.recording_peer.specs.Peers.{Resumed, InParts, front_header, front_messages, stamp_of, withdrawals, definitions}
+use Rattle.recording_peer.specs.Peers.{Resumed, basis_with, InParts, front_header, front_messages, stamp_of, withdrawals, definitions}
 use Rattle.recording_peer.specs.Fronts.{domains_after, HasAppeared, CanWithdraw, Took, TookOwn, TookOne, TookDefinition, TookFront, TakesWithdrawals, TookWithdrawals, TookPrepared, TakesDefinitions, TookDatagram, CanGoOn, IsDefinable, CanDefineNext}
 
 -- ---- a message
@@ -291,7 +291,7 @@ defined_all before here s h p rest octets f none =
 -- ---- a datagram
 
 -- what can be done in front of it
-pub front_can : (before here : List Message) (m : List ℕ) (h : Header) (left : List Template) (p : Preparation) (x : Message) → message_header m ≡ Ok h → IsTaken left (domains_after before here) m p x
+pub front_can : (before here : List Message) (m : List ℕ) (h : Header) (left : Basis) (p : Preparation) (x : Message) → message_header m ≡ Ok h → IsTaken left (domains_after before here) m p x
     → CanWithdraw before here h.domain p.withdrawn × CanGoOn (with_withdrawn (domains_after before here) h.domain p.withdrawn) h.domain p.defined
 front_can before here m h left p x good taken =
     let ds = domains_after before here in
@@ -302,13 +302,13 @@ front_can before here m h left p x good taken =
     (can.0, (room_ok (with_withdrawn ds h.domain p.withdrawn) h.domain (subst (λ (g : Header). HasRoom (with_withdrawn ds g.domain p.withdrawn) g.domain) same room), can.1))
 
 -- it is read after the messages in front of it
-reads_so : (before here : List Message) (s : State) (m : List ℕ) (h own : Header) (left : List Template) (p : Preparation) (x : Message) (octets : List ℕ) → message_header m ≡ Ok h → IsTaken left (domains_after before here) m p x → own.domain ≡ h.domain
+reads_so : (before here : List Message) (s : State) (m : List ℕ) (h own : Header) (left : Basis) (p : Preparation) (x : Message) (octets : List ℕ) → message_header m ≡ Ok h → IsTaken left (domains_after before here) m p x → own.domain ≡ h.domain
     → (f : TookPrepared before here s own p octets) → message_gives (domains_after before (here ++ f.front.given)) m ≡ Ok x
 reads_so before here s m h own left p x octets good taken domain f =
     let same : taken.first.header ≡ h = header_same _ m h taken.first good taken.is_prepared.read in
     ap (λ (ds : History). message_gives ds m) (f.front.known ∙ ap (λ (d : ℕ). prepared (domains_after before here) d p) (domain ∙ sym (ap (λ (g : Header). g.domain) same))) ∙ taken.read
 
-pub datagram_fails : (before here : List Message) (s : State) (m : List ℕ) (h own : Header) (left : List Template) (p : Preparation) (x : Message) (octets : List ℕ) (fault : MessageFault) → message_header m ≡ Ok h → IsTaken left (domains_after before here) m p x → own.domain ≡ h.domain
+pub datagram_fails : (before here : List Message) (s : State) (m : List ℕ) (h own : Header) (left : Basis) (p : Preparation) (x : Message) (octets : List ℕ) (fault : MessageFault) → message_header m ≡ Ok h → IsTaken left (domains_after before here) m p x → own.domain ≡ h.domain
     → (f : TookPrepared before here s own p octets) → Fails fault (message_gives (domains_after before (here ++ f.front.given)) m) → fault ≡ OutOfMemory
 datagram_fails before here s m h own left p x octets fault good taken domain f fails =
     only_memory fault (message_gives (domains_after before (here ++ f.front.given)) m) x fails (reads_so before here s m h own left p x octets good taken domain f)
@@ -317,16 +317,16 @@ datagram_fails before here s m h own left p x octets fault good taken domain f f
 abbrev pub with_sequence : Header → ℕ → Header
 with_sequence h n = record h { sequence = n }
 
-pub took_datagram : (before here : List Message) (s t : State) (m : List ℕ) (h own : Header) (resumed : Resumed) (q : DatagramReading) (x : Message) (old new : List ℕ) (c : MessageCount) → message_header m ≡ Ok h → IsTaken resumed.templates (domains_after before here) m (preparation_of q) x
-    → own ≡ front_header resumed.due (before ++ here) h → (f : TookPrepared before here s own (preparation_of q) old) → Took before (here ++ f.front.given) t m old new c → TookDatagram before here t m resumed q x new c
-took_datagram before here s t m h own resumed q x old new c good taken owns f r =
+pub took_datagram : (before here : List Message) (s t : State) (m : List ℕ) (h own : Header) (resumed : Resumed) (barred : List ℕ) (q : DatagramReading) (x : Message) (old new : List ℕ) (c : MessageCount) → message_header m ≡ Ok h → IsTaken (basis_with resumed barred) (domains_after before here) m (preparation_of q) x
+    → own ≡ front_header resumed.due (before ++ here) h → (f : TookPrepared before here s own (preparation_of q) old) → Took before (here ++ f.front.given) t m old new c → TookDatagram before here t m resumed barred q x new c
+took_datagram before here s t m h own resumed barred q x old new c good taken owns f r =
     let p = preparation_of q in
     let xs = f.front.given in
     let ms = front_messages own f.parts p.defined in
     let ds = prepared (domains_after before here) own.domain p in
     let domain : own.domain ≡ h.domain = ap (λ (g : Header). g.domain) owns in
     let header : x.header ≡ h = header_same _ m h x good taken.read in
-    let same : r.records.given ≡ x = ok_is r.records.given x (sym r.records.read ∙ reads_so before here s m h own resumed.templates p x old good taken domain f) in
+    let same : r.records.given ≡ x = ok_is r.records.given x (sym r.records.read ∙ reads_so before here s m h own (basis_with resumed barred) p x old good taken domain f) in
     let is_header : own ≡ front_header resumed.due (before ++ here) x.header = owns ∙ ap (front_header resumed.due (before ++ here)) (sym header) in
     record {
       front = record { messages = ms; given = xs };

@@ -8,3 +8,4 @@ pub mod Stopping
 pub mod FilesGive
 pub mod FilesKeep
 pub mod Adding
+pub mod Refusing

@@ -1,14 +1,24 @@
--- The templates that were withdrawn, as a list.
-use Rattle.std.proofs.Common.{◌≡◌, ℕ, Bool, true, false, cond, List, [], ◌∷◌, Some, refl, sym, ◌∙◌}
+-- What is known of templates beside the files, as it is shown.
+use Rattle.std.proofs.Common.{◌≡◌, ◌&&◌, ℕ, Bool, true, false, cond, eqb, List, [], ◌∷◌, Option, Some, Result, Ok, refl, sym, ap, ap₂, subst, ◌∙◌, inl, inr}
+use Rattle.std.specs.Prelude.{◌||◌, MatchResult, option_map, unwrap_or}
+use Rattle.std.specs.Global.{Vec}
+use Rattle.std.specs.List.{list_any}
+use Rattle.std.proofs.lemmas.Bool.Decides.{eqb_tells}
+use Rattle.ipfix_wire.specs.declared.header.Header.{Header}
+use Rattle.ipfix_message.specs.declared.fault.MessageFault.{MessageFault}
+use Rattle.ipfix_datagrams.specs.declared.known_templates.KnownTemplates.{KnownTemplates}
+use Rattle.ipfix_datagrams.specs.declared.reading.Reading.{Reading}
 use Rattle.std.specs.Map.{lookup}
 use Rattle.std.specs.Option.{option_and_then}
 use Rattle.std.specs.Ordering.{nat_cmp, eq_by_cmp}
 use Rattle.std.specs.BTreeMap.{BTreeMap, get}
 use Rattle.ipfix_message.specs.Kept.{kept}
 use Rattle.ipfix_message.specs.declared.record.Template.{Template}
-use Rattle.ipfix_message.specs.Domains.{History}
-use Rattle.ipfix_datagrams.specs.Datagrams.{KeepsWithdrawn, template_at}
-use Rattle.recording_peer.specs.Recording.{KeepsListed, template_listed}
+use Rattle.ipfix_message.specs.Domains.{History, message_header}
+use Rattle.ipfix_datagrams.specs.Datagrams.{Answers as AnswersOf, Basis, Fits, IsRefused, KeepsKnown, KeepsWithdrawn, barred_after, barred_in, template_at}
+use Rattle.recording_peer.specs.Peers.{Resumed, basis_with, known_after_all}
+use Rattle.recording_peer.specs.Fronts.{ReadsAfter}
+use Rattle.recording_peer.specs.Recording.{FiledDatagrams, KeepsListed, KnownShown, PeerView, barred_before, barred_listed, barred_shown, basis_for, known_shown, resumed_for, taken_in, template_listed}
 
 same_lookup : (test : ℕ → Bool) (id : ℕ) (es : List (ℕ × BTreeMap ℕ Template)) → option_and_then (λ ts. lookup (eq_by_cmp nat_cmp id) ts) (lookup test (kept es)) ≡ option_and_then (λ t. get nat_cmp t id) (lookup test es)
 same_lookup test id [] = refl
@@ -27,3 +37,55 @@ listed s ds keeps = record { at = λ domain id. at_same s domain id ∙ keeps.at
 
 pub unlisted : (s : BTreeMap ℕ (BTreeMap ℕ Template)) (ds : History) → KeepsListed (kept s.entries) ds → KeepsWithdrawn s ds
 unlisted s ds keeps = record { at = λ domain id. sym (at_same s domain id) ∙ keeps.at domain id }
+
+-- ---- all that is known
+
+pub keeps_known : (k : KnownTemplates) (ds : History) → KeepsListed (known_shown k).withdrawn ds → Fits k.budget k.weights.entries ds → KeepsKnown k ds
+keeps_known k ds withdrawn fits = record { withdrawn = unlisted k.withdrawn ds withdrawn; fits = fits }
+
+barred_lookup : (test : ℕ → Bool) (es : List (ℕ × Vec ℕ)) → lookup test (barred_listed es) ≡ option_map (λ v. v.items) (lookup test es)
+barred_lookup test [] = refl
+barred_lookup test (e ∷ es) = by_test (test e.0) (barred_lookup test es)
+  where
+    by_test : (b : Bool) → lookup test (barred_listed es) ≡ option_map (λ v. v.items) (lookup test es) → cond b (Some e.1.items) (lookup test (barred_listed es)) ≡ option_map (λ v. v.items) (cond b (Some e.1) (lookup test es))
+    by_test true more = refl
+    by_test false more = more
+
+pub barred_same : (k : KnownTemplates) (domain : ℕ) → barred_shown (known_shown k) domain ≡ barred_in k.barred domain
+barred_same k domain = ap (λ (o : Option (List ℕ)). unwrap_or o []) (barred_lookup (eq_by_cmp nat_cmp domain) k.barred.entries)
+
+-- after a datagram
+pub shown_again : (old new : KnownTemplates) (s : KnownShown) (d : ℕ) (b m : List ℕ) → known_shown old ≡ s → b ≡ barred_shown s d
+    → ((domain : ℕ) → barred_in new.barred domain ≡ cond (eqb domain d) (barred_after (barred_in old.barred domain) m) (barred_in old.barred domain))
+    → (domain : ℕ) → barred_shown (known_shown new) domain ≡ cond (eqb domain d) (barred_after b m) (barred_shown s domain)
+shown_again old new s d b m same is again domain =
+    let before : barred_in old.barred domain ≡ barred_shown s domain = sym (barred_same old domain) ∙ ap (λ (k : KnownShown). barred_shown k domain) same in
+    barred_same new domain ∙ again domain ∙ elim (eqb_tells domain d) [
+      | inl here ↦ rw here.0 (ap (λ (ids : List ℕ). barred_after ids m) (before ∙ ap (barred_shown s) here.1 ∙ sym is))
+      | inr other ↦ rw other.0 before
+    ]
+
+-- after ids were barred
+pub shown_barred : (old new : KnownTemplates) (s : KnownShown) (d : ℕ) (ids : List ℕ) → known_shown old ≡ s
+    → ((q id : ℕ) → list_any (λ b. eqb b id) (barred_in new.barred q) ≡ (list_any (λ b. eqb b id) (barred_in old.barred q) || (eqb q d && list_any (λ b. eqb b id) ids)))
+    → (q id : ℕ) → list_any (λ b. eqb b id) (barred_shown (known_shown new) q) ≡ (list_any (λ b. eqb b id) (barred_shown s q) || (eqb q d && list_any (λ b. eqb b id) ids))
+shown_barred old new s d ids same bars q id =
+    let before : barred_in old.barred q ≡ barred_shown s q = sym (barred_same old q) ∙ ap (λ (k : KnownShown). barred_shown k q) same in
+    ap (list_any (λ b. eqb b id)) (barred_same new q) ∙ bars q id ∙ ap (λ (is : List ℕ). list_any (λ b. eqb b id) is || (eqb q d && list_any (λ b. eqb b id) ids)) before
+
+-- ---- what a datagram is read with
+
+basis_is : (s : PeerView) (k : KnownTemplates) (filed : FiledDatagrams) (m : List ℕ) (h : Header) (r : Resumed) → known_shown k ≡ s.known → message_header m ≡ Ok h → resumed_for filed m ≡ r
+    → basis_for s filed m ≡ record { resumed = r.templates; barred = barred_in k.barred h.domain }
+basis_is s k filed m h r same good is =
+    ap₂ (λ (q : Resumed) (ids : List ℕ). basis_with q ids) is
+    (ap (barred_before s.known) good ∙ ap (λ (known : KnownShown). barred_shown known h.domain) (sym same) ∙ barred_same k h.domain)
+
+pub reads_as : (s : PeerView) (k : KnownTemplates) (filed : FiledDatagrams) (m : List ℕ) (h : Header) (r : Resumed) (result : Result Reading MessageFault) → known_shown k ≡ s.known → message_header m ≡ Ok h → resumed_for filed m ≡ r
+    → MatchResult result (AnswersOf (record { resumed = r.templates; barred = barred_in k.barred h.domain }) k.budget (known_after_all (taken_in filed)) m) (IsRefused (record { resumed = r.templates; barred = barred_in k.barred h.domain }) (known_after_all (taken_in filed)) m)
+    → ReadsAfter s filed m result
+reads_as s k filed m h r result same good is reads =
+    let ds = known_after_all (taken_in filed) in
+    let budget : k.budget ≡ s.known.budget = ap (λ (known : KnownShown). known.budget) same in
+    subst (λ (n : ℕ). MatchResult result (AnswersOf (basis_for s filed m) n ds m) (IsRefused (basis_for s filed m) ds m)) budget
+    (subst (λ (b : Basis). MatchResult result (AnswersOf b k.budget ds m) (IsRefused b ds m)) (sym (basis_is s k filed m h r same good is)) reads)

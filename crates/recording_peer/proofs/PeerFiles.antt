@@ -17,7 +17,7 @@ use Rattle.recording_files.specs.Faithful as faithful
 use Rattle.recording_files.specs.Sessions.{file_octets}
 use Rattle.recording_files.proofs.Going.{recorded-push}
 use Rattle.ipfix_datagrams.specs.Datagrams.{IsTaken, withdrawals_in}
-use Rattle.recording_peer.specs.Peers.{Taken, AreTaken, HasFront, HaveFronts, PeerFile, datagrams, givens, known_after_all, messages_with, given_with, all_messages, all_given, part_of, sent_of, withdrawals_ignored, peer_report, peer_reports}
+use Rattle.recording_peer.specs.Peers.{basis_with, Taken, AreTaken, HasFront, HaveFronts, PeerFile, datagrams, givens, known_after_all, messages_with, given_with, all_messages, all_given, part_of, sent_of, withdrawals_ignored, peer_report, peer_reports}
 use Rattle.recording_peer.specs.Recording.{FiledDatagrams, IsLastFile, taken_before, taken_in, ignored_in, filed_with, finished_now, ignored_now, ignored_still, file_finished, taken_by_file, last_file}
 
 -- ---- datagrams, one after another
@@ -34,7 +34,7 @@ all_given-push ts t = all_given-append ts (t ∷ []) ∙ ap (λ (ms : List Messa
 pub all_messages-push : (ts : List Taken) (t : Taken) → all_messages (ts ++ t ∷ []) ≡ all_messages ts ++ messages_with t
 all_messages-push ts t = flat_map-append messages_with ts (t ∷ []) ∙ ap (λ (ms : List (List ℕ)). all_messages ts ++ ms) (append-nil (messages_with t))
 
-pub taken-push : (ds : History) (ts : List Taken) (t : Taken) → AreTaken ds ts → IsTaken t.resumed.templates (known_after ds (givens ts)) t.datagram t.preparation t.given → AreTaken ds (ts ++ t ∷ [])
+pub taken-push : (ds : History) (ts : List Taken) (t : Taken) → AreTaken ds ts → IsTaken (basis_with t.resumed t.barred) (known_after ds (givens ts)) t.datagram t.preparation t.given → AreTaken ds (ts ++ t ∷ [])
 taken-push ds [] t are is = (is, tt)
 taken-push ds (u ∷ us) t are is = (are.0, taken-push u.given.domains us t are.1 is)
 

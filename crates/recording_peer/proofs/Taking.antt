@@ -17,13 +17,12 @@ use Rattle.recording_files.specs.Recorders.{State, Keeps, Counted}
 use Rattle.recording_files.specs.Sessions.{StandsWith, parts}
 use Rattle.recording_files.proofs.Growing.{writes-append}
 use Rattle.recording_files.proofs.Going.{empty_part, stands_first, stands_more, stands_next}
-use Rattle.ipfix_message.specs.declared.record.Template.{Template}
-use Rattle.ipfix_datagrams.specs.Datagrams.{preparation_of, Represents, IsTaken, withdrawals_in}
+use Rattle.ipfix_datagrams.specs.Datagrams.{Fits, preparation_of, Represents, IsTaken, withdrawals_in}
 use Rattle.ipfix_datagrams.specs.Reaches.{reaches_of}
 use Rattle.ipfix_datagrams.specs.declared.reading.DatagramReading.{DatagramReading}
-use Rattle.recording_peer.specs.Peers.{Resumed, Taken, AreResumed, resumed_after, AreTaken, HasFront, HaveFronts, PeerFile, givens, known_after_all, messages_with, given_with, all_messages, all_given, sent_of, withdrawals_ignored, peer_report, peer_reports, resumption_in, resumption_of, resumptions}
+use Rattle.recording_peer.specs.Peers.{Resumed, Taken, basis_with, AreResumed, resumed_after, AreTaken, HasFront, HaveFronts, PeerFile, givens, known_after_all, messages_with, given_with, all_messages, all_given, sent_of, withdrawals_ignored, peer_report, peer_reports, resumption_in, resumption_of, resumptions}
 use Rattle.recording_peer.specs.declared.resumption.Resumption.{Resumption}
-use Rattle.recording_peer.specs.Recording.{PeerTold, PeerView, FiledDatagrams, none_filed, taken_before, taken_in, taken_by_file, filed_with, with_ignored, finished_now, ignored_now, ignored_still, file_finished, last_file, HasDatagram, IsLastFile, FilesHold, Counts, KeepsListed, KeepsLeft, LeftShown, left_listed, IsPeer}
+use Rattle.recording_peer.specs.Recording.{KnownShown, PeerTold, PeerView, FiledDatagrams, none_filed, taken_before, taken_in, taken_by_file, filed_with, with_ignored, finished_now, ignored_now, ignored_still, file_finished, last_file, HasDatagram, IsLastFile, FilesHold, Counts, KeepsListed, KeepsLeft, LeftShown, left_listed, IsPeer}
 use Rattle.recording_peer.specs.Fronts.{TookDatagram, taken_as}
 use Rattle.std.specs.BTreeMap.{BTreeMap}
 use Rattle.recording_resumption.specs.declared.earlier_domain.EarlierDomain.{EarlierDomain}
@@ -32,8 +31,8 @@ use Rattle.recording_peer.proofs.PeerFiles.{files_here, givens-append, all_given
 
 -- ---- the first file
 
-pub peer_first : (v : FilesView) (s : PeerView) → IsEmpty v.contents → s.ended ≡ None → Keeps s.recorder [] [] → Counted s.told.counts [] [] → s.told.ignored ≡ 0 → s.told.advances ≡ [] → s.told.resumed ≡ [] → KeepsListed s.withdrawn [] → (earlier : BTreeMap ℕ EarlierDomain) → s.earlier ≡ left_listed earlier.entries → IsPeer v v s (none_filed earlier)
-peer_first v s empty on keeps counted nor none none_resumed withdrawn earlier left = record {
+pub peer_first : (v : FilesView) (s : PeerView) → IsEmpty v.contents → s.ended ≡ None → Keeps s.recorder [] [] → Counted s.told.counts [] [] → s.told.ignored ≡ 0 → s.told.advances ≡ [] → s.told.resumed ≡ [] → KeepsListed s.known.withdrawn [] → Fits s.known.budget s.known.weights [] → (earlier : BTreeMap ℕ EarlierDomain) → s.earlier ≡ left_listed earlier.entries → IsPeer v v s (none_filed earlier)
+peer_first v s empty on keeps counted nor none none_resumed withdrawn fits earlier left = record {
   holds = record {
     taken = tt;
     resumed = tt;
@@ -52,6 +51,7 @@ peer_first v s empty on keeps counted nor none none_resumed withdrawn earlier le
   counted = record { counted = counted; ignored = nor; noted = none; resumed = none_resumed };
   keeps = keeps;
   withdrawn = withdrawn;
+  fits = fits;
   left = subst (λ (es : List (ℕ × LeftShown)). KeepsLeft es earlier []) (sym left) (left_as_listed earlier earlier [] (record { at = λ domain. refl }));
 }
 
@@ -115,7 +115,7 @@ counts_turned c filed some counted none noted resumed = record {
 }
 
 pub peer_turned : (first v after : FilesView) (s t : PeerView) (filed : FiledDatagrams) (p : IsPeer first v s filed) → HasDatagram filed.here → after ≡ with_next v (counted_report s.told)
-    → Keeps t.recorder (all_given (taken_before filed) ++ all_given filed.here) [] → Counted t.told.counts (givens (taken_before filed) ++ givens filed.here) [] → t.told.ignored ≡ 0 → t.told.advances ≡ s.told.advances → t.told.resumed ≡ s.told.resumed → t.ended ≡ None → t.withdrawn ≡ s.withdrawn → t.earlier ≡ s.earlier
+    → Keeps t.recorder (all_given (taken_before filed) ++ all_given filed.here) [] → Counted t.told.counts (givens (taken_before filed) ++ givens filed.here) [] → t.told.ignored ≡ 0 → t.told.advances ≡ s.told.advances → t.told.resumed ≡ s.told.resumed → t.ended ≡ None → t.known ≡ s.known → t.earlier ≡ s.earlier
     → IsPeer first after t (file_finished filed)
 peer_turned first v after s t filed p some is keeps counted none same as_resumed on stays left = record {
   holds = holds_turned first v after filed s.told p.holds p.counted some (ap (λ (u : FilesView). u.contents) is);
@@ -123,7 +123,8 @@ peer_turned first v after s t filed p some is keeps counted none same as_resumed
   goes_on = on;
   counted = counts_turned t.told filed some counted none (same ∙ p.counted.noted) (as_resumed ∙ p.counted.resumed);
   keeps = subst (λ (ms : List Message). Keeps t.recorder ms []) (sym (all_given-finished filed)) keeps;
-  withdrawn = subst (λ (ts : List Taken). KeepsListed t.withdrawn (known_after_all ts)) (sym (in-finished filed)) (subst (λ (w : List (ℕ × List (ℕ × Template))). KeepsListed w (known_after_all (taken_in filed))) (sym stays) p.withdrawn);
+  withdrawn = subst (λ (ts : List Taken). KeepsListed t.known.withdrawn (known_after_all ts)) (sym (in-finished filed)) (subst (λ (k : KnownShown). KeepsListed k.withdrawn (known_after_all (taken_in filed))) (sym stays) p.withdrawn);
+  fits = subst (λ (ts : List Taken). Fits t.known.budget t.known.weights (known_after_all ts)) (sym (in-finished filed)) (subst (λ (k : KnownShown). Fits k.budget k.weights (known_after_all (taken_in filed))) (sym stays) p.fits);
   left = subst (KeepsLeft t.earlier filed.earlier) (sym (in-finished filed)) (subst (λ (w : List (ℕ × LeftShown)). KeepsLeft w filed.earlier (taken_in filed)) (sym left) p.left);
 }
 
@@ -147,7 +148,7 @@ peer_unturned first v s filed p none = subst (IsPeer first v s) (sym (unfinished
 
 -- ---- one datagram more
 
-pub taken_with : (filed : FiledDatagrams) (t : Taken) → AreTaken [] (taken_in filed) → IsTaken t.resumed.templates (known_after_all (taken_in filed)) t.datagram t.preparation t.given → AreTaken [] (taken_in (filed_with filed t))
+pub taken_with : (filed : FiledDatagrams) (t : Taken) → AreTaken [] (taken_in filed) → IsTaken (basis_with t.resumed t.barred) (known_after_all (taken_in filed)) t.datagram t.preparation t.given → AreTaken [] (taken_in (filed_with filed t))
 taken_with filed t are is = subst (AreTaken []) (sym (taken_in-push filed t)) (taken-push [] (taken_in filed) t are is)
 
 pub fronts_with : (filed : FiledDatagrams) (t : Taken) → HaveFronts [] (taken_in filed) → HasFront (all_given (taken_before filed) ++ all_given filed.here) t → HaveFronts [] (taken_in (filed_with filed t))
@@ -155,10 +156,10 @@ fronts_with filed t have has =
     subst (HaveFronts []) (sym (taken_in-push filed t)) (fronts-push [] (taken_in filed) t have (subst (λ (b : List Message). HasFront b t) (sym (all_given-append (taken_before filed) filed.here)) has))
 
 -- the file with it
-pub file_with : (filed : FiledDatagrams) (m : List ℕ) (resumed : Resumed) (q : DatagramReading) (x : Message) (s : State) (octets : List ℕ) (c : MessageCount) (file : List (List ℕ)) → IsLastFile filed file
-    → (k : TookDatagram (all_given (taken_before filed)) (all_given filed.here) s m resumed q x octets c) → IsLastFile (filed_with filed (taken_as m resumed (preparation_of q) k.front x)) (file ++ k.file)
-file_with filed m resumed q x s octets c file last k =
-    let t = taken_as m resumed (preparation_of q) k.front x in
+pub file_with : (filed : FiledDatagrams) (m : List ℕ) (resumed : Resumed) (barred : List ℕ) (q : DatagramReading) (x : Message) (s : State) (octets : List ℕ) (c : MessageCount) (file : List (List ℕ)) → IsLastFile filed file
+    → (k : TookDatagram (all_given (taken_before filed)) (all_given filed.here) s m resumed barred q x octets c) → IsLastFile (filed_with filed (taken_as m resumed barred (preparation_of q) k.front x)) (file ++ k.file)
+file_with filed m resumed barred q x s octets c file last k =
+    let t = taken_as m resumed barred (preparation_of q) k.front x in
     let b = all_given (taken_before filed) in
     let more : Writes b [] (all_messages filed.here ++ messages_with t) (all_given filed.here ++ given_with t) (file ++ k.file) = writes-append b [] (all_messages filed.here) (messages_with t) (all_given filed.here) (given_with t) file k.file last k.writes in
     subst (λ (ms : List (List ℕ)). Writes b [] ms (all_given (filed.here ++ t ∷ [])) (file ++ k.file)) (sym (all_messages-push filed.here t))
@@ -177,14 +178,14 @@ resumptions-push : (filed : FiledDatagrams) (t : Taken) → resumptions (taken_i
 resumptions-push filed t =
     ap resumptions (taken_in-push filed t) ∙ flat_map-append resumption_of (taken_in filed) (t ∷ []) ∙ ap (λ (rs : List Resumption). resumptions (taken_in filed) ++ rs) (append-nil (resumption_of t))
 
-pub peer_with : (first v after : FilesView) (s t : PeerView) (filed : FiledDatagrams) (m : List ℕ) (resumed : Resumed) (q : DatagramReading) (x : Message) (octets : List ℕ) (c : MessageCount) (p : IsPeer first v s filed)
-    → IsTaken resumed.templates (known_after_all (taken_in filed)) m (preparation_of q) x → (k : TookDatagram (all_given (taken_before filed)) (all_given filed.here) t.recorder m resumed q x octets c)
+pub peer_with : (first v after : FilesView) (s t : PeerView) (filed : FiledDatagrams) (m : List ℕ) (resumed : Resumed) (barred : List ℕ) (q : DatagramReading) (x : Message) (octets : List ℕ) (c : MessageCount) (p : IsPeer first v s filed)
+    → IsTaken (basis_with resumed barred) (known_after_all (taken_in filed)) m (preparation_of q) x → (k : TookDatagram (all_given (taken_before filed)) (all_given filed.here) t.recorder m resumed barred q x octets c)
     → after ≡ with_more v octets → Counted t.told.counts (givens (taken_before filed)) (givens filed.here ++ x ∷ [])
-    → t.told.ignored ≡ capped (s.told.ignored + q.withdrawals) → q.withdrawals ≡ capped (withdrawals_in m) → t.told.advances ≡ reaches_of (givens (taken_in filed) ++ x ∷ []) → t.told.resumed ≡ s.told.resumed ++ option_to_list (resumption_in x.header.domain (length resumed.templates)) → t.ended ≡ None → KeepsListed t.withdrawn x.domains → resumed ≡ resumed_after filed.earlier (taken_in filed) x.header → KeepsLeft t.earlier filed.earlier (taken_in (filed_with filed (taken_as m resumed (preparation_of q) k.front x)))
-    → IsPeer first after t (filed_with filed (taken_as m resumed (preparation_of q) k.front x))
-peer_with first v after s t filed m resumed q x octets c p taken k is counted more ignored noted one_resumed on withdrawn resumes left =
+    → t.told.ignored ≡ capped (s.told.ignored + q.withdrawals) → q.withdrawals ≡ capped (withdrawals_in m) → t.told.advances ≡ reaches_of (givens (taken_in filed) ++ x ∷ []) → t.told.resumed ≡ s.told.resumed ++ option_to_list (resumption_in x.header.domain (length resumed.templates)) → t.ended ≡ None → KeepsListed t.known.withdrawn x.domains → Fits t.known.budget t.known.weights x.domains → resumed ≡ resumed_after filed.earlier (taken_in filed) x.header → KeepsLeft t.earlier filed.earlier (taken_in (filed_with filed (taken_as m resumed barred (preparation_of q) k.front x)))
+    → IsPeer first after t (filed_with filed (taken_as m resumed barred (preparation_of q) k.front x))
+peer_with first v after s t filed m resumed barred q x octets c p taken k is counted more ignored noted one_resumed on withdrawn fits resumes left =
     let h = p.holds in
-    let u = taken_as m resumed (preparation_of q) k.front x in
+    let u = taken_as m resumed barred (preparation_of q) k.front x in
     let all : givens (taken_in (filed_with filed u)) ≡ givens (taken_in filed) ++ x ∷ [] = ap givens (taken_in-push filed u) ∙ givens-append (taken_in filed) (u ∷ []) in
     record {
       holds = record {
@@ -197,7 +198,7 @@ peer_with first v after s t filed m resumed q x octets c p taken k is counted mo
         ignored = h.ignored;
         earlier = h.earlier;
         file = h.file ++ k.file;
-        last = file_with filed m resumed q x t.recorder octets c h.file h.last k;
+        last = file_with filed m resumed barred q x t.recorder octets c h.file h.last k;
         stands = stands_more first.contents v.contents after.contents (peer_reports [] h.files) (map sent_of h.files) (sent_of (last_file filed h.file)) (sent_of (last_file (filed_with filed u) (h.file ++ k.file))) octets (ap (λ (w : FilesView). w.contents) is) (octets_with h.file k.file octets k.octets_are) h.stands;
       };
       not_failed = ap (λ (w : FilesView). w.failed) is ∙ p.not_failed;
@@ -209,7 +210,8 @@ peer_with first v after s t filed m resumed q x octets c p taken k is counted mo
         resumed = one_resumed ∙ ap (λ (rs : List Resumption). rs ++ resumption_of u) p.counted.resumed ∙ sym (resumptions-push filed u);
       };
       keeps = subst (Keeps t.recorder (all_given (taken_before filed))) (sym (all_given-push filed.here u)) k.keeps;
-      withdrawn = subst (KeepsListed t.withdrawn) (sym (known-push filed u)) withdrawn;
+      withdrawn = subst (KeepsListed t.known.withdrawn) (sym (known-push filed u)) withdrawn;
+      fits = subst (Fits t.known.budget t.known.weights) (sym (known-push filed u)) fits;
       left = left;
     }
 
@@ -233,5 +235,6 @@ peer_ignoring first v s filed m n p is =
       };
       keeps = p.keeps;
       withdrawn = p.withdrawn;
+      fits = p.fits;
       left = p.left;
     }

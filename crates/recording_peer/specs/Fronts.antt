@@ -14,12 +14,12 @@ use Rattle.recording_files.specs.Recordings.{Writes}
 use Rattle.recording_files.specs.Recorders.{State, Keeps, Records, IsCountOf}
 use Rattle.ipfix_datagrams.specs.declared.reading.DatagramReading.{DatagramReading}
 use Rattle.ipfix_datagrams.specs.declared.reading.Reading.{Reading}
-use Rattle.ipfix_datagrams.specs.Datagrams.{Answers, IsReadingOf, IsRefused, Preparation, preparation_of, prepared, with_withdrawn, with_one_defined}
+use Rattle.ipfix_datagrams.specs.Datagrams.{Answers as AnswersOf, IsReadingOf, WeighAfter, IsRefused, Preparation, preparation_of, prepared, with_withdrawn, with_one_defined}
 use Rattle.ipfix_datagrams.specs.Attempts.{IsFree, CanDefine, OrOutOfMemory}
 use Rattle.ipfix_datagrams.specs.Withdrawals.{withdrawal_message}
 use Rattle.ipfix_datagrams.specs.declared.withdrawn_template.WithdrawnTemplate.{WithdrawnTemplate}
-use Rattle.recording_peer.specs.Peers.{Front, Resumed, Taken, InParts, HasFront, withdrawals, front_messages, stamp_of, messages_with, given_with, known_after_all}
-use Rattle.recording_peer.specs.Recording.{FiledDatagrams, PeerView, IsPeer, resumed_for, taken_in}
+use Rattle.recording_peer.specs.Peers.{Front, Resumed, basis_with, Taken, InParts, HasFront, withdrawals, front_messages, messages_with, given_with, known_after_all}
+use Rattle.recording_peer.specs.Recording.{FiledDatagrams, PeerView, IsPeer, basis_for, taken_in}
 
 -- the domains after these messages of earlier files, and of this one
 abbrev pub domains_after : List Message → List Message → History
@@ -106,37 +106,38 @@ pub record TakesDefinitions (before here : List Message) (s : State) (h : Header
   pub can : CanGoOn (prepared (domains_after before here) h.domain (record { withdrawn = p.withdrawn; defined = done })) h.domain rest
 
 -- a datagram, and the messages in front of it
-abbrev pub taken_as : List ℕ → Resumed → Preparation → Front → Message → Taken
-taken_as m resumed p front x = record { datagram = m; resumed = resumed; preparation = p; front = front; given = x }
+abbrev pub taken_as : List ℕ → Resumed → List ℕ → Preparation → Front → Message → Taken
+taken_as m resumed barred p front x = record { datagram = m; resumed = resumed; barred = barred; preparation = p; front = front; given = x }
 
-pub record TookDatagram (before here : List Message) (s : State) (m : List ℕ) (resumed : Resumed) (reading : DatagramReading) (x : Message) (octets : List ℕ) (count : MessageCount) : Type 0 where
+pub record TookDatagram (before here : List Message) (s : State) (m : List ℕ) (resumed : Resumed) (barred : List ℕ) (reading : DatagramReading) (x : Message) (octets : List ℕ) (count : MessageCount) : Type 0 where
   pub front : Front
-  pub has_front : HasFront (before ++ here) (taken_as m resumed (preparation_of reading) front x)
+  pub has_front : HasFront (before ++ here) (taken_as m resumed barred (preparation_of reading) front x)
   pub file : List (List ℕ)
-  pub writes : Writes before here (messages_with (taken_as m resumed (preparation_of reading) front x)) (given_with (taken_as m resumed (preparation_of reading) front x)) file
+  pub writes : Writes before here (messages_with (taken_as m resumed barred (preparation_of reading) front x)) (given_with (taken_as m resumed barred (preparation_of reading) front x)) file
   pub octets_are : octets ≡ octets_of file
-  pub keeps : Keeps s before (here ++ given_with (taken_as m resumed (preparation_of reading) front x))
+  pub keeps : Keeps s before (here ++ given_with (taken_as m resumed barred (preparation_of reading) front x))
   pub counts : IsCountOf count x
 
 -- a datagram was read so after these messages of the session, and gives this
-abbrev pub IsReadAfter : List Message → List Message → List ℕ → Resumed → DatagramReading → Message → Type 0
-IsReadAfter before here m resumed reading x = IsReadingOf resumed.templates (domains_after before here) m reading x
+abbrev pub IsReadAfter : List Message → List Message → List ℕ → Resumed → List ℕ → DatagramReading → Message → Type 0
+IsReadAfter before here m resumed barred reading x = IsReadingOf (basis_with resumed barred) (domains_after before here) m reading x
 
 -- a datagram is taken as it was read, with what was due at the end of an earlier run, or memory ran out
 abbrev pub TakesDatagram : State → State → List ℕ → Option ℕ → DatagramReading → Result MessageCount MessageFault → List ℕ → Type 0
 TakesDatagram old new m due reading result octets =
-    (before here : List Message) (resumed : Resumed) (x : Message) → Keeps old before here → resumed.due ≡ due → IsReadAfter before here m resumed reading x
-    → OrOutOfMemory result (TookDatagram before here new m resumed reading x octets)
+    (before here : List Message) (resumed : Resumed) (barred : List ℕ) (x : Message) → Keeps old before here → resumed.due ≡ due → IsReadAfter before here m resumed barred reading x
+    → OrOutOfMemory result (TookDatagram before here new m resumed barred reading x octets)
 
 -- the recorder and its files represent these datagrams, and after them the next was read so, which gives this
 pub record HasRead (first before : FilesView) (s : PeerView) (filed : FiledDatagrams) (m : List ℕ) (reading : DatagramReading) : Type 0 where
   pub is : IsPeer first before s filed
   pub given : Message
-  pub read : IsReadingOf (resumed_for filed m).templates (known_after_all (taken_in filed)) m reading given
+  pub read : IsReadingOf (basis_for s filed m) (known_after_all (taken_in filed)) m reading given
+  pub weighs : WeighAfter reading.weights s.known.budget (known_after_all (taken_in filed)) given.domains
 
 -- a datagram is read, or refused, after those that were taken, with what is resumed before it
-abbrev pub ReadsAfter : FiledDatagrams → List ℕ → Result Reading MessageFault → Type 0
-ReadsAfter filed m result =
-    let resumed = (resumed_for filed m).templates in
+abbrev pub ReadsAfter : PeerView → FiledDatagrams → List ℕ → Result Reading MessageFault → Type 0
+ReadsAfter s filed m result =
+    let basis = basis_for s filed m in
     let ds = known_after_all (taken_in filed) in
-    MatchResult result (Answers resumed ds m) (IsRefused resumed ds m)
+    MatchResult result (AnswersOf basis s.known.budget ds m) (IsRefused basis ds m)

@@ -14,7 +14,7 @@ use Rattle.recording_files.specs.FileReports.{file_report}
 use Rattle.recording_files.specs.declared.file_report.FileReport.{FileReport}
 use Rattle.recording_files.specs.Preambles.{templates_message}
 use Rattle.ipfix_message.specs.declared.stamp.Stamp.{Stamp}
-use Rattle.ipfix_datagrams.specs.Datagrams.{Preparation, IsTaken, defines_template, withdrawals_in}
+use Rattle.ipfix_datagrams.specs.Datagrams.{Basis, Preparation, IsTaken, defines_template, withdrawals_in}
 use Rattle.ipfix_datagrams.specs.Withdrawals.{withdrawal_message}
 use Rattle.ipfix_datagrams.specs.declared.withdrawal.TheConstants.{MOST_WITHDRAWN}
 use Rattle.ipfix_message.specs.Outcome.{Read}
@@ -40,19 +40,24 @@ abbrev pub resumed_of : Option EarlierDomain → Resumed
 resumed_of None = record { templates = []; due = None }
 resumed_of (Some e) = record { templates = values e.templates; due = due_left e.state }
 
--- a datagram that was taken, what is resumed before it, the templates that are withdrawn and defined again before it, the messages in front of it, and
--- what it gave
+-- a datagram that was taken, what is resumed before it, the ids of its domain that have no template, the templates that are withdrawn and
+-- defined again before it, the messages in front of it, and what it gave
 pub record Taken : Type 0 where
   pub datagram : List ℕ
   pub resumed : Resumed
+  pub barred : List ℕ
   pub preparation : Preparation
   pub front : Front
   pub given : Message
 
+-- what is known before a datagram beside the files
+abbrev pub basis_with : Resumed → List ℕ → Basis
+basis_with resumed barred = record { resumed = resumed.templates; barred = barred }
+
 -- datagrams one after another, each taken after the domains that those before it leave in the files
 abbrev pub AreTaken : History → List Taken → Type 0
 AreTaken ds [] = Unit {0}
-AreTaken ds (t ∷ ts) = IsTaken t.resumed.templates ds t.datagram t.preparation t.given × AreTaken t.given.domains ts
+AreTaken ds (t ∷ ts) = IsTaken (basis_with t.resumed t.barred) ds t.datagram t.preparation t.given × AreTaken t.given.domains ts
 
 abbrev pub datagrams : List Taken → List (List ℕ)
 datagrams ts = map (λ t. t.datagram) ts

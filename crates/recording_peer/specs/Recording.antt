@@ -1,12 +1,18 @@
 -- The datagrams that a peer's recorder represents, and what it answers.
-use Rattle.std.specs.Prelude.{◌≡◌, ◌≢◌, ◌⊎◌, ℕ, true, List, [], ◌∷◌, ◌++◌, map, flat_map, All, MatchResult, Option, Some, None, option_map, Result, Ok, Err}
+use Rattle.std.specs.Prelude.{◌≡◌, ◌≢◌, ◌⊎◌, ◌==◌, ◌&&◌, ◌||◌, ℕ, true, if◌then◌else◌, List, [], ◌∷◌, ◌++◌, map, flat_map, All, MatchResult, Option, Some, None, option_map, unwrap_or, Result, Ok, Err}
+use Rattle.std.specs.Global.{Vec}
+use Rattle.std.specs.List.{list_any}
 use Rattle.ipfix_session.specs.declared.stop.Stop.TheVariants.{Clean}
 use Rattle.ipfix_session.specs.Given.{IsOpen, IsPrefix, octets_of, records_of, stop_of}
 use Rattle.std.specs.Map.{lookup}
 use Rattle.std.specs.Option.{option_and_then}
 use Rattle.std.specs.Ordering.{nat_cmp, eq_by_cmp}
 use Rattle.std.specs.BTreeMap.{BTreeMap, get}
+use Rattle.ipfix_wire.specs.declared.header.Header.{Header}
 use Rattle.ipfix_message.specs.Domains.{History, message_header}
+use Rattle.ipfix_message.specs.Kept.{kept}
+use Rattle.ipfix_message.specs.Outcome.{Read}
+use Rattle.ipfix_datagrams.specs.declared.known_templates.KnownTemplates.{KnownTemplates}
 use Rattle.ipfix_message.specs.declared.record.Template.{Template}
 use Rattle.ipfix_message.specs.declared.fault.MessageFault.TheVariants.{OutOfMemory}
 use Rattle.ipfix_session.specs.Sources.{one_more}
@@ -23,14 +29,14 @@ use Rattle.recording_files.specs.Sessions.{StandsWith, IsReported}
 use Rattle.ipfix_datagrams.specs.declared.reach.Reach.{Reach}
 use Rattle.ipfix_datagrams.specs.Reaches.{reaches_of, told_of}
 use Rattle.ipfix_datagrams.specs.Advances.{advances_of}
-use Rattle.ipfix_datagrams.specs.Datagrams.{withdraws_only, withdrawn_in, IsRefused}
+use Rattle.ipfix_datagrams.specs.Datagrams.{Basis, Fits, IsRefused, IsTooMuch, barred_after, withdraws_only, withdrawn_in}
 use Rattle.recording_resumption.specs.declared.earlier.Earlier.{Earlier}
 use Rattle.recording_resumption.specs.declared.earlier_domain.EarlierDomain.{EarlierDomain}
 use Rattle.recording_peer.specs.declared.peer_answer.PeerAnswer.{PeerAnswer}
-use Rattle.recording_peer.specs.declared.peer_answer.PeerAnswer.TheVariants.{Recorded, Refused, Ignored}
+use Rattle.recording_peer.specs.declared.peer_answer.PeerAnswer.TheVariants.{Recorded, TooMuch, Refused, Ignored}
 use Rattle.recording_peer.specs.declared.peer_session.PeerSession.{PeerSession}
 use Rattle.recording_peer.specs.declared.resumption.Resumption.{Resumption}
-use Rattle.recording_peer.specs.Peers.{Resumed, Taken, AreResumed, left_in, resumed_at, AreTaken, HaveFronts, PeerFile, part_of, sent_of, withdrawals_ignored, peer_report, peer_reports, datagrams, givens, known_after_all, all_messages, all_given, records_over_udp, resumptions}
+use Rattle.recording_peer.specs.Peers.{basis_with, Resumed, Taken, AreResumed, left_in, resumed_at, AreTaken, HaveFronts, PeerFile, part_of, sent_of, withdrawals_ignored, peer_report, peer_reports, datagrams, givens, known_after_all, all_messages, all_given, records_over_udp, resumptions}
 
 -- the counts, the withdrawals that were ignored since a file was finished, how far the sequence numbers of each domain reach, and the
 -- domains that went on after an earlier run
@@ -50,12 +56,30 @@ left_shown e = (e.state, e.templates.entries)
 abbrev pub left_listed : List (ℕ × EarlierDomain) → List (ℕ × LeftShown)
 left_listed es = map (λ e. (e.0, left_shown e.1)) es
 
--- what contracts see of a recorder: what it keeps, what is left of an earlier run, the templates that were withdrawn in the files, what
+-- what is known of templates beside the files: those that were withdrawn there, the ids that have none, and what each domain counts, beside
+-- the budget
+pub record KnownShown : Type 0 where
+  pub withdrawn : List (ℕ × List (ℕ × Template))
+  pub barred : List (ℕ × List ℕ)
+  pub weights : List (ℕ × ℕ)
+  pub budget : ℕ
+
+abbrev pub barred_listed : List (ℕ × Vec ℕ) → List (ℕ × List ℕ)
+barred_listed es = map (λ e. (e.0, e.1.items)) es
+
+abbrev pub known_shown : KnownTemplates → KnownShown
+known_shown k = record { withdrawn = kept k.withdrawn.entries; barred = barred_listed k.barred.entries; weights = k.weights.entries; budget = k.budget }
+
+-- the ids of a domain that have none
+abbrev pub barred_shown : KnownShown → ℕ → List ℕ
+barred_shown k domain = unwrap_or (lookup (eq_by_cmp nat_cmp domain) k.barred) []
+
+-- what contracts see of a recorder: what it keeps, what is left of an earlier run, what is known of templates beside the files, what
 -- it counted, and why it ended, if it has
 pub record PeerView : Type 0 where
   pub recorder : State
   pub earlier : List (ℕ × LeftShown)
-  pub withdrawn : List (ℕ × List (ℕ × Template))
+  pub known : KnownShown
   pub told : PeerTold
   pub ended : Option RecordFault
 
@@ -179,7 +203,9 @@ pub record IsPeer (first after : FilesView) (s : PeerView) (filed : FiledDatagra
   pub goes_on : s.ended ≡ None
   pub counted : Counts s.told filed
   pub keeps : Keeps s.recorder (all_given (taken_before filed)) (all_given filed.here)
-  pub withdrawn : KeepsListed s.withdrawn (known_after_all (taken_in filed))
+  pub withdrawn : KeepsListed s.known.withdrawn (known_after_all (taken_in filed))
+  -- what is kept of the peer's templates counts no more than the budget
+  pub fits : Fits s.known.budget s.known.weights (known_after_all (taken_in filed))
   pub left : KeepsLeft s.earlier filed.earlier (taken_in filed)
 
 -- ---- a call fails
@@ -219,12 +245,32 @@ pub record HasStopped (fault : RecordFault) (first after : FilesView) (c : PeerT
 
 -- ---- its calls
 
--- a datagram was taken after these, and is in the file that isn't finished; this is what it adds to the counts
-pub record IsRecorded (count : MessageCount) (m : List ℕ) (first after : FilesView) (s : PeerView) (filed : FiledDatagrams) : Type 0 where
+-- what is resumed before a datagram that comes after these
+abbrev pub resumed_for : FiledDatagrams → List ℕ → Resumed
+resumed_for filed m = resumed_at filed.earlier (taken_in filed) (message_header m)
+
+-- the ids that have no template in the domain of a datagram
+abbrev pub barred_for : (ℕ → List ℕ) → Read Header → List ℕ
+barred_for barred (Ok h) = barred h.domain
+barred_for barred (Err fault) = []
+
+abbrev pub barred_before : KnownShown → Read Header → List ℕ
+barred_before k r = barred_for (barred_shown k) r
+
+-- what is known before it beside the files
+abbrev pub basis_for : PeerView → FiledDatagrams → List ℕ → Basis
+basis_for s filed m = basis_with (resumed_for filed m) (barred_before s.known (message_header m))
+
+-- a datagram was taken after these, and is in the file that isn't finished; this is what it adds to the counts. Each id that it
+-- defines has a template then
+pub record IsRecorded (count : MessageCount) (m : List ℕ) (first after : FilesView) (s t : PeerView) (filed : FiledDatagrams) : Type 0 where
   pub next : Taken
   pub datagram : next.datagram ≡ m
   pub counts : IsCountOf count next.given
-  pub is : IsPeer first after s (filed_with filed next)
+  pub is : IsPeer first after t (filed_with filed next)
+  pub barred : next.barred ≡ barred_shown s.known next.given.header.domain
+  pub has_again : (domain : ℕ) → barred_shown t.known domain ≡ (if domain == next.given.header.domain then barred_after next.barred m else barred_shown s.known domain)
+  pub budget : t.known.budget ≡ s.known.budget
 
 -- a datagram was ignored after these: it has withdrawals alone. Only their count has changed
 pub record IsIgnored (m : List ℕ) (first before after : FilesView) (s t : PeerView) (filed : FiledDatagrams) : Type 0 where
@@ -233,15 +279,26 @@ pub record IsIgnored (m : List ℕ) (first before after : FilesView) (s t : Peer
   pub others : t ≡ record s { told = record s.told { ignored = t.told.ignored } }
   pub is : IsPeer first after t (with_ignored filed m)
 
--- what is resumed before a datagram that comes after these
-abbrev pub resumed_for : FiledDatagrams → List ℕ → Resumed
-resumed_for filed m = resumed_at filed.earlier (taken_in filed) (message_header m)
+-- these ids of a domain have no template from now on, and nothing else has changed
+pub record BarsShown (s t : PeerView) (domain : ℕ) (ids : List ℕ) : Type 0 where
+  pub others : t ≡ record s { known = record s.known { barred = t.known.barred } }
+  pub barred : (q id : ℕ) → list_any (λ b. b == id) (barred_shown t.known q) ≡ (list_any (λ b. b == id) (barred_shown s.known q) || ((q == domain) && list_any (λ b. b == id) ids))
+
+-- a datagram was refused after these for what it defines: the ids for which it would have changed what is known have no template from
+-- now on
+pub record IsOverBudget (m : List ℕ) (s t : PeerView) (filed : FiledDatagrams) : Type 0 where
+  pub header : Header
+  pub is_header : message_header m ≡ Ok header
+  pub ids : List ℕ
+  pub too_much : IsTooMuch (basis_for s filed m) s.known.budget (known_after_all (taken_in filed)) m ids
+  pub bars : BarsShown s t header.domain ids
 
 -- what is answered of a datagram, by the files and the recorder before and after it
 abbrev pub Answers : Result PeerAnswer RecordFault → List ℕ → FilesView → FilesView → FilesView → PeerView → PeerView → FiledDatagrams → Type 0
-Answers (Ok (Recorded count)) m first before after s t filed = IsRecorded count m first after t filed
+Answers (Ok (Recorded count)) m first before after s t filed = IsRecorded count m first after s t filed
+Answers (Ok TooMuch) m first before after s t filed = IsOverBudget m s t filed × (after ≡ before)
 Answers (Ok Ignored) m first before after s t filed = IsIgnored m first before after s t filed
-Answers (Ok (Refused fault)) m first before after s t filed = IsRefused (resumed_for filed m).templates (known_after_all (taken_in filed)) m fault × (t ≡ s) × (after ≡ before)
+Answers (Ok (Refused fault)) m first before after s t filed = IsRefused (basis_for s filed m) (known_after_all (taken_in filed)) m fault × (t ≡ s) × (after ≡ before)
 Answers (Err fault) m first before after s t filed = (t.ended ≡ Some fault) × HasStopped fault first after t.told filed m
 
 -- a recorder and its files, whichever datagrams they represent, take the next
@@ -249,10 +306,10 @@ abbrev pub TakesDatagram : {F : Type 0} → (F → FilesView) → List ℕ → R
 TakesDatagram seen m answer s t old new = (first : FilesView) (filed : FiledDatagrams) → IsPeer first (seen old) s filed
     → Answers answer m first (seen old) (seen new) s t filed
 
--- or they finish the file that isn't finished, if it has a datagram
+-- or they finish the file that isn't finished, if it has a datagram: what is known of templates stays
 abbrev pub FinishesFile : {F : Type 0} → (F → FilesView) → Result (Unit {0}) RecordFault → PeerView → PeerView → F → F → Type 0
 FinishesFile seen answer s t old new = (first : FilesView) (filed : FiledDatagrams) → IsPeer first (seen old) s filed
-    → MatchResult answer (λ x. IsPeer first (seen new) t (file_finished filed))
+    → MatchResult answer (λ x. IsPeer first (seen new) t (file_finished filed) × (t.known ≡ s.known))
     (λ fault. (t.ended ≡ Some fault) × HasStopped fault first (seen new) t.told filed [])
 
 -- one that has ended answers its fault, and nothing changes

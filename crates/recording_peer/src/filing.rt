@@ -1,21 +1,25 @@
 //! Writing the files of a peer.
 
-ghost use Rattle.std.specs.Prelude.{◌≡◌, ◌<◌, ◌++◌, Ok, All, IfOk, IfErr, length, vec_len};
+ghost use Rattle.std.specs.Prelude.{◌≡◌, ◌<◌, ◌++◌, Some, Ok, All, IfOk, IfErr, length, vec_len};
 ghost use Rattle.std.specs.Option.{option_to_list};
 ghost use Rattle.std.specs.BTreeMap.{btree_map_len};
 ghost use Rattle.std.specs.Vec.{vec_capacity};
 ghost use Rattle.ipfix_message.specs.Domains.{message_header};
+ghost use Rattle.ipfix_message.specs.declared.fault.MessageFault.TheVariants.{OutOfMemory};
+ghost use Rattle.recording_files.specs.declared.record_fault.RecordFault.TheVariants.{Message as OfMessage};
+ghost use Rattle.recording_peer.specs.declared.peer_answer.PeerAnswer.TheVariants.{TooMuch};
 ghost use Rattle.ipfix_datagrams.specs.Datagrams.{HasTemplateIds};
 ghost use Rattle.ipfix_datagrams.specs.Withdrawals.{HasTemplateId};
 ghost use Rattle.recording_files.specs.Files.{FilesView};
 ghost use Rattle.recording_peer.specs.Peers.{resumed_after, resumption_in};
-ghost use Rattle.recording_peer.specs.Recording.{FiledDatagrams, IsPeer, IsRecorded, HasStopped, FinishesFile, taken_in};
+ghost use Rattle.recording_peer.specs.Recording.{BarsShown, FiledDatagrams, IsPeer, IsRecorded, HasStopped, FinishesFile, taken_in};
 ghost use Rattle.recording_peer.specs.Fronts.{HasRead, ReadsAfter};
 
 use crate::fronts::take_datagram;
+use crate::peer_answer::PeerAnswer;
 use crate::peer_recorder::PeerRecorder;
 use crate::resumption::Resumption;
-use ipfix_datagrams::{DatagramReading, Reading, keep_withdrawn, read_datagram};
+use ipfix_datagrams::{DatagramReading, Reading, keep_known, read_datagram};
 use ipfix_message::MessageFault;
 use ipfix_wire::Header;
 use recording_files::{FileReport, FileSeries, MessageCount, RecordFault};
@@ -93,18 +97,41 @@ impl PeerRecorder {
         requires { message_header datagram.now ≡ Ok header.now }
         ensures ids { IfOk result HasTemplateIds }
         ensures reads { (first after : FilesView) (filed : FiledDatagrams)
-            → IsPeer first after self.now filed → ReadsAfter filed datagram.now result }
+            → IsPeer first after self.now filed → ReadsAfter self.now filed datagram.now result }
     {
         let domains = self.recorder.domains();
-        let withdrawn = &self.withdrawn;
+        let known = &self.known;
         match resumed(&self.earlier, header) {
             Some(domain) => {
                 let templates = &domain.templates;
-                read_datagram(alloc, domains, withdrawn, templates, header, datagram)
+                read_datagram(alloc, domains, known, templates, header, datagram)
             }
             None => {
                 let none = BTreeMap::new(alloc);
-                read_datagram(alloc, domains, withdrawn, &none, header, datagram)
+                read_datagram(alloc, domains, known, &none, header, datagram)
+            }
+        }
+    }
+
+    /// Refuses a datagram with this header for what it defines: these ids of its domain have no template from now on. The fault
+    /// is `OutOfMemory`, and after it the peer has ended.
+    pub(crate) fn refuse_too_much(
+        &mut self,
+        alloc: Global,
+        header: &Header,
+        ids: &[u16],
+    ) -> Result<PeerAnswer, RecordFault>
+        ensures refused { IfOk result (λ answer. (answer ≡ TooMuch)
+            × BarsShown self.old self.new header.now.domain ids.now) }
+        ensures out { IfErr result (λ fault. (fault ≡ OfMessage OutOfMemory)
+            × (self.new.ended ≡ Some fault) × (self.new.told ≡ self.old.told)) }
+    {
+        match self.known.bar(alloc, header.domain, ids) {
+            Ok(()) => Ok(PeerAnswer::TooMuch),
+            Err(_) => {
+                let fault = RecordFault::Message(MessageFault::OutOfMemory);
+                self.ended = Some(fault);
+                Err(fault)
             }
         }
     }
@@ -124,7 +151,7 @@ impl PeerRecorder {
         ensures recorded { (first : FilesView) (filed : FiledDatagrams)
             → HasRead first (F.seen files.old) self.old filed datagram.now reading.now
             → IfOk result
-            (λ count. IsRecorded count datagram.now first (F.seen files.new) self.new filed) }
+            (λ count. IsRecorded count datagram.now first (F.seen files.new) self.old self.new filed) }
         ensures stopped { (first : FilesView) (filed : FiledDatagrams)
             → HasRead first (F.seen files.old) self.old filed datagram.now reading.now
             → IfErr result (λ fault. HasStopped fault first (F.seen files.new) self.new.told
@@ -135,7 +162,7 @@ impl PeerRecorder {
         self.counts.clear_waiting();
         go_on(&mut self.earlier, header, reading.defines())?;
         let domains = self.recorder.domains();
-        keep_withdrawn(alloc, &mut self.withdrawn, domains, header.domain, reading)?;
+        keep_known(alloc, &mut self.known, domains, header.domain, reading)?;
         let count = take_datagram(
             alloc,
             &mut self.recorder,

@@ -1,20 +1,19 @@
 //! Recording the datagrams of a peer.
 
-ghost use Rattle.std.specs.Prelude.{◌≡◌, ℕ, List, Some, unwrap_or};
+ghost use Rattle.std.specs.Prelude.{◌≡◌, ℕ, List, [], Some, unwrap_or};
 ghost use Rattle.ipfix_message.specs.declared.fault.MessageFault.TheVariants.{OutOfMemory};
 ghost use Rattle.recording_files.specs.Files.{FilesView, IsEmpty};
 ghost use Rattle.recording_files.specs.declared.record_fault.RecordFault.TheVariants.{Message as OfMessage};
-ghost use Rattle.recording_peer.specs.Recording.{FiledDatagrams, IsPeer, HasStopped, TakesDatagram, FinishesFile, StaysEnded, Tells, none_filed, answer_of, left_listed};
+ghost use Rattle.recording_peer.specs.Recording.{FiledDatagrams, IsPeer, HasStopped, barred_shown, TakesDatagram, FinishesFile, StaysEnded, Tells, none_filed, answer_of, left_listed};
 
 use crate::peer_answer::PeerAnswer;
 use crate::peer_session::PeerSession;
 use crate::resumption::Resumption;
-use ipfix_datagrams::{Reading, SequenceAdvances, WithdrawnTemplates};
+use ipfix_datagrams::{KnownTemplates, Reading, SequenceAdvances};
 use ipfix_message::{MessageFault, header_of};
 use recording_files::{FileSeries, RecordFault, Recorder, SessionCounts};
 use recording_resumption::EarlierDomains;
 use std::alloc::Global;
-use std::collections::BTreeMap;
 use std::marker::Model;
 
 /// A peer that sends over UDP, while its datagrams are recorded: a transport session is its address and
@@ -23,7 +22,7 @@ use std::marker::Model;
 pub struct PeerRecorder {
     pub(crate) recorder: Recorder,
     pub(crate) earlier: EarlierDomains,
-    pub(crate) withdrawn: WithdrawnTemplates,
+    pub(crate) known: KnownTemplates,
     pub(crate) counts: SessionCounts,
     pub(crate) ignored: u64,
     pub(crate) advances: SequenceAdvances,
@@ -33,15 +32,14 @@ pub struct PeerRecorder {
 }
 
 impl Model for PeerRecorder {
-    ghost use Rattle.ipfix_message.specs.Kept.{kept};
-    ghost use Rattle.recording_peer.specs.Recording.{PeerView, left_listed};
+    ghost use Rattle.recording_peer.specs.Recording.{PeerView, known_shown, left_listed};
 
     ghost Value = { PeerView };
 
     ghost view = { λ r. record {
       recorder = r.recorder;
       earlier = left_listed r.earlier.entries;
-      withdrawn = kept r.withdrawn.entries;
+      known = known_shown r.known;
       told = record {
         counts = r.counts.told;
         ignored = r.ignored;
@@ -53,16 +51,19 @@ impl Model for PeerRecorder {
 }
 
 impl PeerRecorder {
-    /// A peer of which nothing has come yet. An earlier run may have left templates in its domains.
-    pub fn new(alloc: Global, earlier: EarlierDomains) -> Self
+    /// A peer of which nothing has come yet, with a budget for its templates: each counts 8 and its field specifiers, and each
+    /// domain 16. An earlier run may have left templates in its domains.
+    pub fn new(alloc: Global, earlier: EarlierDomains, budget: u64) -> Self
         ensures peer { (files : FilesView) → IsEmpty files.contents
             → IsPeer files files result (none_filed earlier) }
         ensures earlier { result.earlier ≡ left_listed earlier.entries }
+        ensures budget { result.known.budget ≡ budget }
+        ensures barred { (domain : ℕ) → barred_shown result.known domain ≡ [] }
     {
         PeerRecorder {
             recorder: Recorder::new(alloc),
             earlier,
-            withdrawn: BTreeMap::new(alloc),
+            known: KnownTemplates::new(alloc, budget),
             counts: SessionCounts::new(alloc),
             ignored: 0,
             advances: SequenceAdvances::new(alloc),
@@ -78,7 +79,9 @@ impl PeerRecorder {
     /// templates that an earlier one withdrew, messages that define them again; and if its domain goes on after an earlier
     /// run, messages that define the templates that this left, with the sequence number that was due then. It answers what a recorded
     /// datagram adds to the counts. A datagram of withdrawals alone is ignored: only its withdrawals are counted.
-    /// Any other datagram is refused, and changes nothing.
+    /// One with which what is known of the peer's templates would count more than the budget is refused, and the ids for which it
+    /// would have changed what is known have no template from then on: those that are in force in the files are withdrawn before the
+    /// next datagram of the domain. Any other datagram is refused, and changes nothing.
     ///
     /// The fault is `NotWritten` where a call of the files failed, or `OutOfMemory`: then the peer has ended,
     /// and the datagrams before are whole.
@@ -101,6 +104,7 @@ impl PeerRecorder {
         };
         let reading = match self.read(alloc, &header, datagram) {
             Ok(Reading::Kept(reading)) => reading,
+            Ok(Reading::TooMuch(ids)) => return self.refuse_too_much(alloc, &header, &ids),
             Ok(Reading::Ignored(withdrawals)) => {
                 self.ignored = self.ignored.saturating_add(withdrawals);
                 return Ok(PeerAnswer::Ignored);
@@ -161,7 +165,7 @@ impl PeerRecorder {
         let PeerRecorder {
             recorder: _,
             earlier: _,
-            withdrawn: _,
+            known: _,
             counts,
             ignored: _,
             advances,

@@ -5,6 +5,7 @@ use Rattle.std.specs.Map.{lookup, lookup_key, remove_entry}
 use Rattle.std.specs.declared.net.socket_addr.SocketAddr.{SocketAddr}
 use Rattle.std.specs.contracts.net.socket_addr.SocketAddrEq.TheImpl.Laws.{laws-law}
 use Rattle.recording_files.specs.Files.{FilesView}
+use Rattle.recording_peers.specs.declared.session_limits.SessionLimits.{SessionLimits}
 use Rattle.recording_peers.specs.declared.peer_state.PeerState.{PeerState}
 use Rattle.recording_peers.specs.declared.outcome.Became.{Became}
 use Rattle.recording_peers.specs.declared.outcome.Became.TheVariants.{Taken, Ended, NoPlace, NoMemory}
@@ -119,15 +120,15 @@ module _ {F : Type 0} (peer : SocketAddr) (most : ℕ) where
       ∙ append_assoc (happened_to peer cs) (cond (same_peer peer r.peer) (came_in r ∷ []) []) (own_of peer rs)
       ∙ ap (λ hs. happened_to peer cs ++ hs) (sym (own_cons r rs))
 
-module _ {F : Type 0} (seen : F → FilesView) (made_for : F → SocketAddr → Type 0) (laws : Laws) (seconds most : ℕ) where
-  pub stand_by : (became : Became F) (r : Reception F) (after : List (SocketAddr × PeerState F)) (cs : PeerHappenings) → StandBy seen seconds became most r after cs → StandFor seen seconds after (happened_by became most r cs)
+module _ {F : Type 0} (seen : F → FilesView) (made_for : F → SocketAddr → Type 0) (laws : Laws) (limits : SessionLimits) (most : ℕ) where
+  pub stand_by : (became : Became F) (r : Reception F) (after : List (SocketAddr × PeerState F)) (cs : PeerHappenings) → StandBy seen limits became most r after cs → StandFor seen limits after (happened_by became most r cs)
   stand_by Taken r after cs s = s.0
   stand_by (Ended k) r after cs s = s.0
   stand_by NoPlace r after cs s = s.0
   stand_by NoMemory r after cs s = s.0
 
-  pub stand_after_all : (rs : List (Reception F)) (es after : List (SocketAddr × PeerState F)) (cs : PeerHappenings) → StandFor seen seconds es cs → AreRecorded seen made_for seconds most rs es after → StandFor seen seconds after (happened_after most rs cs)
-  stand_after_all [] es after cs p r = subst (λ l. StandFor seen seconds l cs) (sym r) p
+  pub stand_after_all : (rs : List (Reception F)) (es after : List (SocketAddr × PeerState F)) (cs : PeerHappenings) → StandFor seen limits es cs → AreRecorded seen made_for limits most rs es after → StandFor seen limits after (happened_after most rs cs)
+  stand_after_all [] es after cs p r = subst (λ l. StandFor seen limits l cs) (sym r) p
   stand_after_all (r ∷ rs) es after cs p a =
-      let stand = stand_after seen made_for laws seconds most r es a.0 cs p a.1 in
+      let stand = stand_after seen made_for laws limits most r es a.0 cs p a.1 in
       stand_after_all rs a.0 after (happened_in most r cs) (stand_by r.became r a.0 cs stand) a.2

@@ -9,7 +9,7 @@ use Rattle.recording_order.specs.Arrivals.{Arrival}
 use Rattle.recording_order.specs.Windows.{WindowView}
 use Rattle.recording_order.specs.Releases.{Run, Says}
 use Rattle.recording_peer.specs.Peers.{Taken}
-use Rattle.recording_peer.specs.Recording.{FiledDatagrams, file_finished}
+use Rattle.recording_peer.specs.Recording.{FiledDatagrams, barred_shown, file_finished}
 use Rattle.recording_peers.specs.declared.peer_state.PeerState.{PeerState}
 use Rattle.recording_peers.specs.declared.refusals.Refusals.{Refusals}
 use Rattle.recording_peers.specs.Happenings.{datagrams_of}
@@ -45,7 +45,7 @@ ignored-append ms (WasIgnored m ∷ said) more = ignored-append (ms ++ m ∷ [])
 -- ---- what is recorded then
 
 pub recorded-none : (p : Recording) → recorded_then false p [] [] ≡ p
-recorded-none p = λ i. record { first = p.first; filed = record p.filed { here = append-nil p.filed.here i }; said = append-nil p.said i }
+recorded-none p = λ i. record { budget = p.budget; first = p.first; filed = record p.filed { here = append-nil p.filed.here i }; said = append-nil p.said i }
 
 filed-more : (filed : FiledDatagrams) (more then : List Taken) (said saying : List Said) → filed_more (filed_more filed more said) then saying ≡ filed_more filed (more ++ then) (said ++ saying)
 filed-more filed more then said saying =
@@ -58,7 +58,7 @@ filed-both true filed more then said saying = ap file_finished (filed-more filed
 
 pub recorded-both : (finishes : Bool) (p : Recording) (more then : List Taken) (said saying : List Said)
     → recorded_then finishes (recorded_then false p more said) then saying ≡ recorded_then finishes p (more ++ then) (said ++ saying)
-recorded-both finishes p more then said saying = λ i. record { first = p.first; filed = filed-both finishes p.filed more then said saying i; said = append_assoc p.said said saying i }
+recorded-both finishes p more then said saying = λ i. record { budget = p.budget; first = p.first; filed = filed-both finishes p.filed more then said saying i; said = append_assoc p.said said saying i }
 
 pub datagrams-longer : (xs ys : List Arrival) → IsPrefix xs ys → IsPrefix (datagrams_of xs) (datagrams_of ys)
 datagrams-longer xs ys p = (datagrams_of p.0, ap datagrams_of p.1 ∙ map-append (λ (a : Arrival). a.octets) xs p.0)
@@ -93,6 +93,7 @@ module _ {F : Type 0} (seen : F → FilesView) where
     before = failed.before;
     next = failed.next;
     stopped = failed.stopped;
+    barred = failed.barred;
     settles = failed.settles;
     are_first = λ says so. prefix-both _ (datagrams_of (g says)) (datagrams_of (f says)) (failed.are_first says so) (longer says so);
   }
@@ -193,7 +194,7 @@ module _ {F : Type 0} (seen : F → FilesView) where
       (λ p r is.
       let s = shift r is.window in
       let on = lead-of g finishes (record old { window = w }) new answer a p s.run (record {
-        recorded = record { empty = is.recorded.empty; is = is.recorded.is; settles = subst (λ xs. IsSettled (datagrams_of xs) p) (sym s.same) is.recorded.settles };
+        recorded = record { empty = is.recorded.empty; is = is.recorded.is; budget = is.recorded.budget; settles = subst (λ xs. IsSettled (datagrams_of xs) p (barred_shown old.recorder.known)) (sym s.same) is.recorded.settles };
         window = s.window;
       }) in
       record { more = on.more; leads = lead-shifted f g finishes new answer a.said p w r s on.more on.leads })

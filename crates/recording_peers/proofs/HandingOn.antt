@@ -1,10 +1,11 @@
 -- A datagram that is handed on to the recorder.
 use Rattle.std.proofs.Common.{◌≡◌, ℕ, suc, true, false, Some, None, Result, Ok, Err, List, [], ◌∷◌, ◌++◌, length, refl, sym, ap, subst, ◌∙◌, append_assoc, arith, length-append}
-use Rattle.std.specs.Prelude.{flat_map}
+use Rattle.std.specs.Prelude.{◌==◌, if◌then◌else◌, flat_map}
 use Rattle.std.specs.BTreeMap.{BTreeMap}
 use Rattle.std.proofs.lemmas.List.{append-nil, map-append, length-map}
 use Rattle.lru.proofs.Pairs.{slice_get-cut}
 use Rattle.ipfix_session.specs.Given.{IsPrefix}
+use Rattle.ipfix_datagrams.specs.Datagrams.{IsTooMuch, barred_after}
 use Rattle.ipfix_message.specs.declared.fault.MessageFault.{MessageFault}
 use Rattle.recording_files.specs.declared.message_count.MessageCount.{MessageCount}
 use Rattle.recording_files.specs.declared.record_fault.RecordFault.{RecordFault}
@@ -12,36 +13,39 @@ use Rattle.recording_files.specs.Files.{FilesView}
 use Rattle.recording_order.specs.Arrivals.{Arrival}
 use Rattle.recording_order.specs.Windows.{WindowView, after_writing}
 use Rattle.recording_order.specs.Releases.{Run, Says, answered}
-use Rattle.recording_peer.specs.declared.peer_answer.PeerAnswer.TheVariants.{Recorded, Refused, Ignored}
+use Rattle.recording_peer.specs.declared.peer_answer.PeerAnswer.TheVariants.{Recorded, TooMuch, Refused, Ignored}
 use Rattle.recording_resumption.specs.declared.earlier_domain.EarlierDomain.{EarlierDomain}
-use Rattle.recording_peer.specs.Peers.{Taken}
-use Rattle.recording_peer.specs.Recording.{PeerView, FiledDatagrams, IsPeer, HasStopped, TakesDatagram, FinishesFile, filed_with, with_ignored, file_finished, taken_in, ignored_in}
+use Rattle.recording_peer.specs.Peers.{Taken, known_after_all}
+use Rattle.recording_peer.specs.Recording.{KnownShown, PeerView, FiledDatagrams, IsPeer, IsRecorded, HasStopped, TakesDatagram, barred_shown, basis_for, FinishesFile, filed_with, with_ignored, file_finished, taken_in, ignored_in}
 use Rattle.recording_peer.proofs.PeerFiles.{taken_in-push, in-finished, ignored-finished}
 use Rattle.recording_peers.specs.declared.peer_state.PeerState.{PeerState}
 use Rattle.recording_peers.specs.Happenings.{datagrams_of}
-use Rattle.recording_peers.specs.Kept.{Said, WasRecorded, WasRefused, WasIgnored, SaidSo, Settles, IsSettled, ignored_after, Recording, HasRecorded, HasFailed, counts_said, counts_of}
+use Rattle.recording_peers.specs.Kept.{Barred, none_barred, Said, WasRecorded, WasRefused, WasIgnored, SaidSo, Settles, IsSettled, ignored_after, Recording, HasRecorded, HasFailed, counts_said, counts_of}
+use Rattle.recording_peers.specs.declared.refusals.DatagramFault.TheVariants.{Message as OfMessage, TooManyFields}
 use Rattle.recording_peers.specs.Calls.{Part, Follows, RunsTo, IsRunning, handed_on, one_more_refused, recorded_then, filed_then}
 use Rattle.recording_peers.proofs.Growing.{Grows, grows-none}
 use Rattle.recording_peers.proofs.Following.{follows-of, ignored-append, recorded-none, datagrams-longer}
 
 -- ---- one more is settled
 
-settles-more : (left : BTreeMap ℕ EarlierDomain) (before : List Taken) (ms : List (List ℕ)) (said : List Said) (all : List Taken) (m : List ℕ) (s : Said) (now : List Taken)
-    → Settles left before ms said all → Settles left all (m ∷ []) (s ∷ []) now → Settles left before (ms ++ m ∷ []) (said ++ s ∷ []) now
-settles-more left before [] [] all m s now h one = subst (λ ts. Settles left ts (m ∷ []) (s ∷ []) now) h one
-settles-more left before [] (t ∷ said) all m s now h one = absurd h
-settles-more left before (x ∷ ms) [] all m s now h one = absurd h
-settles-more left before (x ∷ ms) (WasRecorded c ∷ said) all m s now h one = (h.0, h.1, h.2, settles-more left (before ++ h.0 ∷ []) ms said all m s now h.3 one)
-settles-more left before (x ∷ ms) (WasRefused fault ∷ said) all m s now h one = (h.0, settles-more left before ms said all m s now h.1 one)
-settles-more left before (x ∷ ms) (WasIgnored d ∷ said) all m s now h one = (h.0, h.1, settles-more left before ms said all m s now h.2 one)
+settles-more : (n : ℕ) (left : BTreeMap ℕ EarlierDomain) (before : List Taken) (old : Barred) (ms : List (List ℕ)) (said : List Said) (all : List Taken) (between : Barred) (m : List ℕ) (s : Said) (now : List Taken) (new : Barred)
+    → Settles n left before old ms said all between → Settles n left all between (m ∷ []) (s ∷ []) now new → Settles n left before old (ms ++ m ∷ []) (said ++ s ∷ []) now new
+settles-more n left before old [] [] all between m s now new h one = subst (λ (b : Barred). Settles n left before b (m ∷ []) (s ∷ []) now new) h.1 (subst (λ (ts : List Taken). Settles n left ts between (m ∷ []) (s ∷ []) now new) h.0 one)
+settles-more n left before old [] (t ∷ said) all between m s now new h one = absurd h
+settles-more n left before old (x ∷ ms) [] all between m s now new h one = absurd h
+settles-more n left before old (x ∷ ms) (WasRecorded c ∷ said) all between m s now new h one = (h.0, h.1, h.2, h.3, h.4, settles-more n left (before ++ h.0 ∷ []) h.1 ms said all between m s now new h.5 one)
+settles-more n left before old (x ∷ ms) (WasRefused (OfMessage fault) ∷ said) all between m s now new h one = (h.0, settles-more n left before old ms said all between m s now new h.1 one)
+settles-more n left before old (x ∷ ms) (WasRefused TooManyFields ∷ said) all between m s now new h one = (h.0, h.1, settles-more n left before h.0 ms said all between m s now new h.2 one)
+settles-more n left before old (x ∷ ms) (WasIgnored d ∷ said) all between m s now new h one = (h.0, h.1, settles-more n left before old ms said all between m s now new h.2 one)
 
-pub settles-length : (left : BTreeMap ℕ EarlierDomain) (before : List Taken) (ms : List (List ℕ)) (said : List Said) (all : List Taken) → Settles left before ms said all → length said ≡ length ms
-settles-length left before [] [] all h = refl
-settles-length left before [] (t ∷ said) all h = absurd h
-settles-length left before (x ∷ ms) [] all h = absurd h
-settles-length left before (x ∷ ms) (WasRecorded c ∷ said) all h = ap suc (settles-length left (before ++ h.0 ∷ []) ms said all h.3)
-settles-length left before (x ∷ ms) (WasRefused fault ∷ said) all h = ap suc (settles-length left before ms said all h.1)
-settles-length left before (x ∷ ms) (WasIgnored d ∷ said) all h = ap suc (settles-length left before ms said all h.2)
+pub settles-length : (n : ℕ) (left : BTreeMap ℕ EarlierDomain) (before : List Taken) (old : Barred) (ms : List (List ℕ)) (said : List Said) (all : List Taken) (now : Barred) → Settles n left before old ms said all now → length said ≡ length ms
+settles-length n left before old [] [] all now h = refl
+settles-length n left before old [] (t ∷ said) all now h = absurd h
+settles-length n left before old (x ∷ ms) [] all now h = absurd h
+settles-length n left before old (x ∷ ms) (WasRecorded c ∷ said) all now h = ap suc (settles-length n left (before ++ h.0 ∷ []) h.1 ms said all now h.5)
+settles-length n left before old (x ∷ ms) (WasRefused (OfMessage fault) ∷ said) all now h = ap suc (settles-length n left before old ms said all now h.1)
+settles-length n left before old (x ∷ ms) (WasRefused TooManyFields ∷ said) all now h = ap suc (settles-length n left before h.0 ms said all now h.2)
+settles-length n left before old (x ∷ ms) (WasIgnored d ∷ said) all now h = ap suc (settles-length n left before old ms said all now h.2)
 
 -- those that were ignored, with the next one
 ignored-next : (p : Recording) (more : List Taken) (s : Said) → ignored_in p.filed ≡ ignored_after [] p.said → ignored_in (filed_then false p.filed more (s ∷ [])) ≡ ignored_after [] (p.said ++ s ∷ [])
@@ -61,7 +65,7 @@ said-next xs said s says same so =
 
 module _ {F : Type 0} (seen : F → FilesView) where
   counted : (p : Recording) (r : Run) (k : PeerState F) → IsRunning seen k p r → length p.said ≡ length r.handed_on
-  counted p r k is = settles-length p.filed.earlier [] (datagrams_of r.handed_on) p.said (taken_in p.filed) is.recorded.settles.taken ∙ length-map r.handed_on (λ (a : Arrival). a.octets)
+  counted p r k is = settles-length p.budget p.filed.earlier [] none_barred (datagrams_of r.handed_on) p.said (taken_in p.filed) (barred_shown k.recorder.known) is.recorded.settles.taken ∙ length-map r.handed_on (λ (a : Arrival). a.octets)
 
   hands-on : (a : Arrival) (old new : PeerState F) (p : Recording) (r : Run) (s : Said) (more : List Taken) → IsRunning seen old p r → new.window ≡ answered r.window a (counts_said (Some s))
       → HasRecorded seen new (recorded_then false p more (s ∷ [])) (datagrams_of (r.handed_on ++ a ∷ [])) → RunsTo seen new (recorded_then false p more (s ∷ [])) (handed_on a) r
@@ -71,17 +75,36 @@ module _ {F : Type 0} (seen : F → FilesView) where
     by = λ says so. ap (λ o. record { window = answered r.window a o; handed_on = r.handed_on ++ a ∷ []; doubled = r.doubled }) (said-next r.handed_on p.said s says (counted p r old is) so);
   }
 
-  settles-next : (a : Arrival) (old : PeerState F) (p : Recording) (r : Run) (s : Said) (now : List Taken) → IsRunning seen old p r → Settles p.filed.earlier (taken_in p.filed) (a.octets ∷ []) (s ∷ []) now
-      → Settles p.filed.earlier [] (datagrams_of (r.handed_on ++ a ∷ [])) (p.said ++ s ∷ []) now
-  settles-next a old p r s now is one =
-      subst (λ ms. Settles p.filed.earlier [] ms (p.said ++ s ∷ []) now) (sym (datagrams-push r.handed_on a)) (settles-more p.filed.earlier [] (datagrams_of r.handed_on) p.said (taken_in p.filed) a.octets s now is.recorded.settles.taken one)
+  -- after those before, and where the ids have no template for which the recorder has none
+  abbrev SettlesNext : Arrival → PeerState F → Recording → Said → List Taken → Barred → Type 0
+  SettlesNext a old p s now new = Settles p.budget p.filed.earlier (taken_in p.filed) (barred_shown old.recorder.known) (a.octets ∷ []) (s ∷ []) now new
 
-  settled-next : (a : Arrival) (old : PeerState F) (p : Recording) (r : Run) (s : Said) (more : List Taken) → IsRunning seen old p r → Settles p.filed.earlier (taken_in p.filed) (a.octets ∷ []) (s ∷ []) (taken_in (filed_then false p.filed more (s ∷ [])))
-      → IsSettled (datagrams_of (r.handed_on ++ a ∷ [])) (recorded_then false p more (s ∷ []))
-  settled-next a old p r s more is one = record {
-    taken = settles-next a old p r s (taken_in (filed_then false p.filed more (s ∷ []))) is one;
+  settles-next : (a : Arrival) (old : PeerState F) (p : Recording) (r : Run) (s : Said) (now : List Taken) (new : Barred) → IsRunning seen old p r → SettlesNext a old p s now new
+      → Settles p.budget p.filed.earlier [] none_barred (datagrams_of (r.handed_on ++ a ∷ [])) (p.said ++ s ∷ []) now new
+  settles-next a old p r s now new is one =
+      subst (λ (ms : List (List ℕ)). Settles p.budget p.filed.earlier [] none_barred ms (p.said ++ s ∷ []) now new) (sym (datagrams-push r.handed_on a))
+      (settles-more p.budget p.filed.earlier [] none_barred (datagrams_of r.handed_on) p.said (taken_in p.filed) (barred_shown old.recorder.known) a.octets s now new is.recorded.settles.taken one)
+
+  settled-next : (a : Arrival) (old : PeerState F) (p : Recording) (r : Run) (s : Said) (more : List Taken) (new : Barred) → IsRunning seen old p r → SettlesNext a old p s (taken_in (filed_then false p.filed more (s ∷ []))) new
+      → IsSettled (datagrams_of (r.handed_on ++ a ∷ [])) (recorded_then false p more (s ∷ [])) new
+  settled-next a old p r s more new is one = record {
+    taken = settles-next a old p r s (taken_in (filed_then false p.filed more (s ∷ []))) new is one;
     ignored = ignored-next p more s is.recorded.settles.ignored;
   }
+
+  recorded-one : (a : Arrival) (old : PeerState F) (p : Recording) (count : MessageCount) (t : PeerView) (fs : F) (x : IsRecorded count a.octets p.first (seen fs) old.recorder t p.filed)
+      → SettlesNext a old p (WasRecorded (counts_of count)) (taken_in (filed_then false p.filed (x.next ∷ []) (WasRecorded (counts_of count) ∷ []))) (barred_shown t.known)
+  recorded-one a old p count t fs x = (
+    x.next,
+    barred_shown t.known,
+    x.datagram,
+    record { records = sym x.counts.records; unknown_sets = sym (ap (λ o. o.unknown_sets) x.counts.passed_over) },
+    record {
+      barred = x.barred;
+      again = subst (λ (m : List ℕ). (domain : ℕ) → barred_shown t.known domain ≡ (if domain == x.next.given.header.domain then barred_after x.next.barred m else barred_shown old.recorder.known domain)) (sym x.datagram) x.has_again;
+    },
+    (taken_in-push p.filed x.next, refl),
+  )
 
   -- it was recorded, and noted
   pub follows-recorded : (old : PeerState F) (a : Arrival) (count : MessageCount) (t : PeerView) (fs : F) (w : WindowView) → TakesDatagram seen a.octets (Ok (Recorded count)) old.recorder t old.files fs
@@ -97,17 +120,17 @@ module _ {F : Type 0} (seen : F → FilesView) where
         leads = hands-on a old new p r (WasRecorded c) (x.next ∷ []) is (noted ∙ ap (λ v. after_writing v a c) is.window) (record {
           empty = is.recorded.empty;
           is = x.is;
-          settles = settled-next a old p r (WasRecorded c) (x.next ∷ []) is
-              (x.next, x.datagram, record { records = sym x.counts.records; unknown_sets = sym (ap (λ o. o.unknown_sets) x.counts.passed_over) }, taken_in-push p.filed x.next);
+          budget = x.budget ∙ is.recorded.budget;
+          settles = settled-next a old p r (WasRecorded c) (x.next ∷ []) (barred_shown t.known) is (recorded-one a old p count t fs x);
         });
       })
 
   -- it was refused, and nothing else changed
   pub follows-refused : (old : PeerState F) (a : Arrival) (fault : MessageFault) (t : PeerView) (fs : F) → TakesDatagram seen a.octets (Ok (Refused fault)) old.recorder t old.files fs
-      → Follows seen (handed_on a) false old (record old { recorder = t; files = fs; refused = Some (one_more_refused old.refused fault) }) (Ok tt)
+      → Follows seen (handed_on a) false old (record old { recorder = t; files = fs; refused = Some (one_more_refused old.refused (OfMessage fault)) }) (Ok tt)
   follows-refused old a fault t fs takes =
-      let new = record old { recorder = t; files = fs; refused = Some (one_more_refused old.refused fault) } in
-      follows-of seen (handed_on a) false old new (Ok tt) (WasRefused fault ∷ []) refl refl refl
+      let new = record old { recorder = t; files = fs; refused = Some (one_more_refused old.refused (OfMessage fault)) } in
+      follows-of seen (handed_on a) false old new (Ok tt) (WasRefused (OfMessage fault) ∷ []) refl refl refl
       (λ p r is.
       let x = takes p.first p.filed is.recorded.is in
       let filed : FiledDatagrams = record p.filed { here = p.filed.here ++ [] } in
@@ -115,10 +138,56 @@ module _ {F : Type 0} (seen : F → FilesView) where
       let peer : IsPeer p.first (seen fs) t p.filed = subst (λ v. IsPeer p.first v t p.filed) (sym x.2) (subst (λ s. IsPeer p.first (seen old.files) s p.filed) (sym x.1) is.recorded.is) in
       record {
         more = [];
-        leads = hands-on a old new p r (WasRefused fault) [] is is.window (record {
+        leads = hands-on a old new p r (WasRefused (OfMessage fault)) [] is is.window (record {
           empty = is.recorded.empty;
           is = subst (λ f. IsPeer p.first (seen fs) t f) (sym same) peer;
-          settles = settled-next a old p r (WasRefused fault) [] is (x.0, ap taken_in same);
+          budget = ap (λ (s : PeerView). s.known.budget) x.1 ∙ is.recorded.budget;
+          settles = settled-next a old p r (WasRefused (OfMessage fault)) [] (barred_shown t.known) is (x.0, (ap taken_in same, ap (λ (s : PeerView). barred_shown s.known) x.1));
+        });
+      })
+
+  -- it was refused for what it defines, and only the ids that have no template changed
+  peer-barred : (first v : FilesView) (s : PeerView) (filed : FiledDatagrams) (barred : List (ℕ × List ℕ)) → IsPeer first v s filed → IsPeer first v (record s { known = record s.known { barred = barred } }) filed
+  peer-barred first v s filed barred p = record {
+    holds = p.holds;
+    not_failed = p.not_failed;
+    goes_on = p.goes_on;
+    counted = p.counted;
+    keeps = p.keeps;
+    withdrawn = p.withdrawn;
+    fits = p.fits;
+    left = p.left;
+  }
+
+  pub follows-too_much : (old : PeerState F) (a : Arrival) (t : PeerView) (fs : F) → TakesDatagram seen a.octets (Ok TooMuch) old.recorder t old.files fs
+      → Follows seen (handed_on a) false old (record old { recorder = t; files = fs; refused = Some (one_more_refused old.refused TooManyFields) }) (Ok tt)
+  follows-too_much old a t fs takes =
+      let new = record old { recorder = t; files = fs; refused = Some (one_more_refused old.refused TooManyFields) } in
+      follows-of seen (handed_on a) false old new (Ok tt) (WasRefused TooManyFields ∷ []) refl refl refl
+      (λ p r is.
+      let x = takes p.first p.filed is.recorded.is in
+      let over = x.0 in
+      let filed : FiledDatagrams = record p.filed { here = p.filed.here ++ [] } in
+      let same : filed ≡ p.filed = λ i. record p.filed { here = append-nil p.filed.here i } in
+      let barred : IsPeer p.first (seen old.files) t p.filed = subst (λ (s : PeerView). IsPeer p.first (seen old.files) s p.filed) (sym over.bars.others) (peer-barred p.first (seen old.files) old.recorder p.filed t.known.barred is.recorded.is) in
+      let peer : IsPeer p.first (seen fs) t p.filed = subst (λ v. IsPeer p.first v t p.filed) (sym x.1) barred in
+      record {
+        more = [];
+        leads = hands-on a old new p r (WasRefused TooManyFields) [] is is.window (record {
+          empty = is.recorded.empty;
+          is = subst (λ f. IsPeer p.first (seen fs) t f) (sym same) peer;
+          budget = ap (λ (s : PeerView). s.known.budget) over.bars.others ∙ is.recorded.budget;
+          settles = settled-next a old p r (WasRefused TooManyFields) [] (barred_shown t.known) is (
+            barred_shown t.known,
+            record {
+              header = over.header;
+              is_header = over.is_header;
+              ids = over.ids;
+              too_much = subst (λ (n : ℕ). IsTooMuch (basis_for old.recorder p.filed a.octets) n (known_after_all (taken_in p.filed)) a.octets over.ids) is.recorded.budget over.too_much;
+              barred = over.bars.barred;
+            },
+            (ap taken_in same, refl),
+          );
         });
       })
 
@@ -137,7 +206,8 @@ module _ {F : Type 0} (seen : F → FilesView) where
         leads = hands-on a old new p r (WasIgnored a.octets) [] is is.window (record {
           empty = is.recorded.empty;
           is = subst (λ f. IsPeer p.first (seen fs) t f) (sym same) x.is;
-          settles = settled-next a old p r (WasIgnored a.octets) [] is (refl, x.alone, ap taken_in same);
+          budget = ap (λ (s : PeerView). s.known.budget) x.others ∙ is.recorded.budget;
+          settles = settled-next a old p r (WasIgnored a.octets) [] (barred_shown t.known) is (refl, x.alone, (ap taken_in same, ap (λ (s : PeerView). barred_shown s.known) x.others));
         });
       })
 
@@ -155,6 +225,7 @@ module _ {F : Type 0} (seen : F → FilesView) where
         before = datagrams_of r.handed_on;
         next = Some a.octets;
         stopped = x.1;
+        barred = barred_shown old.recorder.known;
         settles = is.recorded.settles;
         are_first = λ says so. ([], datagrams-push r.handed_on a ∙ sym (append-nil (datagrams_of r.handed_on ++ a.octets ∷ [])));
       } in
@@ -184,8 +255,8 @@ module _ {F : Type 0} (seen : F → FilesView) where
           before = datagrams_of (r.handed_on ++ a ∷ []);
           next = None;
           stopped = ends.stopped p.first (seen fs) (filed_with p.filed x.next) [] x.is;
-          settles = settled-next a old p r (WasRecorded c) (x.next ∷ []) is
-              (x.next, x.datagram, record { records = sym x.counts.records; unknown_sets = sym (ap (λ o. o.unknown_sets) x.counts.passed_over) }, taken_in-push p.filed x.next);
+          barred = barred_shown t.known;
+          settles = settled-next a old p r (WasRecorded c) (x.next ∷ []) (barred_shown t.known) is (recorded-one a old p count t fs x);
           are_first = λ says so. ([], sym (append-nil (datagrams_of (r.handed_on ++ a ∷ []))) ∙ sym (append-nil (datagrams_of (r.handed_on ++ a ∷ []) ++ [])));
         };
       })
@@ -200,6 +271,7 @@ module _ {F : Type 0} (seen : F → FilesView) where
         before = datagrams_of r.handed_on;
         next = None;
         stopped = stopped;
+        barred = barred_shown k.recorder.known;
         settles = is.recorded.settles;
         are_first = λ says so. subst (λ ms. IsPrefix ms (datagrams_of (part says r).handed_on)) (sym (append-nil (datagrams_of r.handed_on))) (datagrams-longer r.handed_on (part says r).handed_on (grows says r));
       } in
@@ -222,14 +294,17 @@ module _ {F : Type 0} (seen : F → FilesView) where
       let new = record old { recorder = t; files = fs } in
       follows-of seen (λ says r. r) true old new (Ok tt) [] refl refl refl
       (λ p r is.
-      let done : Recording = record { first = p.first; filed = file_finished p.filed; said = p.said } in
-      let same : recorded_then true p [] [] ≡ done = λ i. record { first = p.first; filed = file_finished (record p.filed { here = append-nil p.filed.here i }); said = append-nil p.said i } in
+      let x = finishes p.first p.filed is.recorded.is in
+      let done : Recording = record { budget = p.budget; first = p.first; filed = file_finished p.filed; said = p.said } in
+      let same : recorded_then true p [] [] ≡ done = λ i. record { budget = p.budget; first = p.first; filed = file_finished (record p.filed { here = append-nil p.filed.here i }); said = append-nil p.said i } in
       let running : IsRunning seen new done r = record {
         recorded = record {
           empty = is.recorded.empty;
-          is = finishes p.first p.filed is.recorded.is;
+          is = x.0;
+          budget = ap (λ (k : KnownShown). k.budget) x.1 ∙ is.recorded.budget;
           settles = record {
-            taken = subst (Settles p.filed.earlier [] (datagrams_of r.handed_on) p.said) (sym (in-finished p.filed)) is.recorded.settles.taken;
+            taken = subst (λ (ts : List Taken). Settles p.budget p.filed.earlier [] none_barred (datagrams_of r.handed_on) p.said ts (barred_shown t.known)) (sym (in-finished p.filed))
+                (subst (λ (k : KnownShown). Settles p.budget p.filed.earlier [] none_barred (datagrams_of r.handed_on) p.said (taken_in p.filed) (barred_shown k)) (sym x.1) is.recorded.settles.taken);
             ignored = ignored-finished p.filed ∙ is.recorded.settles.ignored;
           };
         };

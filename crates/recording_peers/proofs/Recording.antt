@@ -5,6 +5,7 @@ use Rattle.std.specs.declared.net.socket_addr.SocketAddr.{SocketAddr}
 use Rattle.lru.specs.LruCache.{promoted, last_entry}
 use Rattle.recording_files.specs.declared.record_fault.RecordFault.{RecordFault}
 use Rattle.recording_files.specs.Files.{FilesView}
+use Rattle.recording_peers.specs.declared.session_limits.SessionLimits.{SessionLimits}
 use Rattle.recording_peers.specs.declared.peer_state.PeerState.{PeerState}
 use Rattle.recording_peers.specs.declared.turn.Turn.{Turn}
 use Rattle.recording_peers.specs.declared.outcome.Became.{Became}
@@ -46,8 +47,8 @@ module _ {F : Type 0} (seen : F → FilesView) where
         others = left ∙ taken_out most r.peer es old new h;
       }
 
-  module _ (made_for : F → SocketAddr → Type 0) (seconds most : ℕ) where
-    by_became : (b : Became F) (r : Reception F) (es after : List (SocketAddr × PeerState F)) → r.became ≡ b → TakesIn seen made_for seconds most r es after → RecordsBy seen made_for seconds b most r es after
+  module _ (made_for : F → SocketAddr → Type 0) (limits : SessionLimits) (most : ℕ) where
+    by_became : (b : Became F) (r : Reception F) (es after : List (SocketAddr × PeerState F)) → r.became ≡ b → TakesIn seen made_for limits most r es after → RecordsBy seen made_for limits b most r es after
     by_became Taken r es after is t = t
     by_became (Ended k) r es after is t = t
     by_became NoPlace r es after is t = absurd (never t.answer t.new (sym is ∙ t.became))
@@ -61,7 +62,7 @@ module _ {F : Type 0} (seen : F → FilesView) where
         never (Ok x) k e = cc
         never (Err fault) k e = cc
 
-    recorded : (r : Reception F) (es after : List (SocketAddr × PeerState F)) → TakesIn seen made_for seconds most r es after → Records seen made_for seconds most r es after
+    recorded : (r : Reception F) (es after : List (SocketAddr × PeerState F)) → TakesIn seen made_for limits most r es after → Records seen made_for limits most r es after
     recorded r es after t = by_became r.became r es after refl t
 
     -- none went for it
@@ -69,10 +70,10 @@ module _ {F : Type 0} (seen : F → FilesView) where
     none_gone None old e h = absurd cc
     none_gone (Some k) old e h = refl
 
-    pub recorded_kept : (r : Reception F) (es after : List (SocketAddr × PeerState F)) → TakesKept seen most (record r { gone = None }) es after → r.gone ≡ None → Records seen made_for seconds most r es after
+    pub recorded_kept : (r : Reception F) (es after : List (SocketAddr × PeerState F)) → TakesKept seen most (record r { gone = None }) es after → r.gone ≡ None → Records seen made_for limits most r es after
     recorded_kept r es after t none = recorded r es after (record {
       old = t.old;
-      comes_to = subst (λ o. ComesTo seen made_for seconds r.peer r.octets o t.old) (sym t.kept) refl;
+      comes_to = subst (λ o. ComesTo seen made_for limits r.peer r.octets o t.old) (sym t.kept) refl;
       new = t.new;
       answer = t.answer;
       takes = t.takes;
@@ -87,8 +88,8 @@ module _ {F : Type 0} (seen : F → FilesView) where
     same_kept (Ok x) peer k new es h = begun_first most peer es k new h
     same_kept (Err fault) peer k new es h = begun_others most peer es k h
 
-    pub recorded_new : (now_most : ℕ) (r : Reception F) (es begins after : List (SocketAddr × PeerState F)) (k : PeerState F) → of_peer r.peer es ≡ None → BeginsBy seen made_for seconds r.peer r.octets k → begins ≡ with_first most r.peer k es → now_most ≡ most
-        → TakesKept seen now_most (record r { gone = None }) begins after → r.gone ≡ gone_for most r.peer es → Records seen made_for seconds most r es after
+    pub recorded_new : (now_most : ℕ) (r : Reception F) (es begins after : List (SocketAddr × PeerState F)) (k : PeerState F) → of_peer r.peer es ≡ None → BeginsBy seen made_for limits r.peer r.octets k → begins ≡ with_first most r.peer k es → now_most ≡ most
+        → TakesKept seen now_most (record r { gone = None }) begins after → r.gone ≡ gone_for most r.peer es → Records seen made_for limits most r es after
     recorded_new now_most r es begins after k none fresh is same_most taken gone =
         let t : TakesKept seen most (record r { gone = None }) begins after = subst (λ n. TakesKept seen n (record r { gone = None }) begins after) same_most taken in
         let there : of_peer r.peer begins ≡ Some k = ap (of_peer r.peer) is ∙ begun most r.peer es k none in
@@ -96,7 +97,7 @@ module _ {F : Type 0} (seen : F → FilesView) where
         let same : t.old ≡ k = cc (kept, there) in
         recorded r es after (record {
           old = t.old;
-          comes_to = subst (λ o. ComesTo seen made_for seconds r.peer r.octets o t.old) (sym none) (subst (BeginsBy seen made_for seconds r.peer r.octets) (sym same) fresh);
+          comes_to = subst (λ o. ComesTo seen made_for limits r.peer r.octets o t.old) (sym none) (subst (BeginsBy seen made_for limits r.peer r.octets) (sym same) fresh);
           new = t.new;
           answer = t.answer;
           takes = t.takes;

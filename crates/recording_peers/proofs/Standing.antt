@@ -4,6 +4,7 @@ use Rattle.std.specs.Prelude.{unwrap_or}
 use Rattle.std.specs.declared.net.socket_addr.SocketAddr.{SocketAddr}
 use Rattle.recording_files.specs.declared.record_fault.RecordFault.{RecordFault}
 use Rattle.recording_files.specs.Files.{FilesView}
+use Rattle.recording_peers.specs.declared.session_limits.SessionLimits.{SessionLimits}
 use Rattle.recording_peers.specs.declared.peer_state.PeerState.{PeerState}
 use Rattle.recording_peers.specs.declared.outcome.Became.{Became}
 use Rattle.recording_peers.specs.declared.outcome.Became.TheVariants.{Taken, Ended, NoPlace, NoMemory}
@@ -15,41 +16,41 @@ use Rattle.recording_peers.specs.Sessions.{PeerHappenings, happened_to, happened
 use Rattle.recording_peers.proofs.Paired.{paired_lookup, paired_first, paired_others, paired_gone}
 use Rattle.recording_peers.proofs.SessionSteps.{Laws, StandsBy, takes-stands}
 
-module _ {F : Type 0} (seen : F → FilesView) (made_for : F → SocketAddr → Type 0) (laws : Laws) (seconds most : ℕ) where
+module _ {F : Type 0} (seen : F → FilesView) (made_for : F → SocketAddr → Type 0) (laws : Laws) (limits : SessionLimits) (most : ℕ) where
   -- a session stands for this
   abbrev Stands : PeerState F → List Happening → Type 0
-  Stands k hs = IsSession seen k seconds hs
+  Stands k hs = IsSession seen k limits hs
 
-  came_to : (peer : SocketAddr) (m : List ℕ) (o : Option (PeerState F)) (q : Option (List Happening)) (old : PeerState F) → Both Stands o q → ComesTo seen made_for seconds peer m o old → IsSession seen old seconds (unwrap_or q [])
+  came_to : (peer : SocketAddr) (m : List ℕ) (o : Option (PeerState F)) (q : Option (List Happening)) (old : PeerState F) → Both Stands o q → ComesTo seen made_for limits peer m o old → IsSession seen old limits (unwrap_or q [])
   came_to peer m None None old b c = c.begins.session
   came_to peer m None (Some hs) old b c = absurd b
   came_to peer m (Some k) None old b c = absurd b
-  came_to peer m (Some k) (Some hs) old b c = subst (λ x. IsSession seen x seconds hs) (sym c) b
+  came_to peer m (Some k) (Some hs) old b c = subst (λ x. IsSession seen x limits hs) (sym c) b
 
-  went : (r : Reception F) (es : List (SocketAddr × PeerState F)) (cs : PeerHappenings) → StandFor seen seconds es cs → r.gone ≡ gone_for most r.peer es → EvictedStands seen seconds r.gone (gone_for most r.peer cs)
-  went r es cs p e = subst (λ g. EvictedStands seen seconds g (gone_for most r.peer cs)) (sym e) (paired_gone Stands most r.peer es cs p)
+  went : (r : Reception F) (es : List (SocketAddr × PeerState F)) (cs : PeerHappenings) → StandFor seen limits es cs → r.gone ≡ gone_for most r.peer es → EvictedStands seen limits r.gone (gone_for most r.peer cs)
+  went r es cs p e = subst (λ g. EvictedStands seen limits g (gone_for most r.peer cs)) (sym e) (paired_gone Stands most r.peer es cs p)
 
   -- by the answer of its session
-  by_answer : (r : Reception F) (es after : List (SocketAddr × PeerState F)) (cs : PeerHappenings) (answer : Result (Unit {0}) RecordFault) (new : PeerState F) → StandFor seen seconds es cs
-      → StandsBy seen laws seconds answer new (happened_with r.peer cs (came_in r)) → after ≡ kept_by answer most r.peer new es → EvictedStands seen seconds r.gone (gone_for most r.peer cs) → StandBy seen seconds (became_by answer new) most r after cs
+  by_answer : (r : Reception F) (es after : List (SocketAddr × PeerState F)) (cs : PeerHappenings) (answer : Result (Unit {0}) RecordFault) (new : PeerState F) → StandFor seen limits es cs
+      → StandsBy seen laws limits answer new (happened_with r.peer cs (came_in r)) → after ≡ kept_by answer most r.peer new es → EvictedStands seen limits r.gone (gone_for most r.peer cs) → StandBy seen limits (became_by answer new) most r after cs
   by_answer r es after cs (Ok x) new p s e g =
-      (subst (λ l. StandFor seen seconds l (with_happening most cs r.peer (came_in r))) (sym e) (paired_first Stands most r.peer es cs new (happened_with r.peer cs (came_in r)) p s), g)
+      (subst (λ l. StandFor seen limits l (with_happening most cs r.peer (came_in r))) (sym e) (paired_first Stands most r.peer es cs new (happened_with r.peer cs (came_in r)) p s), g)
   by_answer r es after cs (Err fault) new p s e g =
-      (subst (λ l. StandFor seen seconds l (others_for most r.peer cs)) (sym e) (paired_others Stands most r.peer es cs p), g, s)
+      (subst (λ l. StandFor seen limits l (others_for most r.peer cs)) (sym e) (paired_others Stands most r.peer es cs p), g, s)
 
-  took : (r : Reception F) (es after : List (SocketAddr × PeerState F)) (cs : PeerHappenings) → StandFor seen seconds es cs → TakesIn seen made_for seconds most r es after → StandAfter seen seconds most r after cs
+  took : (r : Reception F) (es after : List (SocketAddr × PeerState F)) (cs : PeerHappenings) → StandFor seen limits es cs → TakesIn seen made_for limits most r es after → StandAfter seen limits most r after cs
   took r es after cs p t =
       let old = came_to r.peer r.octets (of_peer r.peer es) (of_peer r.peer cs) t.old (paired_lookup Stands (same_peer r.peer) es cs p) t.comes_to in
-      let s = takes-stands seen laws seconds t.old t.new (happened_to r.peer cs) r.octets r.second t.answer old t.takes in
-      subst (λ b. StandBy seen seconds b most r after cs) (sym t.became) (by_answer r es after cs t.answer t.new p s t.others (went r es cs p t.went))
+      let s = takes-stands seen laws limits t.old t.new (happened_to r.peer cs) r.octets r.second t.answer old t.takes in
+      subst (λ b. StandBy seen limits b most r after cs) (sym t.became) (by_answer r es after cs t.answer t.new p s t.others (went r es cs p t.went))
 
-  by_became : (b : Became F) (r : Reception F) (es after : List (SocketAddr × PeerState F)) (cs : PeerHappenings) → r.became ≡ b → StandFor seen seconds es cs → RecordsBy seen made_for seconds b most r es after → StandAfter seen seconds most r after cs
+  by_became : (b : Became F) (r : Reception F) (es after : List (SocketAddr × PeerState F)) (cs : PeerHappenings) → r.became ≡ b → StandFor seen limits es cs → RecordsBy seen made_for limits b most r es after → StandAfter seen limits most r after cs
   by_became Taken r es after cs is p t = took r es after cs p t
   by_became (Ended k) r es after cs is p t = took r es after cs p t
   by_became NoPlace r es after cs is p t =
-      subst (λ b. StandBy seen seconds b most r after cs) (sym is) (subst (λ l. StandFor seen seconds l cs) (sym t.nothing.same) p, t.nothing.none_went)
+      subst (λ b. StandBy seen limits b most r after cs) (sym is) (subst (λ l. StandFor seen limits l cs) (sym t.nothing.same) p, t.nothing.none_went)
   by_became NoMemory r es after cs is p t =
-      subst (λ b. StandBy seen seconds b most r after cs) (sym is) (subst (λ l. StandFor seen seconds l cs) (sym t.same) p, t.none_went)
+      subst (λ b. StandBy seen limits b most r after cs) (sym is) (subst (λ l. StandFor seen limits l cs) (sym t.same) p, t.none_went)
 
-  pub stand_after : (r : Reception F) (es after : List (SocketAddr × PeerState F)) (cs : PeerHappenings) → StandFor seen seconds es cs → Records seen made_for seconds most r es after → StandAfter seen seconds most r after cs
+  pub stand_after : (r : Reception F) (es after : List (SocketAddr × PeerState F)) (cs : PeerHappenings) → StandFor seen limits es cs → Records seen made_for limits most r es after → StandAfter seen limits most r after cs
   stand_after r es after cs p t = by_became r.became r es after cs refl p t

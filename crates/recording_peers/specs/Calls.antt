@@ -16,6 +16,8 @@ use Rattle.recording_peer.specs.Recording.{FiledDatagrams, file_finished}
 use Rattle.recording_peer.specs.declared.resumption.Resumption.{Resumption}
 use Rattle.recording_peers.specs.declared.peer_state.PeerState.{PeerState}
 use Rattle.recording_peers.specs.declared.refusals.Refusals.{Refusals}
+use Rattle.recording_peers.specs.declared.refusals.DatagramFault.{DatagramFault}
+use Rattle.recording_peers.specs.declared.refusals.DatagramFault.TheVariants.{Message as OfMessage}
 use Rattle.recording_peers.specs.declared.turn.Turn.{Turn}
 use Rattle.recording_peers.specs.Happenings.{datagrams_of}
 use Rattle.recording_peers.specs.Kept.{Said, WasRecorded, WasRefused, WasIgnored, ignored_after, SaidSo, Recording, HasRecorded, HasFailed}
@@ -27,7 +29,7 @@ abbrev pub untold : Option Refusals → ℕ
 untold None = 0
 untold (Some r) = r.count
 
-abbrev pub one_more_refused : Option Refusals → MessageFault → Refusals
+abbrev pub one_more_refused : Option Refusals → DatagramFault → Refusals
 one_more_refused r fault = record { count = one_more (untold r); last = fault }
 
 abbrev pub refused_after : List Said → Option Refusals → Option Refusals
@@ -59,7 +61,7 @@ filed_then false filed more said = filed_more filed more said
 filed_then true filed more said = file_finished (filed_more filed more said)
 
 abbrev pub recorded_then : Bool → Recording → List Taken → List Said → Recording
-recorded_then finishes p more said = record { first = p.first; filed = filed_then finishes p.filed more said; said = p.said ++ said }
+recorded_then finishes p more said = record { budget = p.budget; first = p.first; filed = filed_then finishes p.filed more said; said = p.said ++ said }
 
 -- ---- the counts of domains
 
@@ -102,7 +104,7 @@ module _ {F : Type 0} (seen : F → FilesView) where
   -- one that has a header takes its place; any other is refused, and nothing else changes
   abbrev pub TakesBy : Result Header MessageFault → PeerState F → PeerState F → List ℕ → ℕ → Result (Unit {0}) RecordFault → Type 0
   TakesBy (Ok h) old new m second answer = Follows (arriving (record { header = h; second = second; octets = m })) false old new answer
-  TakesBy (Err fault) old new m second answer = (answer ≡ Ok tt) × (new ≡ record old { refused = Some (one_more_refused old.refused fault) })
+  TakesBy (Err fault) old new m second answer = (answer ≡ Ok tt) × (new ≡ record old { refused = Some (one_more_refused old.refused (OfMessage fault)) })
 
   abbrev pub Takes : PeerState F → PeerState F → List ℕ → ℕ → Result (Unit {0}) RecordFault → Type 0
   Takes old new m second answer = TakesBy (message_header m) (record old { heard = second }) new m second answer

@@ -1,23 +1,28 @@
 -- A session of a peer, and what it stands for (RFC 7011, sections 8.4 and 10.3).
-use Rattle.std.specs.Prelude.{◌≡◌, ℕ, true, List, [], ◌∷◌, ◌++◌, length, slice_get, Option, Some, None, unwrap_or}
+use Rattle.std.specs.Prelude.{◌≡◌, ◌==◌, ◌&&◌, ◌||◌, ℕ, true, if◌then◌else◌, List, [], ◌∷◌, ◌++◌, length, slice_get, Option, Some, None, Ok, unwrap_or}
+use Rattle.std.specs.List.{list_any}
 use Rattle.std.specs.Option.{option_to_list}
 use Rattle.std.specs.BTreeMap.{BTreeMap}
 use Rattle.ipfix_message.specs.Domains.{Message, message_header}
 use Rattle.ipfix_message.specs.declared.fault.MessageFault.{MessageFault}
+use Rattle.ipfix_wire.specs.declared.header.Header.{Header}
+use Rattle.recording_peers.specs.declared.refusals.DatagramFault.{DatagramFault}
+use Rattle.recording_peers.specs.declared.refusals.DatagramFault.TheVariants.{Message as OfMessage, TooManyFields}
 use Rattle.ipfix_session.specs.Given.{IsPrefix}
 use Rattle.ipfix_session.specs.Ledger.{count_in}
 use Rattle.recording_files.specs.declared.record_fault.RecordFault.{RecordFault}
 use Rattle.recording_files.specs.declared.message_count.MessageCount.{MessageCount}
 use Rattle.recording_files.specs.Files.{FilesView, IsEmpty}
-use Rattle.ipfix_datagrams.specs.Datagrams.{IsRefused, withdraws_only}
+use Rattle.ipfix_datagrams.specs.Datagrams.{Basis, IsRefused, IsTooMuch, barred_after, withdraws_only}
 use Rattle.recording_order.specs.Alike.{SameButCounts}
 use Rattle.recording_order.specs.Arrivals.{Arrival}
 use Rattle.recording_order.specs.Releases.{Says, Agree, run, released}
 use Rattle.recording_order.specs.declared.datagram_counts.DatagramCounts.{DatagramCounts}
 use Rattle.recording_resumption.specs.declared.earlier_domain.EarlierDomain.{EarlierDomain}
-use Rattle.recording_peer.specs.Peers.{Taken, known_after_all, resumed_at}
-use Rattle.recording_peer.specs.Recording.{FiledDatagrams, IsPeer, HasStopped, taken_in, ignored_in}
+use Rattle.recording_peer.specs.Peers.{Taken, basis_with, known_after_all, resumed_at}
+use Rattle.recording_peer.specs.Recording.{barred_for, barred_shown, FiledDatagrams, IsPeer, HasStopped, taken_in, ignored_in}
 use Rattle.recording_peers.specs.declared.peer_state.PeerState.{PeerState}
+use Rattle.recording_peers.specs.declared.session_limits.SessionLimits.{SessionLimits}
 use Rattle.recording_peers.specs.Happenings.{Happening, events_of, datagrams_of}
 
 -- ---- what the recorder said
@@ -27,7 +32,7 @@ pub data Said : Type 0 where
   -- it was recorded, with so many data records and unknown sets
   WasRecorded : DatagramCounts → Said
   -- it was refused
-  WasRefused : MessageFault → Said
+  WasRefused : DatagramFault → Said
   -- this one was ignored
   WasIgnored : List ℕ → Said
 
@@ -62,35 +67,67 @@ pub record HasCounts (c : DatagramCounts) (m : Message) : Type 0 where
   pub records : c.records ≡ count_in m
   pub unknown_sets : c.unknown_sets ≡ m.decoding.passed_over.unknown_sets
 
--- each of these, one after another, was taken, with these counts, or refused, or ignored, after those that were taken before it and
--- what an earlier run left; then all these were taken
-abbrev pub Settles : BTreeMap ℕ EarlierDomain → List Taken → List (List ℕ) → List Said → List Taken → Type 0
-Settles left before [] [] all = all ≡ before
-Settles left before [] (s ∷ said) all = ⊥
-Settles left before (m ∷ ms) [] all = ⊥
-Settles left before (m ∷ ms) (WasRecorded c ∷ said) all = (x : Taken) × (x.datagram ≡ m) × HasCounts c x.given × Settles left (before ++ x ∷ []) ms said all
-Settles left before (m ∷ ms) (WasRefused fault ∷ said) all =
-    IsRefused (resumed_at left before (message_header m)).templates (known_after_all before) m fault × Settles left before ms said all
-Settles left before (m ∷ ms) (WasIgnored d ∷ said) all = (d ≡ m) × (withdraws_only m ≡ true) × Settles left before ms said all
+-- the ids of each domain that have no template
+abbrev pub Barred : Type 0
+Barred = ℕ → List ℕ
 
--- of a session: what was seen of its files at first, the datagrams that stand in them, and what was said of each that was handed on
+-- what is known before a datagram beside the files
+abbrev pub basis_at : BTreeMap ℕ EarlierDomain → List Taken → Barred → List ℕ → Basis
+basis_at left before barred m = basis_with (resumed_at left before (message_header m)) (barred_for barred (message_header m))
+
+-- a datagram was taken where these ids had no template: those that it defines have one then
+pub record HasAgain (old next : Barred) (x : Taken) : Type 0 where
+  pub barred : x.barred ≡ old x.given.header.domain
+  pub again : (domain : ℕ) → next domain ≡ (if domain == x.given.header.domain then barred_after x.barred x.datagram else old domain)
+
+-- one was refused for what it defines: those for which it would have changed what is known have none from then on
+pub record WasTooMuch (budget : ℕ) (left : BTreeMap ℕ EarlierDomain) (before : List Taken) (old next : Barred) (m : List ℕ) : Type 0 where
+  pub header : Header
+  pub is_header : message_header m ≡ Ok header
+  pub ids : List ℕ
+  pub too_much : IsTooMuch (basis_at left before old m) budget (known_after_all before) m ids
+  pub barred : (domain id : ℕ) → list_any (λ b. b == id) (next domain) ≡ (list_any (λ b. b == id) (old domain) || ((domain == header.domain) && list_any (λ b. b == id) ids))
+
+-- each of these, one after another, was taken, with these counts, or refused, or ignored, after those that were taken before it and
+-- what an earlier run left, where these ids have no template; then all these were taken, and these ids have none
+abbrev pub Settles : ℕ → BTreeMap ℕ EarlierDomain → List Taken → Barred → List (List ℕ) → List Said → List Taken → Barred → Type 0
+Settles budget left before old [] [] all now = (all ≡ before) × (now ≡ old)
+Settles budget left before old [] (s ∷ said) all now = ⊥
+Settles budget left before old (m ∷ ms) [] all now = ⊥
+Settles budget left before old (m ∷ ms) (WasRecorded c ∷ said) all now =
+    (x : Taken) × (next : Barred) × (x.datagram ≡ m) × HasCounts c x.given × HasAgain old next x × Settles budget left (before ++ x ∷ []) next ms said all now
+Settles budget left before old (m ∷ ms) (WasRefused (OfMessage fault) ∷ said) all now =
+    IsRefused (basis_at left before old m) (known_after_all before) m fault × Settles budget left before old ms said all now
+Settles budget left before old (m ∷ ms) (WasRefused TooManyFields ∷ said) all now = (next : Barred) × WasTooMuch budget left before old next m × Settles budget left before next ms said all now
+Settles budget left before old (m ∷ ms) (WasIgnored d ∷ said) all now = (d ≡ m) × (withdraws_only m ≡ true) × Settles budget left before old ms said all now
+
+-- of a session: the budget of its templates, what was seen of its files at first, the datagrams that stand in them, and what was said
+-- of each that was handed on
 pub record Recording : Type 0 where
+  pub budget : ℕ
   pub first : FilesView
   pub filed : FiledDatagrams
   pub said : List Said
 
--- so it was said of these datagrams, and those that were ignored are the ones that count beside the files
-pub record IsSettled (ms : List (List ℕ)) (p : Recording) : Type 0 where
-  pub taken : Settles p.filed.earlier [] ms p.said (taken_in p.filed)
+-- no id is without a template at first
+abbrev pub none_barred : Barred
+none_barred domain = []
+
+-- so it was said of these datagrams, and these ids have no template then; and those that were ignored are the ones that count beside the
+-- files
+pub record IsSettled (ms : List (List ℕ)) (p : Recording) (barred : Barred) : Type 0 where
+  pub taken : Settles p.budget p.filed.earlier [] none_barred ms p.said (taken_in p.filed) barred
   pub ignored : ignored_in p.filed ≡ ignored_after [] p.said
 
 module _ {F : Type 0} (seen : F → FilesView) (k : PeerState F) where
   -- the files and the recorder of a peer stand for these datagrams, which were handed on since the session began: each was recorded in
-  -- the files, in this order and as it came, or it was refused or ignored, and changed nothing there
+  -- the files, in this order and as it came, or it was refused or ignored, and changed nothing there. What is kept of the peer's templates
+  -- counts no more than the budget
   pub record HasRecorded (p : Recording) (ms : List (List ℕ)) : Type 0 where
     pub empty : IsEmpty p.first.contents
     pub is : IsPeer p.first (seen k.files) k.recorder p.filed
-    pub settles : IsSettled ms p
+    pub budget : k.recorder.known.budget ≡ p.budget
+    pub settles : IsSettled ms p (barred_shown k.recorder.known)
 
   -- the recorder ended with a fault, while the next datagram was taken, or a file was finished, or memory ran out. The files and the
   -- recorder have those that were handed on before; and these, and then the next one, are the first that are handed on
@@ -100,24 +137,27 @@ module _ {F : Type 0} (seen : F → FilesView) (k : PeerState F) where
     pub before : List (List ℕ)
     pub next : Option (List ℕ)
     pub stopped : HasStopped fault p.first (seen k.files) k.recorder.told p.filed (unwrap_or next [])
-    pub settles : IsSettled before p
+    pub barred : Barred
+    pub settles : IsSettled before p barred
     pub are_first : (says : Says) → SaidSo p.said says → IsPrefix (before ++ option_to_list next) (datagrams_of (handed_on says))
 
-  -- ---- a session, in which a datagram waits for so many seconds
+  -- ---- a session with these limits
 
-  module _ (seconds : ℕ) (happenings : List Happening) where
+  module _ (limits : SessionLimits) (happenings : List Happening) where
     -- it stands for what happened since it began: its files have those that are released by then of the datagrams that came
     pub record IsSession : Type 0 where
       pub recording : Recording
-      pub recorded : HasRecorded recording (datagrams_of (run (says_of recording.said) seconds (events_of happenings)).handed_on)
-      pub window : SameButCounts k.window (run (says_of recording.said) seconds (events_of happenings)).window
+      pub budget : recording.budget ≡ limits.templates
+      pub recorded : HasRecorded recording (datagrams_of (run (says_of recording.said) limits.reorder (events_of happenings)).handed_on)
+      pub window : SameButCounts k.window (run (says_of recording.said) limits.reorder (events_of happenings)).window
 
     -- it ended with a fault at the last of what happened
     pub record HasEnded : Type 0 where
       pub recording : Recording
+      pub budget : recording.budget ≡ limits.templates
       pub fault : RecordFault
-      pub failed : HasFailed fault recording (λ says. (run says seconds (events_of happenings)).handed_on)
+      pub failed : HasFailed fault recording (λ says. (run says limits.reorder (events_of happenings)).handed_on)
 
     -- none waits any more: its files have all that is released
     abbrev pub IsReleased : Recording → Type 0
-    IsReleased p = HasRecorded p (datagrams_of (released (says_of p.said) seconds (events_of happenings)))
+    IsReleased p = (p.budget ≡ limits.templates) × HasRecorded p (datagrams_of (released (says_of p.said) limits.reorder (events_of happenings)))

@@ -2,9 +2,11 @@
 pub mod Answers
 pub mod Scripts
 pub mod Happenings
+pub mod DatagramFaults
 pub mod Kept
 pub mod Calls
 pub mod Table
 pub mod Steps
 pub mod Sessions
+pub mod Standings
 pub mod Runs

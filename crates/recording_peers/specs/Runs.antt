@@ -4,16 +4,17 @@ use Rattle.std.specs.declared.net.socket_addr.SocketAddr.{SocketAddr}
 use Rattle.recording_files.specs.Files.{FilesView}
 use Rattle.recording_peers.specs.declared.outcome.Became.{Became}
 use Rattle.recording_peers.specs.declared.outcome.Became.TheVariants.{Taken, Ended, NoPlace, NoMemory}
+use Rattle.recording_peers.specs.declared.session_limits.SessionLimits.{SessionLimits}
 use Rattle.recording_peers.specs.Happenings.{Happening}
 use Rattle.recording_peers.specs.Table.{same_peer, of_peer, others_for}
 use Rattle.recording_peers.specs.Steps.{PeerSessions, Reception, Records}
 use Rattle.recording_peers.specs.Sessions.{PeerHappenings, came_in, with_happening}
 
 -- they were recorded one after another
-abbrev pub AreRecorded : {F : Type 0} → (F → FilesView) → (F → SocketAddr → Type 0) → ℕ → ℕ → List (Reception F) → PeerSessions F → PeerSessions F → Type 0
-AreRecorded seen made_for seconds most [] es after = after ≡ es
-AreRecorded {F} seen made_for seconds most (r ∷ rs) es after =
-    (between : PeerSessions F) × Records seen made_for seconds most r es between × AreRecorded seen made_for seconds most rs between after
+abbrev pub AreRecorded : {F : Type 0} → (F → FilesView) → (F → SocketAddr → Type 0) → SessionLimits → ℕ → List (Reception F) → PeerSessions F → PeerSessions F → Type 0
+AreRecorded seen made_for limits most [] es after = after ≡ es
+AreRecorded {F} seen made_for limits most (r ∷ rs) es after =
+    (between : PeerSessions F) × Records seen made_for limits most r es between × AreRecorded seen made_for limits most rs between after
 
 -- the peers that are kept then, each with what happened to it since its session began
 abbrev pub happened_by : {F : Type 0} → Became F → ℕ → Reception F → PeerHappenings → PeerHappenings

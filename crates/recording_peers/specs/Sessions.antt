@@ -3,6 +3,7 @@ use Rattle.std.specs.Prelude.{◌≡◌, ℕ, List, [], ◌∷◌, ◌++◌, Opt
 use Rattle.std.specs.declared.net.socket_addr.SocketAddr.{SocketAddr}
 use Rattle.lru.specs.LruCache.{last_entry}
 use Rattle.recording_files.specs.Files.{FilesView}
+use Rattle.recording_peers.specs.declared.session_limits.SessionLimits.{SessionLimits}
 use Rattle.recording_peers.specs.declared.peer_state.PeerState.{PeerState}
 use Rattle.recording_peers.specs.declared.outcome.Became.{Became}
 use Rattle.recording_peers.specs.declared.outcome.Became.TheVariants.{Taken, Ended, NoPlace, NoMemory}
@@ -31,20 +32,20 @@ with_happening most cs peer h = with_first most peer (happened_with peer cs h) c
 abbrev pub came_in : {F : Type 0} → Reception F → Happening
 came_in r = DatagramCame r.octets r.second
 
-module _ {F : Type 0} (seen : F → FilesView) (seconds : ℕ) where
+module _ {F : Type 0} (seen : F → FilesView) (limits : SessionLimits) where
   -- the session of each peer stands for its own
   abbrev pub StandFor : PeerSessions F → PeerHappenings → Type 0
-  StandFor es cs = Paired (λ k hs. IsSession seen k seconds hs) es cs
+  StandFor es cs = Paired (λ k hs. IsSession seen k limits hs) es cs
 
   -- and so does that of one that goes out
   abbrev pub EvictedStands : Option (SocketAddr × PeerState F) → Option (SocketAddr × List Happening) → Type 0
-  EvictedStands gone c = Both (Beside (λ k hs. IsSession seen k seconds hs)) gone c
+  EvictedStands gone c = Both (Beside (λ k hs. IsSession seen k limits hs)) gone c
 
   -- after a datagram of a peer
   abbrev pub StandBy : Became F → ℕ → Reception F → PeerSessions F → PeerHappenings → Type 0
   StandBy Taken most r after cs = StandFor after (with_happening most cs r.peer (came_in r)) × EvictedStands r.gone (gone_for most r.peer cs)
   StandBy (Ended k) most r after cs = StandFor after (others_for most r.peer cs) × EvictedStands r.gone (gone_for most r.peer cs)
-      × HasEnded seen k seconds (happened_with r.peer cs (came_in r))
+      × HasEnded seen k limits (happened_with r.peer cs (came_in r))
   StandBy NoPlace most r after cs = StandFor after cs × (r.gone ≡ None)
   StandBy NoMemory most r after cs = StandFor after cs × (r.gone ≡ None)
 
@@ -54,7 +55,7 @@ module _ {F : Type 0} (seen : F → FilesView) (seconds : ℕ) where
   -- after the turn of the last one, as a second began
   abbrev pub StandInTurn : ℕ → Option (PeerState F) → PeerSessions F → PeerHappenings → SocketAddr × List Happening → Type 0
   StandInTurn second None after cs c = StandFor after ((c.0, c.1 ++ SecondBegan second ∷ []) ∷ others_than_last cs)
-  StandInTurn second (Some k) after cs c = StandFor after (others_than_last cs) × HasEnded seen k seconds (c.1 ++ SecondBegan second ∷ [])
+  StandInTurn second (Some k) after cs c = StandFor after (others_than_last cs) × HasEnded seen k limits (c.1 ++ SecondBegan second ∷ [])
 
   pub record StandAfterTurn (second : ℕ) (t : InTurn F) (after : PeerSessions F) (cs : PeerHappenings) : Type 0 where
     pub last : SocketAddr × List Happening

@@ -12,6 +12,7 @@ use Rattle.recording_peers.specs.declared.peer_state.PeerState.{PeerState}
 use Rattle.recording_peers.specs.declared.outcome.Became.{Became}
 use Rattle.recording_peers.specs.declared.outcome.Became.TheVariants.{Taken, Ended, NoPlace, NoMemory}
 use Rattle.recording_peers.specs.declared.peers.Peers.{Peers}
+use Rattle.recording_peers.specs.declared.session_limits.SessionLimits.{SessionLimits}
 use Rattle.recording_peers.specs.declared.in_turn.InTurn.{InTurn}
 use Rattle.recording_peers.specs.declared.turn.Turn.{Turn}
 use Rattle.recording_peers.specs.Kept.{IsSession}
@@ -50,17 +51,17 @@ pub record TakesNothing {F : Type 0} (r : Reception F) (es after : PeerSessions 
 
 -- since the datagram doesn't begin one, by what an earlier run left of the peer; or since there is no room for one more, and none
 -- is made now
-abbrev pub WhyNoPlace : {F : Type 0} → ℕ → Reception F → PeerSessions F → Type 0
-WhyNoPlace most r es = ((left : BTreeMap ℕ EarlierDomain) × WhyNone (resumed_first left r.octets) r.octets) ⊎ (most ≤ length es)
+abbrev pub WhyNoPlace : {F : Type 0} → ℕ → ℕ → Reception F → PeerSessions F → Type 0
+WhyNoPlace budget most r es = ((left : BTreeMap ℕ EarlierDomain) × WhyNone budget (resumed_first left r.octets) r.octets) ⊎ (most ≤ length es)
 
-pub record FindsNoPlace {F : Type 0} (most : ℕ) (r : Reception F) (es after : PeerSessions F) : Type 0 where
+pub record FindsNoPlace {F : Type 0} (budget most : ℕ) (r : Reception F) (es after : PeerSessions F) : Type 0 where
   pub nothing : TakesNothing r es after
-  pub why : WhyNoPlace most r es
+  pub why : WhyNoPlace budget most r es
 
--- the room for peers, and for how many seconds a datagram waits, stay
+-- the room for peers, and the limits of their sessions, stay
 pub record KeepsLimits {F : Type 0} (old new : Peers F) : Type 0 where
   pub room : new.kept.cap ≡ old.kept.cap
-  pub reorder : new.reorder ≡ old.reorder
+  pub limits : new.limits ≡ old.limits
 
 -- the session of a peer that is kept took it; no other has changed
 pub record TakesKept {F : Type 0} (seen : F → FilesView) (most : ℕ) (r : Reception F) (es after : PeerSessions F) : Type 0 where
@@ -72,10 +73,10 @@ pub record TakesKept {F : Type 0} (seen : F → FilesView) (most : ℕ) (r : Rec
   pub became : r.became ≡ became_by answer new
   pub others : after ≡ kept_by answer most r.peer new es
 
-module _ {F : Type 0} (seen : F → FilesView) (made_for : F → SocketAddr → Type 0) (seconds : ℕ) where
+module _ {F : Type 0} (seen : F → FilesView) (made_for : F → SocketAddr → Type 0) (limits : SessionLimits) where
   -- a session that begins, with files that were made for its peer, and with what an earlier run left of the peer
   pub record Begins (peer : SocketAddr) (left : BTreeMap ℕ EarlierDomain) (k : PeerState F) : Type 0 where
-    pub session : IsSession seen k seconds []
+    pub session : IsSession seen k limits []
     pub made : made_for k.files peer
     pub earlier : k.recorder.earlier ≡ left_listed left.entries
     pub none_told : k.resumptions_told ≡ 0
@@ -84,7 +85,7 @@ module _ {F : Type 0} (seen : F → FilesView) (made_for : F → SocketAddr → 
   pub record BeginsBy (peer : SocketAddr) (m : List ℕ) (k : PeerState F) : Type 0 where
     pub left : BTreeMap ℕ EarlierDomain
     pub begins : Begins peer left k
-    pub by : BeginsPeer (resumed_first left m) m
+    pub by : BeginsPeer limits.templates (resumed_first left m) m
 
   -- a peer that isn't kept is first then, with a session that begins, and this one went for it; or there is no memory
   abbrev pub BeginsWith : {E : Type 0} → ℕ → SocketAddr → BTreeMap ℕ EarlierDomain → Result (Option (SocketAddr × PeerState F)) E → PeerSessions F → PeerSessions F → Type 0
@@ -108,7 +109,7 @@ module _ {F : Type 0} (seen : F → FilesView) (made_for : F → SocketAddr → 
     pub went : r.gone ≡ gone_for most r.peer es
 
   abbrev pub RecordsBy : Became F → ℕ → Reception F → PeerSessions F → PeerSessions F → Type 0
-  RecordsBy NoPlace most r es after = FindsNoPlace most r es after
+  RecordsBy NoPlace most r es after = FindsNoPlace limits.templates most r es after
   RecordsBy NoMemory most r es after = TakesNothing r es after
   RecordsBy Taken most r es after = TakesIn most r es after
   RecordsBy (Ended k) most r es after = TakesIn most r es after

@@ -5,7 +5,7 @@ ghost use Rattle.recording_peers.specs.Calls.{Follows, handed_on};
 ghost use Rattle.recording_peers.specs.Kept as specs;
 
 use crate::peer_state::PeerState;
-use crate::refusals::one_more;
+use crate::refusals::{DatagramFault, one_more};
 use ipfix_wire::Header;
 use recording_files::{FileSeries, MessageCount, RecordFault};
 use recording_order::{Datagram, DatagramCounts};
@@ -47,7 +47,12 @@ impl<F: FileSeries> PeerState<F> {
                 }
             }
             PeerAnswer::Refused(fault) => {
+                let fault = DatagramFault::Message(fault);
                 self.refused = Some(one_more(self.refused, fault));
+                Ok(())
+            }
+            PeerAnswer::TooMuch => {
+                self.refused = Some(one_more(self.refused, DatagramFault::TooManyFields));
                 Ok(())
             }
             PeerAnswer::Ignored => Ok(()),

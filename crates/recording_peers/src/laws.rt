@@ -1,18 +1,20 @@
 //! Laws of the definitions. Each is a function that does nothing, and its contract is the theorem: a
 //! call brings that to the proof of its caller.
 
-ghost use Rattle.std.specs.Prelude.{◌≡◌, ◌++◌, ℕ, Bool, List, [], Some, Ok, false};
+ghost use Rattle.std.specs.Prelude.{◌≡◌, ◌++◌, ℕ, Bool, List, Ok, false};
 ghost use Rattle.std.specs.declared.net.socket_addr.SocketAddr.{SocketAddr};
 ghost use Rattle.lru.specs.LruCache.{last_entry};
 ghost use Rattle.recording_order.specs.InOrder.{AreNext};
 ghost use Rattle.recording_order.specs.Releases.{finish, start};
 ghost use Rattle.recording_peers.specs.declared.peer_state.PeerState.{PeerState};
+ghost use Rattle.recording_peers.specs.declared.session_limits.SessionLimits.{SessionLimits};
 ghost use Rattle.recording_peers.specs.declared.in_turn.InTurn.{InTurn};
 ghost use Rattle.recording_peers.specs.Calls.{Follows};
 ghost use Rattle.recording_peers.specs.Happenings.{Happening, came_with_header, events_of};
 ghost use Rattle.recording_peers.specs.Kept.{HasRecorded, IsReleased, IsSession, Recording, says_of};
 ghost use Rattle.recording_peers.specs.Runs.{AreRecorded, IsNeverEvicted, happened_after, own_of};
-ghost use Rattle.recording_peers.specs.Sessions.{PeerHappenings, StandFor, StandAfter, StandAfterTurn, EvictedStands, happened_to};
+ghost use Rattle.recording_peers.specs.Sessions.{EvictedStands, PeerHappenings, StandAfter, StandAfterTurn, StandFor, happened_to};
+ghost use Rattle.recording_peers.specs.Standings.{Standing};
 ghost use Rattle.recording_peers.specs.Steps.{GoesOn, PeerSessions, Reception, Records};
 ghost use Rattle.recording_peers.specs.Table.{others_than_last};
 
@@ -28,10 +30,9 @@ use recording_order::laws::{
 /// first of a peer begins a session. The session of a peer that goes out still stands for its own; one that
 /// ended has those of its datagrams that were handed on before.
 pub fn sessions_stand_for_their_datagrams<F: FileSeries, P: PeerPlace<F>>()
-    ensures { (seconds most : ℕ) (r : Reception F)
-        (es after : PeerSessions F) (cs : PeerHappenings)
-        → StandFor F.seen seconds es cs → Records F.seen P.made_for seconds most r es after
-        → StandAfter F.seen seconds most r after cs }
+    ensures { (s : Standing F.seen) (most : ℕ) (r : Reception F) (after : PeerSessions F)
+        → Records F.seen P.made_for s.limits most r s.sessions after
+        → StandAfter F.seen s.limits most r after s.own }
 {
     only_what_was_handed_on_is_asked();
     counts_change_nothing();
@@ -41,10 +42,9 @@ pub fn sessions_stand_for_their_datagrams<F: FileSeries, P: PeerPlace<F>>()
 /// peer, and the last one's also for the second that began, whether its file was finished or not; and so
 /// does one that ended at that.
 pub fn sessions_stand_in_turn<F: FileSeries>()
-    ensures { (seconds second : ℕ) (is_over : Bool) (es after : PeerSessions F)
-        (cs : PeerHappenings) (t : InTurn F)
-        → StandFor F.seen seconds es cs → GoesOn F.seen second is_over es after t
-        → StandAfterTurn F.seen seconds second t after cs }
+    ensures { (s : Standing F.seen) (second : ℕ) (is_over : Bool) (after : PeerSessions F)
+        (t : InTurn F) → GoesOn F.seen second is_over s.sessions after t
+        → StandAfterTurn F.seen s.limits second t after s.own }
 {
     only_what_was_handed_on_is_asked();
     counts_change_nothing();
@@ -52,20 +52,18 @@ pub fn sessions_stand_in_turn<F: FileSeries>()
 
 /// The peer that was silent for longest stands for its own when it goes out, and the others for theirs.
 pub fn sessions_stand_without_the_last<F: FileSeries>()
-    ensures { (seconds : ℕ) (es : PeerSessions F) (cs : PeerHappenings)
-        → StandFor F.seen seconds es cs
-        → EvictedStands F.seen seconds (last_entry es) (last_entry cs)
-        × StandFor F.seen seconds (others_than_last es) (others_than_last cs) }
+    ensures { (s : Standing F.seen)
+        → EvictedStands F.seen s.limits (last_entry s.sessions) (last_entry s.own)
+        × StandFor F.seen s.limits (others_than_last s.sessions) (others_than_last s.own) }
 {}
 
 /// Over datagrams of any peers, one after another: the session of each peer that is kept then stands for the
 /// datagrams of that peer only, as many as came since it began. Where the peer's session didn't go out in
 /// between, these are all of its own in their order, whatever came from others.
 pub fn sessions_stand_for_their_own<F: FileSeries, P: PeerPlace<F>>()
-    ensures stand { (wait most : ℕ) (rs : List (Reception F)) (es after : PeerSessions F)
-        (cs : PeerHappenings) → StandFor F.seen wait es cs
-        → AreRecorded F.seen P.made_for wait most rs es after
-        → StandFor F.seen wait after (happened_after most rs cs) }
+    ensures stand { (s : Standing F.seen) (most : ℕ) (rs : List (Reception F)) (after : PeerSessions F)
+        → AreRecorded F.seen P.made_for s.limits most rs s.sessions after
+        → StandFor F.seen s.limits after (happened_after most rs s.own) }
     ensures own { (most : ℕ) (rs : List (Reception F)) (cs : PeerHappenings) (peer : SocketAddr)
         → IsNeverEvicted peer most rs cs
         → happened_to peer (happened_after most rs cs) ≡ happened_to peer cs ++ own_of peer rs }
@@ -78,14 +76,14 @@ pub fn sessions_stand_for_their_own<F: FileSeries, P: PeerPlace<F>>()
 /// what is released of the datagrams that came. Where none waits at all, or each came in its order, these are
 /// all that came, as they came.
 pub fn files_have_what_is_released<F: FileSeries>()
-    ensures released { (old new : PeerState F) (seconds : ℕ) (hs : List Happening)
-        → IsSession F.seen old seconds hs → Follows F.seen finish false old new (Ok tt)
-        → (p : Recording) × IsReleased F.seen new seconds hs p }
-    ensures off { (k : PeerState F) (hs : List Happening) (p : Recording)
-        → IsReleased F.seen k 0 hs p → HasRecorded F.seen k p (came_with_header hs) }
-    ensures in_order { (k : PeerState F) (seconds : ℕ) (hs : List Happening) (p : Recording)
-        → AreNext (says_of p.said) (start seconds) (events_of hs)
-        → IsReleased F.seen k seconds hs p → HasRecorded F.seen k p (came_with_header hs) }
+    ensures released { (old new : PeerState F) (limits : SessionLimits) (hs : List Happening)
+        → IsSession F.seen old limits hs → Follows F.seen finish false old new (Ok tt)
+        → (p : Recording) × IsReleased F.seen new limits hs p }
+    ensures off { (k : PeerState F) (limits : SessionLimits) (hs : List Happening) (p : Recording)
+        → limits.reorder ≡ 0 → IsReleased F.seen k limits hs p → HasRecorded F.seen k p (came_with_header hs) }
+    ensures in_order { (k : PeerState F) (limits : SessionLimits) (hs : List Happening) (p : Recording)
+        → AreNext (says_of p.said) (start limits.reorder) (events_of hs)
+        → IsReleased F.seen k limits hs p → HasRecorded F.seen k p (came_with_header hs) }
 {
     only_what_was_handed_on_is_asked();
     counts_change_nothing();

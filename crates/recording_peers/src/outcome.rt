@@ -14,7 +14,7 @@ pub enum Became<F> {
     /// Its peer isn't kept, and it doesn't begin a session ([`begins_peer`](recording_peer::begins_peer)): it leaves no
     /// template in force. Or there is no room for one more, and the place is too busy to end another. Nothing has changed.
     NoPlace,
-    /// There was no memory to begin a session of its peer, and nothing has changed.
+    /// There was no memory to read it, or to begin a session of its peer, and nothing has changed.
     NoMemory,
 }
 

@@ -6,7 +6,8 @@ ghost use Rattle.recording_peer.specs.Recording.{left_listed};
 ghost use Rattle.recording_peers.specs.Calls.{Takes, TakesTurn};
 ghost use Rattle.recording_peers.specs.Kept.{IsSession};
 
-use crate::refusals::{Refusals, one_more};
+use crate::refusals::{DatagramFault, Refusals, one_more};
+use crate::session_limits::SessionLimits;
 use crate::turn::Turn;
 use ipfix_message::header_of;
 use recording_files::{FileSeries, RecordFault};
@@ -34,20 +35,25 @@ pub struct PeerState<F> {
 
 impl<F: FileSeries> PeerState<F> {
     /// The session of a peer of which nothing has come, with files in which nothing stands, and with what an earlier run
-    /// left of the peer's domains, at a time in seconds. A datagram that is ahead of the due sequence number waits for so many seconds (`reorder`);
-    /// with 0 none waits, and none is dropped.
-    pub fn new(alloc: Global, files: F, earlier: EarlierDomains, reorder: u64, now: u64) -> Self
+    /// left of the peer's domains, and with the limits of sessions, at a time in seconds.
+    pub fn new(
+        alloc: Global,
+        files: F,
+        earlier: EarlierDomains,
+        limits: SessionLimits,
+        now: u64,
+    ) -> Self
         requires { IsEmpty (F.seen files).contents }
-        ensures session { IsSession F.seen result reorder [] }
+        ensures session { IsSession F.seen result limits [] }
         ensures heard { result.heard ≡ now }
         ensures files { result.files ≡ files }
         ensures none_told { result.resumptions_told ≡ 0 }
         ensures earlier { result.recorder.earlier ≡ left_listed earlier.entries }
     {
         PeerState {
-            recorder: PeerRecorder::new(alloc, earlier),
+            recorder: PeerRecorder::new(alloc, earlier, limits.templates),
             files,
-            window: Window::new(alloc, reorder),
+            window: Window::new(alloc, limits.reorder),
             heard: now,
             refused: None,
             resumptions_told: 0,
@@ -68,6 +74,7 @@ impl<F: FileSeries> PeerState<F> {
         match header_of(datagram) {
             Ok(header) => self.take_in_order(alloc, &header, datagram, second),
             Err(fault) => {
+                let fault = DatagramFault::Message(fault);
                 self.refused = Some(one_more(self.refused, fault));
                 Ok(())
             }

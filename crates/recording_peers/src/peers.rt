@@ -10,6 +10,7 @@ use crate::in_turn::InTurn;
 use crate::outcome::Outcome;
 use crate::peer_place::PeerPlace;
 use crate::peer_state::PeerState;
+use crate::session_limits::SessionLimits;
 use crate::turn::Turn;
 use lru::LruCache;
 use recording_files::FileSeries;
@@ -23,25 +24,24 @@ use std::num::NonZeroUsize;
 pub struct Peers<F> {
     /// The session of each, under its address and port.
     pub kept: LruCache<SocketAddr, PeerState<F>, RandomState>,
-    /// For how many seconds a datagram that is ahead of the due sequence number waits.
-    pub reorder: u64,
+    /// The limits of each session.
+    pub limits: SessionLimits,
 }
 
 impl<F: FileSeries + Drop> Peers<F> {
-    /// No peers, and room for `most`. In each session a datagram that is ahead of the due sequence number
-    /// waits for so many seconds (`reorder`); with 0 each is recorded as it comes. The addresses are hashed
-    /// with random keys, since anybody may choose them.
+    /// No peers, and room for `most`, each with a session of these limits. The addresses are hashed with random keys, since
+    /// anybody may choose them.
     pub fn new(
         alloc: Global,
         most: NonZeroUsize,
         keys: RandomState,
-        reorder: u64,
+        limits: SessionLimits,
     ) -> Result<Self, AllocError>
         ensures kept { IfOk result (λ peers. peers.kept ≡ lru_cache [] (non_zero_usize_get most)) }
-        ensures reorder { IfOk result (λ peers. peers.reorder ≡ reorder) }
+        ensures limits { IfOk result (λ peers. peers.limits ≡ limits) }
     {
         let kept = LruCache::with_hasher(alloc, most, keys)?;
-        Ok(Peers { kept, reorder })
+        Ok(Peers { kept, limits })
     }
 
     /// How many are kept.
@@ -69,7 +69,7 @@ impl<F: FileSeries + Drop> Peers<F> {
         datagram: &[u8],
         second: u64,
     ) -> Outcome<F>
-        ensures records { Records F.seen P.made_for self.old.reorder self.old.kept.cap
+        ensures records { Records F.seen P.made_for self.old.limits self.old.kept.cap
             (record {
               peer = peer;
               octets = datagram.now;

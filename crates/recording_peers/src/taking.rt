@@ -1,6 +1,7 @@
 //! Taking the datagrams of peers.
 
 ghost use Rattle.std.specs.Prelude.{◌≡◌, ◌≤◌, Some, None, IfSome, IsTrue, length};
+ghost use Rattle.recording_peer.specs.Beginnings.{BeginsPeer, resumed_first};
 ghost use Rattle.recording_peers.specs.Table.{of_peer};
 ghost use Rattle.recording_peers.specs.Steps.{BeginsWith, KeepsLimits, Records, TakesKept};
 
@@ -32,7 +33,7 @@ impl<F: FileSeries + Drop> Peers<F> {
         second: u64,
     ) -> Outcome<F>
         requires { of_peer peer self.old.kept.entries ≡ None }
-        ensures records { Records F.seen P.made_for self.old.reorder self.old.kept.cap
+        ensures records { Records F.seen P.made_for self.old.limits self.old.kept.cap
             (record {
               peer = peer;
               octets = datagram.now;
@@ -50,13 +51,49 @@ impl<F: FileSeries + Drop> Peers<F> {
             };
         }
         let earlier = place.earlier(alloc, peer);
-        if !begins_peer(alloc, &earlier, datagram) {
-            place.give_back(alloc, peer, earlier);
-            return Outcome {
-                became: Became::NoPlace,
-                gone: None,
-            };
+        match begins_peer(alloc, self.limits.templates, &earlier, datagram) {
+            Ok(true) => self.record_begun(alloc, place, peer, earlier, datagram, second),
+            Ok(false) => {
+                place.give_back(alloc, peer, earlier);
+                Outcome {
+                    became: Became::NoPlace,
+                    gone: None,
+                }
+            }
+            Err(_) => {
+                place.give_back(alloc, peer, earlier);
+                Outcome {
+                    became: Became::NoMemory,
+                    gone: None,
+                }
+            }
         }
+    }
+
+    // Records a datagram that begins the session of its peer, of which an earlier run left this.
+    fn record_begun<P: PeerPlace<F>>(
+        &mut self,
+        alloc: Global,
+        place: &mut P,
+        peer: SocketAddr,
+        earlier: EarlierDomains,
+        datagram: &[u8],
+        second: u64,
+    ) -> Outcome<F>
+        requires new { of_peer peer self.old.kept.entries ≡ None }
+        requires begins { BeginsPeer self.old.limits.templates
+            (resumed_first earlier datagram.now) datagram.now }
+        ensures records { Records F.seen P.made_for self.old.limits self.old.kept.cap
+            (record {
+              peer = peer;
+              octets = datagram.now;
+              second = second;
+              became = result.became;
+              gone = result.gone;
+            })
+            self.old.kept.entries self.new.kept.entries }
+        ensures limits { KeepsLimits self.old self.new }
+    {
         match self.begin(alloc, place, peer, earlier, second) {
             Ok(gone) => match self.take(alloc, peer, datagram, second) {
                 Some(became) => Outcome { became, gone },
@@ -82,12 +119,12 @@ impl<F: FileSeries + Drop> Peers<F> {
         second: u64,
     ) -> Result<Option<(SocketAddr, PeerState<F>)>, AllocError>
         requires { of_peer peer self.old.kept.entries ≡ None }
-        ensures begun { BeginsWith F.seen P.made_for self.old.reorder self.old.kept.cap peer earlier
+        ensures begun { BeginsWith F.seen P.made_for self.old.limits self.old.kept.cap peer earlier
             result self.old.kept.entries self.new.kept.entries }
         ensures limits { KeepsLimits self.old self.new }
     {
         let files = place.files(alloc, peer)?;
-        let session = PeerState::new(alloc, files, earlier, self.reorder, second);
+        let session = PeerState::new(alloc, files, earlier, self.limits, second);
         match self.kept.push(peer, session) {
             Ok(gone) => Ok(gone),
             Err(_) => Err(AllocError),

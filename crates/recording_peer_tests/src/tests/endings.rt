@@ -91,6 +91,7 @@ fn recording_survives_refused_memory(rt: HostRuntime) -> Result<(), Fail> {
             Ok(Answer::Refused(fault)) => {
                 assert_eq!(rt; fault, MessageFault::OutOfMemory);
             }
+            Ok(Answer::TooMuch) => assert!(rt; false, "too much"),
             Ok(Answer::Ignored) => assert!(rt; false, "ignored"),
             // (files in memory are not written if they find none)
             Err(fault) => {

@@ -2,14 +2,15 @@
 
 use super::datagrams::*;
 use super::running::{files_of, told_by};
-use super::told::{Answer, end, is_recorded, new_peer, take};
+use super::told::{Answer, Count, end, is_recorded, new_peer, take};
 use ipfix_message::MessageFault;
 use recording_files::MemoryFiles;
 use recording_peer::PeerRecorder;
 use std::alloc::Global;
+use std::collections::BTreeMap;
 use std::test::*;
 use worked_examples::faults::VERSION_9;
-use worked_examples::flows::CUT_FLOW;
+use worked_examples::flows::{CUT_FLOW, NEXT_FLOW, ONE_FLOW};
 use worked_examples::templates::{CHANGED_TEMPLATE, ZERO_LENGTH_TEMPLATE};
 
 // Whether a datagram of version 9, one that is cut, and others with faults are each refused with its fault.
@@ -58,5 +59,43 @@ fn refused_datagrams_change_nothing(rt: HostRuntime) -> Result<(), Fail> {
     assert!(rt; are_same(&files, &files_of(&rt, alloc, &DATAGRAMS, 100)));
     assert_eq!(rt; told_by(&rt, alloc, &files)?.as_slice(), TOLD);
     assert_eq!(rt; end(peer).messages, 6);
+    Ok(())
+}
+
+// Template 300 with the port, and template 256 with the count alone.
+const DEFINES_300_AND_CHANGES_256: &[u8] = &[
+    // header: 36 octets, sequence 1, domain 1
+    0x00, 0x0a, 0x00, 0x24, 0x65, 0x53, 0xf1, 0x00, 0x00, 0x00, 0x00, 0x01, 0x00, 0x00, 0x00, 0x01,
+    // template set: template 300 with the port in 2 octets, and template 256 with the count in 4
+    0x00, 0x02, 0x00, 0x14, 0x01, 0x2c, 0x00, 0x01, 0x00, 0x07, 0x00, 0x02, 0x01, 0x00, 0x00, 0x01,
+    0x00, 0x01, 0x00, 0x04,
+];
+
+// A domain with a template of four fields counts 28. What has no room changes a template: that is known no more.
+#[test]
+fn a_template_without_room_is_known_no_more(rt: HostRuntime) -> Result<(), Fail> {
+    let alloc: Global = rt.alloc();
+    let mut peer = PeerRecorder::new(alloc, BTreeMap::new(alloc), 28);
+    let mut files = MemoryFiles::new(alloc, 100_000);
+    assert!(rt; is_recorded(take(alloc, &mut peer, ONE_FLOW, &mut files)));
+    let answer = take(alloc, &mut peer, DEFINES_300_AND_CHANGES_256, &mut files);
+    assert!(rt; answer == Ok(Answer::TooMuch));
+    let unknown = Count {
+        sequence: 1,
+        records: 0,
+        unknown_sets: 1,
+    };
+    for _time in 0..2 {
+        let answer = take(alloc, &mut peer, NEXT_FLOW, &mut files);
+        assert!(rt; answer == Ok(Answer::Recorded(unknown)));
+    }
+    assert!(rt; is_recorded(take(alloc, &mut peer, ONE_FLOW, &mut files)));
+    let answer = take(alloc, &mut peer, NEXT_FLOW, &mut files);
+    let known = Count {
+        sequence: 1,
+        records: 1,
+        unknown_sets: 0,
+    };
+    assert!(rt; answer == Ok(Answer::Recorded(known)));
     Ok(())
 }

@@ -19,9 +19,12 @@ pub struct Told {
     pub domains: usize,
 }
 
+/// What the templates of a peer may count, where that isn't tested.
+pub const BUDGET: u64 = 16_384;
+
 /// A peer of which nothing has come.
 pub fn new_peer(alloc: Global) -> PeerRecorder {
-    PeerRecorder::new(alloc, BTreeMap::new(alloc))
+    PeerRecorder::new(alloc, BTreeMap::new(alloc), BUDGET)
 }
 
 /// What was answered of a datagram.
@@ -29,6 +32,7 @@ pub fn new_peer(alloc: Global) -> PeerRecorder {
 pub enum Answer {
     Recorded(Count),
     Refused(MessageFault),
+    TooMuch,
     Ignored,
 }
 
@@ -54,6 +58,7 @@ pub fn take(
             unknown_sets: count.passed_over.unknown_sets,
         })),
         Ok(PeerAnswer::Refused(fault)) => Ok(Answer::Refused(fault)),
+        Ok(PeerAnswer::TooMuch) => Ok(Answer::TooMuch),
         Ok(PeerAnswer::Ignored) => Ok(Answer::Ignored),
         Err(fault) => Err(fault),
     }

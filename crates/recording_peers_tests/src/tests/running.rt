@@ -3,7 +3,7 @@
 use recording_files::MemoryFiles;
 use recording_peers::{
     Became, Datagram, DatagramSource, Outcome, PeerPlace, PeerState, Peers, ScriptDatagrams,
-    ScriptedDatagram,
+    ScriptedDatagram, SessionLimits,
 };
 use recording_resumption::EarlierDomains;
 use std::alloc::{AllocError, Global};
@@ -66,7 +66,11 @@ pub fn two_peers(rt: &HostRuntime) -> Result<Peers<MemoryFiles>, Fail> {
 /// No peers yet, and room for two, whose datagrams wait for so many seconds.
 pub fn peers_that_wait(rt: &HostRuntime, seconds: u64) -> Result<Peers<MemoryFiles>, Fail> {
     let most = NonZeroUsize::new(2).unwrap();
-    Ok(Peers::new(rt.alloc(), most, RandomState::new(rt)?, seconds)?)
+    let limits = SessionLimits {
+        reorder: seconds,
+        templates: 16384,
+    };
+    Ok(Peers::new(rt.alloc(), most, RandomState::new(rt)?, limits)?)
 }
 
 /// What became of a datagram.

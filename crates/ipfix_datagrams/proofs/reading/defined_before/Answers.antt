@@ -12,12 +12,12 @@ pub returns-clause-ordered : goal.returns-clause-ordered
 returns-clause-ordered c = c.in_ok-resume.ensures.ordered c.in_ok-defined.ensures.ordered
 
 pub returns-clause-before : goal.returns-clause-before
-returns-clause-before c = λ ds m represents keeps firsts sets id.
+returns-clause-before c = λ ds m represents keeps sets id.
     let d = c.args.domain in
     let first = c.args.first.now in
     let in_force : ℕ → Option Template = λ q. template_in (option_copied c.templates-in_force.result) q in
     let withdrawn : ℕ → Option Template = λ q. template_in (option_copied c.get.result) q in
-    let outs : (q : ℕ) → withdrawn q ≡ withdrawn_in ds d q = λ q. ap (λ (o : Option (BTreeMap ℕ Template)). template_in o q) c.get.ensures.value ∙ keeps.at d q in
+    let outs : (q : ℕ) → withdrawn q ≡ withdrawn_in ds d q = λ q. ap (λ (o : Option (BTreeMap ℕ Template)). template_in o q) c.get.ensures.value ∙ keeps.withdrawn.at d q in
     c.in_ok-resume.ensures.puts id
-    ∙ ap₂ (λ (a b : Option Template). option_or a b) (c.in_ok-defined.ensures.again ds m keeps firsts sets id)
-    (resumed_in (values c.args.resumed.now) ds m d in_force withdrawn (get nat_cmp first) (λ q. c.templates-in_force.ensures.found represents.fresh ds represents.stands q) outs firsts.at id)
+    ∙ ap₂ (λ (a b : Option Template). option_or a b) (c.in_ok-defined.ensures.again ds m keeps sets id)
+    (resumed_in (values c.args.resumed.now) ds m d in_force withdrawn (get nat_cmp first) (λ q. c.templates-in_force.ensures.found represents.fresh ds represents.stands q) outs sets.defines.at id)

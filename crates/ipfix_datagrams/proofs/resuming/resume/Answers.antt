@@ -1,4 +1,4 @@
-use Rattle.std.proofs.Common.{◌≡◌, ℕ, List, [], ◌∷◌, ap, rules}
+use Rattle.std.proofs.Common.{◌≡◌, List, [], ◌∷◌, ap, rules}
 use Rattle.std.specs.Prelude.{option_copied}
 use Rattle.std.specs.Option.{option_or}
 use Rattle.std.specs.Ordering.{nat_cmp}

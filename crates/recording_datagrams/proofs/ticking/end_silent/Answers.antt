@@ -10,7 +10,7 @@ loop-init g c = (
     are = none_ended g.F.FileSeries.seen g.F.RecordingFiles.finishes c.args.since c.args.peers.now.kept.entries;
     told = tells_nothing;
   },
-  record { room = refl; reorder = refl },
+  record { room = refl; limits = refl },
 )
 
 pub loop-preserved : goal.loop-preserved

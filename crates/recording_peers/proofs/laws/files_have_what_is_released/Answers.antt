@@ -1,16 +1,17 @@
-use Rattle.std.proofs.Common.{subst}
+use Rattle.std.proofs.Common.{subst, ap, ◌∙◌}
+use Rattle.recording_order.specs.Releases.{released}
 use Rattle.recording_peers.specs.Happenings.{datagrams_of, events_of}
 use Rattle.recording_peers.specs.Kept.{HasRecorded, says_of}
 use Rattle.recording_peers.proofs.SessionSteps.{release-stands}
 use Rattle.recording_peers.proofs.laws.files_have_what_is_released.Goals as goal
 
 pub returns-clause-released : goal.returns-clause-released
-returns-clause-released g c = λ old new seconds hs s f. release-stands g.F.FileSeries.seen (record { asked = c.only_what_was_handed_on_is_asked.ensures.run; step_alike = c.counts_change_nothing.ensures.step; finish_alike = c.counts_change_nothing.ensures.finish; told = c.counts_change_nothing.ensures.told }) seconds old new hs s f
+returns-clause-released g c = λ old new limits hs s f. release-stands g.F.FileSeries.seen (record { asked = c.only_what_was_handed_on_is_asked.ensures.run; step_alike = c.counts_change_nothing.ensures.step; finish_alike = c.counts_change_nothing.ensures.finish; told = c.counts_change_nothing.ensures.told }) limits old new hs s f
 
 pub returns-clause-off : goal.returns-clause-off
-returns-clause-off g c = λ k hs p released.
-    subst (λ xs. HasRecorded g.F.FileSeries.seen k p (datagrams_of xs)) (c.with_no_seconds_nothing_changes.ensures (says_of p.said) (events_of hs)) released
+returns-clause-off g c = λ k limits hs p none is.
+    subst (λ xs. HasRecorded g.F.FileSeries.seen k p (datagrams_of xs)) (ap (λ n. released (says_of p.said) n (events_of hs)) none ∙ c.with_no_seconds_nothing_changes.ensures (says_of p.said) (events_of hs)) is.1
 
 pub returns-clause-in_order : goal.returns-clause-in_order
-returns-clause-in_order g c = λ k seconds hs p next released.
-    subst (λ xs. HasRecorded g.F.FileSeries.seen k p (datagrams_of xs)) (c.in_order_nothing_changes.ensures (says_of p.said) seconds (events_of hs) next) released
+returns-clause-in_order g c = λ k limits hs p next is.
+    subst (λ xs. HasRecorded g.F.FileSeries.seen k p (datagrams_of xs)) (c.in_order_nothing_changes.ensures (says_of p.said) limits.reorder (events_of hs) next) is.1

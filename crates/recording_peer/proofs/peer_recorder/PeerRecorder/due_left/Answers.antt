@@ -2,7 +2,7 @@ use Rattle.std.proofs.Common.{◌≡◌, Some, None, sym, ap, ◌∙◌, rules}
 use Rattle.std.specs.Ordering.{nat_cmp}
 use Rattle.std.specs.BTreeMap.{get}
 use Rattle.recording_resumption.specs.Resumption.{resumed_by}
-use Rattle.recording_peer.specs.Peers.{Resumed, resumed_after, resumed_of}
+use Rattle.recording_peer.specs.Peers.{Resumed, resumed_of}
 use Rattle.recording_peer.specs.Recording.{taken_in}
 use Rattle.recording_peer.proofs.Leaving.{left_as_kept, resumed_now}
 use Rattle.recording_peer.proofs.Taking.{inside_of}

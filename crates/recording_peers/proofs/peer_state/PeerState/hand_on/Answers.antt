@@ -2,7 +2,7 @@ use Rattle.std.proofs.Common.{ap, ◌∙◌}
 use Rattle.std.proofs.lemmas.Result.{err_from_is_err_and}
 use Rattle.recording_order.specs.Arrivals.{Arrival}
 use Rattle.recording_order.specs.Windows.{after_writing}
-use Rattle.recording_peers.proofs.HandingOn.{follows-recorded, follows-refused, follows-ignored, follows-failed, follows-unnoted}
+use Rattle.recording_peers.proofs.HandingOn.{follows-recorded, follows-refused, follows-too_much, follows-ignored, follows-failed, follows-unnoted}
 use Rattle.recording_peers.proofs.peer_state.PeerState.hand_on.Goals as goal
 
 pub returns-in_err-count : goal.returns-in_err-count
@@ -38,3 +38,10 @@ returns-in-Ignored g c =
     let a : Arrival = record { header = c.args.header.now; second = c.args.second; octets = c.args.datagram.now } in
     follows-ignored g.F.FileSeries.seen c.args.self.now a c.take.new.self c.take.new.files
     (rw c.in-Ignored.is at c.in_ok-count.ensures.answers)
+
+pub returns-in-TooMuch : goal.returns-in-TooMuch
+returns-in-TooMuch g c =
+    let a : Arrival = record { header = c.args.header.now; second = c.args.second; octets = c.args.datagram.now } in
+    rw c.one_more-in-TooMuch.ensures
+    (follows-too_much g.F.FileSeries.seen c.args.self.now a c.take.new.self c.take.new.files
+    (rw c.in-TooMuch.is at c.in_ok-count.ensures.answers))

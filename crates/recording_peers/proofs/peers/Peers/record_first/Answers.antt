@@ -1,28 +1,18 @@
-use Rattle.std.proofs.Common.{refl, inl, inr}
-use Rattle.recording_peers.specs.Steps.{Reception}
-use Rattle.recording_peers.proofs.Tables.{begun}
-use Rattle.recording_peers.proofs.Recording.{recorded_new}
+use Rattle.std.proofs.Common.{refl, subst, inl, inr}
+use Rattle.recording_peer.specs.Beginnings.{BeginsIf, resumed_first}
 use Rattle.recording_peers.proofs.peers.Peers.record_first.Goals as goal
 
 pub returns-then-lacks_room-clause-records : goal.returns-then-lacks_room-clause-records
 returns-then-lacks_room-clause-records g c =
     record { nothing = record { begins = c.requires; same = refl; none_went = refl }; why = inr (c.lacks_room.ensures c.if-lacks_room.true) }
 
-pub returns-then-not-begins_peer-clause-records : goal.returns-then-not-begins_peer-clause-records
-returns-then-not-begins_peer-clause-records g c =
-    record { nothing = record { begins = c.requires; same = refl; none_went = refl }; why = inl (c.earlier-earlier.result, c.if-not-begins_peer.ensures) }
+pub record_begun-requires-clause-begins : goal.record_begun-requires-clause-begins
+record_begun-requires-clause-begins g c =
+    let m = c.args.datagram.now in
+    subst (BeginsIf c.args.self.now.limits.templates (resumed_first c.earlier-earlier.result m) m) c.in-Ok-true.field-0-test c.in-Ok-true.ensures
 
-pub returns-in-Some-clause-records : goal.returns-in-Some-clause-records
-returns-in-Some-clause-records g c =
-    let new = c.in-Ok.ensures.begun in
-    let r : Reception g.row.F.Denot = record { peer = c.args.peer; octets = c.args.datagram.now; second = c.args.second; became = c.in-Some.became; gone = c.in-Ok.gone } in
-    recorded_new g.F.FileSeries.seen g.P.PeerPlace.made_for c.args.self.now.reorder c.args.self.now.kept.cap c.begin.new.self.kept.cap r
-    c.args.self.now.kept.entries c.begin.new.self.kept.entries c.take.new.self.kept.entries new.1.0 c.requires (record { left = _; begins = new.1.1; by = c.if-not-begins_peer.ensures }) new.1.2 c.in-Ok.ensures.limits.room c.in-Some.ensures.taken new.0
-
-pub returns-in-None-clause-records : goal.returns-in-None-clause-records
-returns-in-None-clause-records g c =
-    let new = c.in-Ok.ensures.begun in
-    let there = begun c.args.self.now.kept.cap c.args.peer c.args.self.now.kept.entries new.1.0 c.requires in
-    let are = new.1.2 in
-    let nothing = (c.in-None.ensures.unknown refl).0 in
-    absurd cc
+pub returns-in-Ok-false-clause-records : goal.returns-in-Ok-false-clause-records
+returns-in-Ok-false-clause-records g c =
+    let m = c.args.datagram.now in
+    let none = subst (BeginsIf c.args.self.now.limits.templates (resumed_first c.earlier-earlier.result m) m) c.in-Ok-false.field-0-test c.in-Ok-false.ensures in
+    record { nothing = record { begins = c.requires; same = refl; none_went = refl }; why = inl (c.earlier-earlier.result, none) }

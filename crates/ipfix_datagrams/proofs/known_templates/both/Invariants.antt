@@ -1,0 +1,7 @@
+use Rattle.std.proofs.Common.{◌≡◌, ℕ, take, eqb}
+use Rattle.std.specs.Prelude.{◌||◌}
+use Rattle.std.specs.List.{list_any}
+use Rattle.ipfix_datagrams.proofs.known_templates.both.Given as goal
+
+abbrev pub invariant-loop-id : goal.invariant-loop-id
+invariant-loop-id l = (q : ℕ) → list_any (λ b. eqb b q) l.all.items ≡ (list_any (λ b. eqb b q) l.ids || list_any (λ b. eqb b q) (take l.id-index l.more))

@@ -1,0 +1,144 @@
+//! What is kept of a peer's templates beside those that are in force in its files.
+
+ghost use Rattle.std.specs.Prelude.{◌≡◌, ◌==◌, ◌||◌, ◌&&◌, ◌∷◌, ◌++◌, [], ℕ, List, OnOk, IfOk, not, is_some, filter, if◌then◌else◌};
+ghost use Rattle.std.specs.List.{list_any};
+ghost use Rattle.std.specs.BTreeMap.{get};
+ghost use Rattle.std.specs.Ordering.{nat_cmp};
+ghost use Rattle.ipfix_datagrams.specs.Datagrams.{Bars, KeepsKnown, barred_in};
+
+use crate::weighing::Weights;
+use crate::withdrawn_templates::WithdrawnTemplates;
+use ipfix_message::Templates;
+use std::alloc::{AllocError, Global};
+use std::collections::BTreeMap;
+
+/// The ids of each domain that have no template, since a datagram was refused that would have changed it.
+pub type BarredIds = BTreeMap<u32, Vec<u16>>;
+
+/// What is kept of a peer's templates beside those that are in force in its files, and the budget that all have.
+#[derive(Drop)]
+pub struct KnownTemplates {
+    /// Those that withdrawals ended in the files, and that are known over UDP.
+    pub withdrawn: WithdrawnTemplates,
+    /// The ids that have none.
+    pub barred: BarredIds,
+    /// What each domain counts.
+    pub weights: Weights,
+    /// What all may count.
+    pub budget: u64,
+}
+
+impl KnownTemplates {
+    /// None is known yet.
+    pub fn new(alloc: Global, budget: u64) -> Self
+        ensures keeps { KeepsKnown result [] }
+        ensures budget { result.budget ≡ budget }
+        ensures barred { (domain : ℕ) → barred_in result.barred domain ≡ [] }
+    {
+        KnownTemplates {
+            withdrawn: BTreeMap::new(alloc),
+            barred: BTreeMap::new(alloc),
+            weights: BTreeMap::new(alloc),
+            budget,
+        }
+    }
+
+    /// The ids of a domain that have none.
+    pub fn barred_in(&self, domain: u32) -> &[u16]
+        ensures { result.now ≡ barred_in self.now.barred domain }
+    {
+        ids_in(&self.barred, domain)
+    }
+
+    /// These ids of a domain have no template from now on. Without memory nothing changes.
+    pub fn bar(&mut self, alloc: Global, domain: u32, ids: &[u16]) -> Result<(), AllocError>
+        ensures { OnOk result (Bars self.old self.new domain ids.now) }
+    {
+        let all = both(alloc, self.barred_in(domain), ids)?;
+        put_ids(&mut self.barred, domain, all)?;
+        Ok(())
+    }
+}
+
+// Puts an id among others, unless it is one of them.
+fn put_id(id: u16, all: &mut Vec<u16>) -> Result<(), AllocError>
+    ensures { OnOk result ((q : ℕ) → list_any (λ b. b == q) all.new.items
+        ≡ (list_any (λ b. b == q) all.old.items || (id == q))) }
+{
+    if all.contains(&id) {
+        return Ok(());
+    }
+    all.push(id)?;
+    Ok(())
+}
+
+// These ids and those.
+fn both(alloc: Global, ids: &[u16], more: &[u16]) -> Result<Vec<u16>, AllocError>
+    ensures { IfOk result (λ all. (q : ℕ) → list_any (λ b. b == q) all.items
+        ≡ (list_any (λ b. b == q) ids.now || list_any (λ b. b == q) more.now)) }
+{
+    let mut all = Vec::new(alloc);
+    all.extend_from_slice(ids)?;
+    for id in more {
+        put_id(*id, &mut all)?;
+    }
+    Ok(all)
+}
+
+// Puts the ids of a domain in the place of others.
+fn put_ids(barred: &mut BarredIds, domain: u32, ids: Vec<u16>) -> Result<(), AllocError>
+    ensures { OnOk result ((q : ℕ) → barred_in barred.new q
+        ≡ (if q == domain then ids.items else barred_in barred.old q)) }
+{
+    barred.insert(domain, ids)?;
+    Ok(())
+}
+
+// Appends an id, unless one of these templates has it.
+fn push_unless(id: u16, last: &Templates, left: &mut Vec<u16>) -> Result<(), AllocError>
+    ensures { OnOk result (left.new.items ≡ left.old.items
+        ++ (if is_some (get nat_cmp last.now id) then [] else id ∷ [])) }
+{
+    if !last.contains_key(&id) {
+        left.push(id)?;
+    }
+    Ok(())
+}
+
+// Only the ids that none of these templates has.
+fn ids_left(alloc: Global, ids: &[u16], last: &Templates) -> Result<Vec<u16>, AllocError>
+    ensures { IfOk result (λ left. left.items
+        ≡ filter (λ id. not (is_some (get nat_cmp last.now id))) ids.now) }
+{
+    let mut left = Vec::new(alloc);
+    for id in ids {
+        push_unless(*id, last, &mut left)?;
+    }
+    Ok(left)
+}
+
+// The ids of a domain.
+fn ids_in(barred: &BarredIds, domain: u32) -> &[u16]
+    ensures { result.now ≡ barred_in barred.now domain }
+{
+    match barred.get(&domain) {
+        Some(ids) => ids,
+        None => &[],
+    }
+}
+
+/// Leaves of a domain only the ids that none of these templates has.
+pub fn drop_defined(
+    alloc: Global,
+    barred: &mut BarredIds,
+    domain: u32,
+    last: &Templates,
+) -> Result<(), AllocError>
+    ensures { OnOk result ((q : ℕ) → barred_in barred.new q ≡ (if q == domain
+        then filter (λ id. not (is_some (get nat_cmp last.now id))) (barred_in barred.old q)
+        else barred_in barred.old q)) }
+{
+    let left = ids_left(alloc, ids_in(barred, domain), last)?;
+    put_ids(barred, domain, left)?;
+    Ok(())
+}

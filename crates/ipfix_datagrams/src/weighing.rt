@@ -1,0 +1,167 @@
+//! What the templates of a peer count, beside a budget.
+
+ghost use Rattle.std.specs.Prelude.{◌≡◌, ◌==◌, ◌+◌, ◌≤◌, ◌<◌, ℕ, Some, OnOk, IfOk, MatchBool, MatchOption, if◌then◌else◌, option_copied, option_map, sum};
+ghost use Rattle.std.specs.Option.{option_or};
+ghost use Rattle.std.specs.BTreeMap.{get, values, IsOrdered};
+ghost use Rattle.std.specs.Ordering.{nat_cmp};
+ghost use Rattle.ipfix_datagrams.specs.Datagrams.{Exceeds, Fits, KeepsKnown, fields_of, known_in, template_in};
+ghost use Rattle.ipfix_datagrams.specs.Attempts.{kept_entries};
+ghost use Rattle.ipfix_datagrams.specs.Readings.{ReadSo};
+
+use crate::known_templates::KnownTemplates;
+use crate::reading::DatagramReading;
+use ipfix_message::{Domains, Template, Templates};
+use std::alloc::{AllocError, Global};
+use std::collections::BTreeMap;
+
+/// What a template counts beside its field specifiers.
+pub const TEMPLATE_FIELDS: u64 = 8;
+
+/// What a domain counts beside its templates.
+pub const DOMAIN_FIELDS: u64 = 16;
+
+/// What each domain counts.
+pub type Weights = BTreeMap<u32, u64>;
+
+// What the templates of a domain count, by id.
+type Counts = BTreeMap<u16, u64>;
+
+// What a template counts.
+fn count_of(template: &Template) -> u64
+    ensures { result ≡ fields_of template.now }
+{
+    let specs = template.specs.as_slice();
+    TEMPLATE_FIELDS + specs.len() as u64
+}
+
+// Counts the template of an id, if it is there.
+fn count_one(templates: &Templates, id: u16, counts: &mut Counts) -> Result<(), AllocError>
+    ensures { OnOk result ((q : ℕ) → get nat_cmp counts.new q
+        ≡ (if q == id then option_or (option_map fields_of (get nat_cmp templates.now q))
+        (get nat_cmp counts.old q) else get nat_cmp counts.old q)) }
+{
+    let Some(known) = templates.get(&id) else {
+        return Ok(());
+    };
+    counts.insert(id, count_of(known.template()))?;
+    Ok(())
+}
+
+// Counts templates, in place of others of their ids.
+fn count_all(templates: &Templates, counts: &mut Counts) -> Result<(), AllocError>
+    ensures { OnOk result ((q : ℕ) → get nat_cmp counts.new q
+        ≡ option_or (option_map fields_of (get nat_cmp templates.now q)) (get nat_cmp counts.old q)) }
+{
+    for id in templates.keys() {
+        count_one(templates, *id, counts)?;
+    }
+    Ok(())
+}
+
+// And so those of a domain, if it has any.
+fn count_if(templates: Option<&Templates>, counts: &mut Counts) -> Result<(), AllocError>
+    ensures { OnOk result ((q : ℕ) → get nat_cmp counts.new q
+        ≡ option_or (option_map fields_of (template_in (option_copied templates.entry) q))
+        (get nat_cmp counts.old q)) }
+{
+    match templates {
+        Some(templates) => count_all(templates, counts),
+        None => Ok(()),
+    }
+}
+
+// What the templates of a domain count, if that is within a budget.
+fn weigh(counts: &Counts, budget: u64) -> Option<u64>
+    ensures weight { let n = DOMAIN_FIELDS + sum (values counts.now) in
+        MatchOption result (budget < n) (λ weight. weight ≡ n) }
+    ensures ordered { IsOrdered nat_cmp counts.now }
+{
+    let counted = counts.values();
+    let mut left = budget.checked_sub(DOMAIN_FIELDS)?;
+    for count in counted {
+        left = left.checked_sub(*count)?;
+    }
+    Some(budget - left)
+}
+
+// Whether all domains count no more than a budget.
+fn are_within(weights: &Weights, budget: u64) -> bool
+    ensures within { MatchBool result (sum (values weights.now) ≤ budget)
+        (budget < sum (values weights.now)) }
+    ensures ordered { IsOrdered nat_cmp weights.now }
+{
+    let weighed = weights.values();
+    let mut left = budget;
+    for weight in weighed {
+        match left.checked_sub(*weight) {
+            Some(behind) => left = behind,
+            None => return false,
+        }
+    }
+    true
+}
+
+// What the templates that are known in a domain count after a datagram that is read so.
+fn counts_after(
+    alloc: Global,
+    known: &KnownTemplates,
+    domains: &Domains,
+    domain: u32,
+    reading: &DatagramReading,
+) -> Result<Counts, AllocError>
+    ensures { (s : ReadSo domains.now domain reading.now) → KeepsKnown known.now s.history
+        → IfOk result (λ counts. (id : ℕ) → get nat_cmp counts id
+        ≡ option_map fields_of (known_in s.given.domains domain id)) }
+{
+    let mut counts = BTreeMap::new(alloc);
+    count_if(known.withdrawn.get(&domain), &mut counts)?;
+    count_if(domains.templates(domain), &mut counts)?;
+    count_all(&reading.defined, &mut counts)?;
+    count_all(&reading.definitions, &mut counts)?;
+    Ok(counts)
+}
+
+// What each domain counts, with another one or in the place of what it did.
+fn with_weight(weights: &Weights, domain: u32, weight: u64) -> Result<Weights, AllocError>
+    ensures { IfOk result (λ after. (q : ℕ) → get nat_cmp after q
+        ≡ (if q == domain then Some weight else get nat_cmp weights.now q)) }
+{
+    let mut after = weights.clone()?;
+    after.insert(domain, weight)?;
+    Ok(after)
+}
+
+/// What each domain counts after a datagram that is read so, in a domain that it leaves otherwise, if all count no more
+/// than the budget.
+pub fn weights_after(
+    alloc: Global,
+    known: &KnownTemplates,
+    domains: &Domains,
+    domain: u32,
+    reading: &DatagramReading,
+) -> Result<Option<Weights>, AllocError>
+    ensures { (s : ReadSo domains.now domain reading.now) → KeepsKnown known.now s.history
+        → IfOk result (λ weights. MatchOption weights (Exceeds known.now.budget s.given.domains)
+        (λ ws. Fits known.now.budget ws.entries s.given.domains)) }
+{
+    let counts = counts_after(alloc, known, domains, domain, reading)?;
+    let Some(weight) = weigh(&counts, known.budget) else {
+        return Ok(None);
+    };
+    let weights = with_weight(&known.weights, domain, weight)?;
+    if are_within(&weights, known.budget) {
+        Ok(Some(weights))
+    } else {
+        Ok(None)
+    }
+}
+
+/// Keeps what each domain counts then, if it isn't as it was.
+pub fn keep_weights(kept: &mut Weights, after: &Option<Weights>) -> Result<(), AllocError>
+    ensures { OnOk result (kept.new.entries ≡ kept_entries kept.old after.now) }
+{
+    if let Some(after) = after {
+        *kept = after.clone()?;
+    }
+    Ok(())
+}
