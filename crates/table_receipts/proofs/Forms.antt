@@ -108,10 +108,11 @@ receipt_good r =
     let version = number_good 1 in
     let plan = plan_good r.plan in
     let elements = list_good 1 file_json file_good r.elements in
+    let maps = list_good 1 file_json file_good r.maps in
     let inputs = list_good 3 input_json input_good r.inputs in
     let records = counts_good r.records in
     let table = table_good r.table in
     record {
-      numbers = (version.numbers, (tt, (plan.numbers, (elements.numbers, (inputs.numbers, (records.numbers, (table.numbers, (tt, (tt, tt)))))))));
-      nests = omega (arith, version.nests, plan.nests, elements.nests, inputs.nests, records.nests, table.nests);
+      numbers = (version.numbers, (tt, (plan.numbers, (elements.numbers, (maps.numbers, (inputs.numbers, (records.numbers, (table.numbers, (tt, (tt, tt))))))))));
+      nests = omega (arith, version.nests, plan.nests, elements.nests, maps.nests, inputs.nests, records.nests, table.nests);
     }

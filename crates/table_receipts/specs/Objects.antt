@@ -117,6 +117,7 @@ origin_members r =
     version_members r.collectd
     ++ ((codes "plan", plan_json r.plan)
     ∷ (codes "elements", list_json file_json r.elements)
+    ∷ (codes "maps", list_json file_json r.maps)
     ∷ [])
 
 -- what it was made of, and what it is

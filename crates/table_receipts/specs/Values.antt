@@ -39,6 +39,7 @@ pub record ReceiptValue : Type 0 where
   pub collectd : List ℕ
   pub plan : List ℕ
   pub elements : List FileValue
+  pub maps : List FileValue
   pub inputs : List InputValue
   pub records : RecordCounts
   pub table : TableValue
@@ -65,6 +66,7 @@ receipt_value r = record {
   collectd = string_bytes r.collectd;
   plan = string_bytes r.plan;
   elements = map file_value r.elements.items;
+  maps = map file_value r.maps.items;
   inputs = map input_value r.inputs.items;
   records = r.records;
   table = table_value r.table;
@@ -116,6 +118,7 @@ pub record FitsTable (t : TableValue) : Type 0 where
 
 pub record FitsReceipt (r : ReceiptValue) : Type 0 where
   pub elements : All FitsFile r.elements
+  pub maps : All FitsFile r.maps
   pub inputs : All FitsInput r.inputs
   pub records : FitsCounts r.records
   pub table : FitsTable r.table

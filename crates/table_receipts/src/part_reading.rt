@@ -33,13 +33,14 @@ fn file_of(alloc: Global, object: &Value<'_>) -> Result<FileReceipt, AllocError>
     })
 }
 
-fn files_of(alloc: Global, object: &Value<'_>) -> Result<Vec<FileReceipt>, AllocError>
+// The files that a member of this name lists.
+fn files_of(alloc: Global, object: &Value<'_>, name: &str) -> Result<Vec<FileReceipt>, AllocError>
     ensures { (fs : List FileValue) → All FitsFile fs
-        → get (codes "elements") (value_view object.now) ≡ Some (list_json file_json fs)
+        → get name.now (value_view object.now) ≡ Some (list_json file_json fs)
         → IfOk result (λ files. map file_value files.items ≡ fs) }
 {
     let mut files = Vec::new(alloc);
-    let Some(items) = list_of(object, "elements") else {
+    let Some(items) = list_of(object, name) else {
         return Ok(files);
     };
     for item in items {
@@ -185,7 +186,8 @@ pub fn receipt_of(alloc: Global, object: &Value<'_>) -> Result<Receipt, AllocErr
     Ok(Receipt {
         collectd: String::from_str(alloc, text_of(object, "collectd"))?,
         plan: String::from_str(alloc, text_of(member_of(object, "plan"), "text"))?,
-        elements: files_of(alloc, object)?,
+        elements: files_of(alloc, object, "elements")?,
+        maps: files_of(alloc, object, "maps")?,
         inputs: inputs_of(alloc, object)?,
         records: counts_of(member_of(object, "records")),
         table: table_of(alloc, member_of(object, "table"))?,

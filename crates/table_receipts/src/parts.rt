@@ -83,12 +83,13 @@ fn write_file(alloc: Global, writer: &mut Writer, file: &FileReceipt) -> Result<
 pub fn write_files(
     alloc: Global,
     writer: &mut Writer,
+    name: &str,
     files: &[FileReceipt],
 ) -> Result<(), AllocError>
     ensures { Appends result writer.old writer.new
-        (key (codes "elements") ∷ json_tokens (list_json file_json (map file_value files.now))) }
+        (key name.now ∷ json_tokens (list_json file_json (map file_value files.now))) }
 {
-    writer.key("elements")?;
+    writer.key(name)?;
     writer.begin_array()?;
     for file in files {
         write_file(alloc, writer, file)?;

@@ -1,6 +1,6 @@
 //! What a receipt tells.
 
-/// A file that was read: an input, or a file of elements.
+/// A file that was read: an input, a file of elements, or one of a map.
 #[derive(Drop)]
 pub struct FileReceipt {
     /// Its name as it was given: `-` is standard input, and a connection's is ADDRESS:PORT.
@@ -98,6 +98,8 @@ pub struct Receipt {
     pub plan: String,
     /// The files of elements, in the order in which they were given.
     pub elements: Vec<FileReceipt>,
+    /// The file of each map of the plan, in the plan's order.
+    pub maps: Vec<FileReceipt>,
     /// The inputs, in the order of their sessions.
     pub inputs: Vec<InputReceipt>,
     pub records: RecordCounts,

@@ -64,7 +64,8 @@ fn write_origin(alloc: Global, writer: &mut Writer, receipt: &Receipt) -> Result
 {
     write_versions(writer, receipt.collectd.as_str())?;
     write_plan(alloc, writer, receipt.plan.as_str())?;
-    write_files(alloc, writer, &receipt.elements)
+    write_files(alloc, writer, "elements", &receipt.elements)?;
+    write_files(alloc, writer, "maps", &receipt.maps)
 }
 
 // Writes what the table was made of, and what it is.

@@ -8,13 +8,18 @@ use table_receipts::{
 
 /// The text of the receipt.
 pub const TEXT: &str =
-    "{\"receipt\":1,\"collectd\":\"1.2.3\",\"plan\":{\"text\":\"keys = [\\\"sourceIPv4Address\\\"]\\ncounters = [\\\"octetDeltaCount\\\"]\\n\",\"sha256\":\"28fce7cafeca2a590dced55c4ae543f79c3b5cc80353f9c2a2ad33adac2eda8b\"},\"elements\":[{\"name\":\"site.csv\",\"octets\":5,\"sha256\":\"ba1759da69db12eb17bd9914d1f27d9674eae0e2c47ea5fadef5bdf07de02d53\"}],\"inputs\":[{\"name\":\"a.ipfix\",\"octets\":68,\"sha256\":\"ca978112ca1bbdcafac231b39a23dc4da786eff8147c4e72b9807785afee48bb\",\"messages\":1,\"records\":1,\"fault\":null,\"domains\":[{\"domain\":1,\"lost\":0,\"backward\":0,\"unaccounted\":0,\"unknown_sets\":0}]},{\"name\":\"b \\\"q\\\" é.ipfix\",\"octets\":0,\"sha256\":\"e3b0c44298fc1c149afbf4c8996fb92427ae41e4649b934ca495991b7852b855\",\"messages\":0,\"records\":0,\"fault\":\"ReadFailed\",\"domains\":[]},{\"name\":\"192.0.2.1:40000\",\"octets\":\"18446744073709551615\",\"sha256\":\"2e7d2c03a9507ae265ecf5b5356885a53393a2029d241394997265a1a25aefc6\",\"messages\":9007199254740991,\"records\":\"9007199254740992\",\"fault\":\"Truncated\",\"domains\":[{\"domain\":4294967295,\"lost\":7,\"backward\":1,\"unaccounted\":2,\"unknown_sets\":3},{\"domain\":0,\"lost\":0,\"backward\":0,\"unaccounted\":0,\"unknown_sets\":1}]}],\"records\":{\"used\":1,\"options\":2,\"untimed\":3,\"backward\":4,\"unkeyed\":5,\"too_long\":6},\"table\":{\"format\":\"ipfix\",\"time\":1700000000,\"octets\":100,\"sha256\":\"e3b98a4da31a127d4bde6e43033f66ba274cab0eb7eb1c70ec41402bf6273dd8\",\"rows\":1,\"sums\":[{\"name\":\"octetDeltaCount\",\"sum\":1500},{\"name\":\"packetDeltaCount\",\"sum\":\"340282366920938463463374607431768211455\"}],\"flows\":1},\"complete\":false,\"sha256\":\"7e69633764991e099daca4d13c2a3f5cf6a76db3c3f8556b60516107dc1b1b17\"}";
+    "{\"receipt\":1,\"collectd\":\"1.2.3\",\"plan\":{\"text\":\"keys = [\\\"sourceIPv4Address\\\"]\\ncounters = [\\\"octetDeltaCount\\\"]\\n\",\"sha256\":\"28fce7cafeca2a590dced55c4ae543f79c3b5cc80353f9c2a2ad33adac2eda8b\"},\"elements\":[{\"name\":\"site.csv\",\"octets\":5,\"sha256\":\"ba1759da69db12eb17bd9914d1f27d9674eae0e2c47ea5fadef5bdf07de02d53\"}],\"maps\":[{\"name\":\"plans/customers.csv\",\"octets\":33,\"sha256\":\"3f2714a4b79a100b88a7943bea47872580884a1c397f5aae849dcdf645badf39\"}],\"inputs\":[{\"name\":\"a.ipfix\",\"octets\":68,\"sha256\":\"ca978112ca1bbdcafac231b39a23dc4da786eff8147c4e72b9807785afee48bb\",\"messages\":1,\"records\":1,\"fault\":null,\"domains\":[{\"domain\":1,\"lost\":0,\"backward\":0,\"unaccounted\":0,\"unknown_sets\":0}]},{\"name\":\"b \\\"q\\\" é.ipfix\",\"octets\":0,\"sha256\":\"e3b0c44298fc1c149afbf4c8996fb92427ae41e4649b934ca495991b7852b855\",\"messages\":0,\"records\":0,\"fault\":\"ReadFailed\",\"domains\":[]},{\"name\":\"192.0.2.1:40000\",\"octets\":\"18446744073709551615\",\"sha256\":\"2e7d2c03a9507ae265ecf5b5356885a53393a2029d241394997265a1a25aefc6\",\"messages\":9007199254740991,\"records\":\"9007199254740992\",\"fault\":\"Truncated\",\"domains\":[{\"domain\":4294967295,\"lost\":7,\"backward\":1,\"unaccounted\":2,\"unknown_sets\":3},{\"domain\":0,\"lost\":0,\"backward\":0,\"unaccounted\":0,\"unknown_sets\":1}]}],\"records\":{\"used\":1,\"options\":2,\"untimed\":3,\"backward\":4,\"unkeyed\":5,\"too_long\":6},\"table\":{\"format\":\"ipfix\",\"time\":1700000000,\"octets\":100,\"sha256\":\"e3b98a4da31a127d4bde6e43033f66ba274cab0eb7eb1c70ec41402bf6273dd8\",\"rows\":1,\"sums\":[{\"name\":\"octetDeltaCount\",\"sum\":1500},{\"name\":\"packetDeltaCount\",\"sum\":\"340282366920938463463374607431768211455\"}],\"flows\":1},\"complete\":false,\"sha256\":\"ff2d210888a022e069c8a4e78146e9db84c0f2b5a52dbada46985cd33772a60d\"}";
 
 const PLAN: &str = "keys = [\"sourceIPv4Address\"]\ncounters = [\"octetDeltaCount\"]\n";
 
 const SITE: [u8; 32] = [
     0xba, 0x17, 0x59, 0xda, 0x69, 0xdb, 0x12, 0xeb, 0x17, 0xbd, 0x99, 0x14, 0xd1, 0xf2, 0x7d, 0x96,
     0x74, 0xea, 0xe0, 0xe2, 0xc4, 0x7e, 0xa5, 0xfa, 0xde, 0xf5, 0xbd, 0xf0, 0x7d, 0xe0, 0x2d, 0x53,
+];
+
+const CUSTOMERS: [u8; 32] = [
+    0x3f, 0x27, 0x14, 0xa4, 0xb7, 0x9a, 0x10, 0x0b, 0x88, 0xa7, 0x94, 0x3b, 0xea, 0x47, 0x87, 0x25,
+    0x80, 0x88, 0x4a, 0x1c, 0x39, 0x7f, 0x5a, 0xae, 0x84, 0x9d, 0xcd, 0xf6, 0x45, 0xba, 0xdf, 0x39,
 ];
 
 const A: [u8; 32] = [
@@ -125,6 +130,8 @@ fn table(alloc: Global) -> Result<TableReceipt, AllocError> {
 pub fn receipt(alloc: Global) -> Result<Receipt, AllocError> {
     let mut elements = Vec::new(alloc);
     elements.push(file(alloc, "site.csv", 5, SITE)?)?;
+    let mut maps = Vec::new(alloc);
+    maps.push(file(alloc, "plans/customers.csv", 33, CUSTOMERS)?)?;
     let mut inputs = Vec::new(alloc);
     inputs.push(first(alloc)?)?;
     inputs.push(second(alloc)?)?;
@@ -133,6 +140,7 @@ pub fn receipt(alloc: Global) -> Result<Receipt, AllocError> {
         collectd: String::from_str(alloc, "1.2.3")?,
         plan: String::from_str(alloc, PLAN)?,
         elements,
+        maps,
         inputs,
         records: RecordCounts {
             used: 1,

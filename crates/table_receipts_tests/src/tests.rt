@@ -22,6 +22,7 @@ fn reads_back(rt: HostRuntime) -> Result<(), Fail> {
     };
     assert_eq!(rt; receipt.collectd.as_str(), "1.2.3");
     assert_eq!(rt; receipt.elements.len(), 1);
+    assert_eq!(rt; receipt.maps.last().map(|file| file.octets), Some(33));
     assert_eq!(rt; receipt.inputs.len(), 3);
     let numbers = receipt
         .inputs

@@ -1,0 +1,24 @@
+//! Laws of the definitions. Each is a function that does nothing, and its contract is the theorem: a call
+//! brings that to the proof of its caller.
+
+ghost use Rattle.std.specs.Prelude.{◌≡◌, ◌↔◌, ℕ, List, []};
+ghost use Rattle.table_receipts.specs.Values.{InputValue, TableValue};
+ghost use Rattle.receipt_differences.specs.Differences.{IsTableOf, table_differs};
+ghost use Rattle.receipt_differences.specs.Remade.{text_differs};
+ghost use Rattle.receipt_differences.specs.Inputs.{HaveSameInputs, inputs_differ};
+
+/// Nothing is told of a table exactly if it has the octets that its receipt tells, by their number and SHA-256.
+pub fn no_line_of_its_table()
+    ensures { (said : TableValue) (table : List ℕ) → (table_differs said table ≡ []) ↔ IsTableOf said table }
+{}
+
+/// Nothing is told of a table exactly if it has the octets of the one that was made again.
+pub fn no_line_of_same_text()
+    ensures { (found table : List ℕ) → (text_differs found table ≡ []) ↔ (found ≡ table) }
+{}
+
+/// Nothing is told of inputs and files exactly if they have the same octets, one for one, and gave the same.
+pub fn no_line_of_same_inputs()
+    ensures { (inputs files : List InputValue)
+        → (inputs_differ inputs files ≡ []) ↔ HaveSameInputs inputs files }
+{}

@@ -1,0 +1,101 @@
+//! Receipts of parts, judged and merged.
+
+ghost use Rattle.std.specs.Prelude.{◌≡◌, ◌++◌, ◌&&◌, IfOk, map};
+ghost use Rattle.table_receipts.specs.Values.{input_value};
+ghost use Rattle.receipt_merging.specs.Judging.{AreMerged, IsJudgementOf};
+ghost use Rattle.receipt_merging.specs.Parts.{add_counts as sum_counts, part_value};
+
+use crate::counts::{add_counts, no_records};
+use crate::once::first_twice;
+use crate::parts::{Part, first_incomplete, first_of_other_plan};
+use std::alloc::{AllocError, Global};
+use std::collections::VecDeque;
+use table_receipts::{InputReceipt, Receipt, RecordCounts};
+
+/// What the receipts of parts say together.
+#[derive(Drop)]
+pub struct MergedParts {
+    /// The inputs of all parts, in their order.
+    pub inputs: Vec<InputReceipt>,
+    /// How many of their records are of each class; a count stops at 2^64 - 1.
+    pub records: RecordCounts,
+    /// Whether all are complete.
+    pub complete: bool,
+}
+
+/// Whether parts may be merged.
+#[derive(Drop)]
+pub enum Judgement {
+    Merged(MergedParts),
+    /// The part at this place, counted from 0, has another plan.
+    OtherPlan(usize),
+    /// The part at this place isn't complete.
+    Incomplete(usize),
+    /// The inputs at these places among all inputs are the same, and have data records: they would be counted twice.
+    InputTwice(MergedParts, usize, usize),
+    OutOfMemory,
+}
+
+/// Judges the receipts of parts, and merges them. Parts that aren't complete are let through if `incomplete` says so.
+pub fn judge_parts(alloc: Global, parts: Vec<Part>, incomplete: bool) -> Judgement
+    ensures { IsJudgementOf incomplete (map part_value parts.items) result }
+{
+    if let Some(place) = first_of_other_plan(&parts) {
+        return Judgement::OtherPlan(place);
+    }
+    if !incomplete && let Some(place) = first_incomplete(&parts) {
+        return Judgement::Incomplete(place);
+    }
+    let Ok(merged) = merge_parts(alloc, parts) else {
+        return Judgement::OutOfMemory;
+    };
+    match first_twice(alloc, &merged.inputs) {
+        Ok(Some((first, second))) => Judgement::InputTwice(merged, first, second),
+        Ok(None) => Judgement::Merged(merged),
+        Err(AllocError) => Judgement::OutOfMemory,
+    }
+}
+
+// What their receipts say together.
+fn merge_parts(alloc: Global, parts: Vec<Part>) -> Result<MergedParts, AllocError>
+    ensures { IfOk result (AreMerged (map part_value parts.items)) }
+{
+    let mut waiting = VecDeque::from_vec(parts);
+    let mut merged = MergedParts {
+        inputs: Vec::new(alloc),
+        records: no_records(),
+        complete: true,
+    };
+    while let Some(part) = waiting.pop_front() {
+        let Part { receipt, .. } = part;
+        merged = add_part(merged, receipt)?;
+    }
+    Ok(merged)
+}
+
+// The same with one more.
+fn add_part(merged: MergedParts, receipt: Receipt) -> Result<MergedParts, AllocError>
+    ensures inputs { IfOk result (λ more. map input_value more.inputs.items
+        ≡ map input_value merged.inputs.items ++ map input_value receipt.inputs.items) }
+    ensures records { IfOk result (λ more. more.records
+        ≡ sum_counts merged.records receipt.records) }
+    ensures complete { IfOk result (λ more. more.complete ≡ (receipt.complete && merged.complete)) }
+{
+    let MergedParts {
+        mut inputs,
+        records,
+        complete,
+    } = merged;
+    let Receipt {
+        inputs: mut others,
+        records: more,
+        complete: is_complete,
+        ..
+    } = receipt;
+    inputs.append(&mut others)?;
+    Ok(MergedParts {
+        inputs,
+        records: add_counts(records, more),
+        complete: is_complete && complete,
+    })
+}

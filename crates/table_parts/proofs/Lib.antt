@@ -1,0 +1,2 @@
+pub mod PartsRead
+pub mod TablesSaid
