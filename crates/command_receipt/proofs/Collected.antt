@@ -19,6 +19,8 @@ use Rattle.command_collect.specs.declared.gathered.Gathered.{Gathered}
 use Rattle.command_collect.proofs.Ran.{ends_so, of_gathered}
 use Rattle.command_receipt.specs.Runs.{CollectsReceipted, IsNotPut, IsPut, RunsReceipted, TellsNoReceipt}
 use Rattle.command_receipt.specs.declared.fault.RunFault.{RunFault}
+use Rattle.command_receipt.specs.declared.fault.RunFault.TheVariants.{Export, Receipt}
+use Rattle.command_receipt.specs.declared.fault.ReceiptFault.TheVariants as receipts
 use Rattle.command_receipt.specs.declared.making.MadeWith.{MadeWith}
 use Rattle.command_receipt.specs.declared.run.Ended.{Ended}
 use Rattle.command_receipt.specs.declared.run.Receipted.{Receipted}
@@ -33,6 +35,14 @@ pub not_put_of : {S : Type 0} (job : CollectJob) (origins : List Origin) (digest
     → IsNotPut job origins g.run.sessions.items digests g.run.table IsUntouched fault → IsNotPut job origins (fulls_in c.sessions.items) digests c.table IsUntouched fault
 not_put_of {S = S} job origins digests IsUntouched fault c g is not =
     of_gathered (λ (sources : List S) (fulls : List FullReport) (table : Table) (n : ℕ). IsNotPut job origins fulls digests table IsUntouched fault) c g is not
+
+-- the same, whatever became of the writer
+pub untouched : (job : CollectJob) (origins : List Origin) (fulls : List FullReport) (digests : List (List ℕ)) (table : Table) (IsUntouched : Type 0) (fault : RunFault)
+    → IsNotPut job origins fulls digests table IsUntouched fault → IsNotPut job origins fulls digests table (Unit {0}) fault
+untouched job origins fulls digests table IsUntouched (Export fault) not = record { many = not.many; untouched = λ is. tt }
+untouched job origins fulls digests table IsUntouched (Receipt receipts.OutOfMemory) not = tt
+untouched job origins fulls digests table IsUntouched (Receipt receipts.WriteFailed) not = tt
+untouched job origins fulls digests table IsUntouched (Receipt (receipts.InputTwice first second)) not = (not.0, tt)
 
 module _ {S W P : Type 0} (contents : W → Option (List ℕ)) (holds : P → List ℕ → Type 0) (to : Receipted W P) (ended : Ended W P) (seen : S → SourceView) (failure : S → Option ErrorKind) (job : CollectJob) where
   fault_told : (Told AreTold : List ℕ → Type 0) (sources : List S) (origins : List Origin) → ((lines : List ℕ) → Told lines → AreTold lines)

@@ -2,7 +2,6 @@ pub mod Placed
 pub mod Parts
 pub mod Collected
 pub mod Written
-pub mod Twice
 pub mod Sums
 pub mod Lists
 pub mod Refusals

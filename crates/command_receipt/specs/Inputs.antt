@@ -1,5 +1,5 @@
 -- What a receipt says of the inputs of a run.
-use Rattle.std.specs.Prelude.{◌≡◌, ◌<◌, ℕ, All, List, [], ◌∷◌, codes, length, option_map, get_or}
+use Rattle.std.specs.Prelude.{ℕ, List, [], ◌∷◌, codes, option_map}
 use Rattle.std.specs.Net.Text.{socket_text}
 use Rattle.ipfix_session.specs.Faults.{name_of}
 use Rattle.ipfix_session.specs.declared.report.DomainBalance.{DomainBalance}
@@ -45,22 +45,3 @@ abbrev pub inputs_of : List Origin → List FullReport → List (List ℕ) → L
 inputs_of origins [] digests = []
 inputs_of origins (full ∷ fulls) [] = []
 inputs_of origins (full ∷ fulls) (digest ∷ digests) = input_of (first_origin origins) full digest ∷ inputs_of (other_origins origins) fulls digests
-
--- ---- an input that comes twice
-
--- two inputs with data records have the same octets, by their digest
-pub record IsSameInput (i j : InputValue) : Type 0 where
-  pub has_records : 0 < i.records
-  pub has_too : 0 < j.records
-  pub digests : i.file.digest ≡ j.file.digest
-
--- no input comes twice
-abbrev pub EachOnce : List InputValue → Type 0
-EachOnce [] = Unit {0}
-EachOnce (i ∷ is) = All (λ j. IsSameInput i j → ⊥) is × EachOnce is
-
--- those at two places, counted from 0, are the same
-pub record AreSame (is : List InputValue) (first second : ℕ) : Type 0 where
-  pub order : first < second
-  pub within : second < length is
-  pub same : (d : InputValue) → IsSameInput (get_or is first d) (get_or is second d)

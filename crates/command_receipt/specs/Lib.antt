@@ -6,3 +6,4 @@ pub mod Tables
 pub mod Made
 pub mod Faults
 pub mod Runs
+pub mod Remade

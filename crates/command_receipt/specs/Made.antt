@@ -3,7 +3,6 @@ use Rattle.std.specs.Prelude.{◌≡◌, ◌↔◌, ℕ, Bool, List, map, IsTrue
 use Rattle.ipfix_session.specs.declared.report.FullReport.{FullReport}
 use Rattle.flow_table.specs.declared.table.Table.{Table}
 use Rattle.report_sessions.specs.Spotless.{IsSpotless}
-use Rattle.table_receipts.specs.Texts.{receipt_text}
 use Rattle.table_receipts.specs.Values.{InputValue, ReceiptValue, file_value}
 use Rattle.command_collect.specs.declared.job.CollectJob.{CollectJob}
 use Rattle.command_receipt.specs.Tables.{counts_of, table_of}
@@ -16,6 +15,7 @@ receipt_of made job inputs text table complete = record {
   collectd = string_bytes made.collectd;
   plan = string_bytes made.plan;
   elements = map file_value made.elements.items;
+  maps = map file_value made.maps.items;
   inputs = inputs;
   records = counts_of table.tally;
   table = table_of job.elements.now job.plan.now.counters job.output text table;
@@ -26,9 +26,3 @@ receipt_of made job inputs text table complete = record {
 pub record IsReceiptOf (made : MadeWith) (job : CollectJob) (inputs : List InputValue) (fulls : List FullReport) (text : TextDigest) (table : Table) (r : ReceiptValue) : Type 0 where
   pub value : r ≡ receipt_of made job inputs text table r.complete
   pub complete : IsTrue r.complete ↔ IsSpotless fulls table.tally table.missing
-
--- the text of the receipt was put
-pub record IsPutReceipt (Holds : List ℕ → Type 0) (made : MadeWith) (job : CollectJob) (inputs : List InputValue) (fulls : List FullReport) (text : TextDigest) (table : Table) : Type 0 where
-  pub receipt : ReceiptValue
-  pub is : IsReceiptOf made job inputs fulls text table receipt
-  pub put : Holds (receipt_text receipt)

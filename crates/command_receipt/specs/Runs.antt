@@ -30,7 +30,8 @@ use Rattle.command_collect.specs.declared.job.CollectJob.{CollectJob}
 use Rattle.command_collect.specs.declared.job.Connections.{Connections}
 use Rattle.command_receipt.specs.Digests.{AreDigestsOf, IsDigestOfAppended}
 use Rattle.command_receipt.specs.Faults.{run_fault_line}
-use Rattle.command_receipt.specs.Inputs.{AreSame, EachOnce, inputs_of}
+use Rattle.command_receipt.specs.Inputs.{inputs_of}
+use Rattle.receipt_merging.specs.Once.{AreSame, EachOnce}
 use Rattle.command_receipt.specs.Made.{IsReceiptOf}
 use Rattle.command_receipt.specs.declared.fault.ReceiptFault.TheVariants.{OutOfMemory, WriteFailed, InputTwice}
 use Rattle.command_receipt.specs.declared.fault.RunFault.{RunFault}
@@ -40,14 +41,18 @@ use Rattle.command_receipt.specs.declared.making.MadeWith.{MadeWith}
 use Rattle.command_receipt.specs.declared.run.Ended.{Ended}
 use Rattle.command_receipt.specs.declared.run.Receipted.{Receipted}
 
--- the receipt of these inputs and of this table was put, by the digest of the table's text
-pub record IsPut (Holds : List ℕ → Type 0) (made : MadeWith) (job : CollectJob) (origins : List Origin) (fulls : List FullReport) (digests : List (List ℕ)) (old : Option (List ℕ)) (table : Table) : Type 0 where
+-- the receipt of these inputs and of this table, by the digest of the table's text
+pub record IsMade (made : MadeWith) (job : CollectJob) (origins : List Origin) (fulls : List FullReport) (digests : List (List ℕ)) (old : Option (List ℕ)) (table : Table) (receipt : ReceiptValue) : Type 0 where
   pub text : TextDigest
   pub text_is : IsDigestOfAppended old text (export_text job.elements.now job.output job.plan.now table)
-  pub receipt : ReceiptValue
   pub is : IsReceiptOf made job (inputs_of origins fulls digests) fulls text table receipt
   -- no input is in it twice
   pub once : EachOnce (inputs_of origins fulls digests)
+
+-- and it was put
+pub record IsPut (Holds : List ℕ → Type 0) (made : MadeWith) (job : CollectJob) (origins : List Origin) (fulls : List FullReport) (digests : List (List ℕ)) (old : Option (List ℕ)) (table : Table) : Type 0 where
+  pub receipt : ReceiptValue
+  pub is_made : IsMade made job origins fulls digests old table receipt
   pub put : Holds (receipt_text receipt)
 
 -- none was put for this reason: the table wasn't written; or two inputs are the same, and then nothing was written; or memory was

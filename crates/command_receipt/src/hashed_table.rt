@@ -8,7 +8,7 @@ ghost use Rattle.command_receipt.specs.Digests.{IsDigestOfAppended};
 ghost use Rattle.command_receipt.specs.Hashing.{HasWritten};
 
 use command_collect::CollectJob;
-use flow_export::ExportFault;
+use flow_export::{AnyTable, ExportFault, Intervals};
 use flow_table::FlatTable;
 use output_tables::export;
 use sha2::{Digest, Sha256};
@@ -106,11 +106,12 @@ fn export_from<W: Write + Drop, T: Held>(
         octets: 0,
         held: PhantomData,
     };
+    let rows = AnyTable::Flat(table, Intervals::OfPlan);
     let exported = export(
         alloc,
         job.elements,
         job.plan,
-        table,
+        &rows,
         job.output,
         &mut hashed,
     );

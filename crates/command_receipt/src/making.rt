@@ -23,6 +23,8 @@ pub struct MadeWith {
     pub plan: String,
     /// The files of elements, in the order in which they were given.
     pub elements: Vec<FileReceipt>,
+    /// The file of each map of the plan, in the plan's order.
+    pub maps: Vec<FileReceipt>,
 }
 
 /// The receipt of the table of these inputs, by the digest of its text.
@@ -44,11 +46,13 @@ pub fn make_receipt(
         collectd,
         plan,
         elements,
+        maps,
     } = made;
     Ok(Receipt {
         collectd,
         plan,
         elements,
+        maps,
         inputs,
         records: counts_of(table.tally()),
         table: table_part,

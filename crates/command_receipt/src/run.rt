@@ -1,31 +1,26 @@
 //! Collecting, and writing the table and its receipt.
 
-ghost use Rattle.std.specs.Prelude.{◌≡◌, Err, IfErr, OnOk, map};
+ghost use Rattle.std.specs.Prelude.{◌≡◌, IfErr, OnOk};
 ghost use Rattle.flow_table.specs.Fitting.{FitsPlan};
 ghost use Rattle.output_tables.specs.TableTexts.{Writes};
 ghost use Rattle.report_writing.specs.Told.{AreToldTo};
 ghost use Rattle.table_receipts.specs.Texts.{receipt_text};
-ghost use Rattle.table_receipts.specs.Values.{input_value, receipt_value};
-ghost use Rattle.command_receipt.specs.Made.{IsPutReceipt};
+ghost use Rattle.table_receipts.specs.Values.{receipt_value};
 ghost use Rattle.command_receipt.specs.Runs.{IsNotPut, IsOfReceipt, IsPut, RunsReceipted};
 
 use crate::collecting::{HashedRun, collect_hashed};
 use crate::fault::{ReceiptFault, RunFault, write_run_fault};
-use crate::hashed_table::{TextDigest, WrittenTable, export_hashed};
-use crate::inputs::inputs_of;
-use crate::making::{MadeWith, make_receipt};
-use crate::once::first_twice;
+use crate::made_run::{MadeRun, make_run};
+use crate::making::MadeWith;
 use crate::place::ReceiptPlace;
 use command_collect::{CollectJob, status_of, tell, write_collect_fault};
-use flow_collect::Serial;
-use flow_table::FlatTable;
-use ipfix_session::{FullReport, Source};
+use ipfix_session::Source;
 use report_writing::{Origin, Status, WriteLines};
-use std::alloc::{AllocError, Global};
+use std::alloc::Global;
 use std::io::Write;
 use std::sync::Wait;
 use std::thread::Threads;
-use table_receipts::{InputReceipt, Receipt, write_receipt};
+use table_receipts::{Receipt, write_receipt};
 
 /// Where a table is written and its receipt is put, and what the receipt says beside the run.
 #[derive(Drop)]
@@ -91,7 +86,7 @@ pub fn run_receipted<
     Ended { status, out, place }
 }
 
-// What was written of a run, and where; or why not.
+// Where a run wrote; and why not, if it didn't.
 #[derive(Drop)]
 struct WrittenRun<W, P> {
     out: W,
@@ -117,85 +112,17 @@ fn write_run<S: Drop, W: Write + Drop, P: ReceiptPlace + Drop>(
         run.now.gathered.run.sessions.items run.now.digests.items run.now.gathered.run.table
         (result.out ≡ to.out)) }
 {
-    let Receipted { out, made, place } = to;
-    let collected = &run.gathered.run;
-    let inputs = match inputs_of(alloc, origins, &collected.sessions, &run.digests) {
-        Ok(inputs) => inputs,
-        Err(AllocError) => return without_receipt(out, place, ReceiptFault::OutOfMemory),
-    };
-    if let Some((first, second)) = first_twice(&inputs) {
-        return without_receipt(out, place, ReceiptFault::InputTwice(first, second));
-    }
-    let WrittenTable { out, answer } = export_hashed(alloc, job, &collected.table, out);
-    match answer {
-        Ok(text) => {
-            let contents = Contents { made, inputs, text };
-            let PutReceipt { place, answer } = put_receipt(alloc, job, collected, contents, place);
-            WrittenRun { out, place, answer }
-        }
-        Err(fault) => WrittenRun {
-            out,
-            place,
-            answer: Err(RunFault::Export(fault)),
-        },
-    }
-}
-
-fn without_receipt<W, P>(out: W, place: P, fault: ReceiptFault) -> WrittenRun<W, P>
-    ensures out { result.out ≡ out }
-    ensures fault { result.answer ≡ Err (RunFault.Receipt fault) }
-{
-    WrittenRun {
+    let Receipted {
         out,
-        place,
-        answer: Err(RunFault::Receipt(fault)),
-    }
-}
-
-// What a receipt says beside what was collected.
-#[derive(Drop)]
-struct Contents {
-    made: MadeWith,
-    inputs: Vec<InputReceipt>,
-    text: TextDigest,
-}
-
-// Where a receipt was put, or why not.
-#[derive(Drop)]
-struct PutReceipt<P> {
-    place: P,
-    answer: Result<(), RunFault>,
-}
-
-// Puts the receipt of what was collected.
-fn put_receipt<S: Drop, P: ReceiptPlace + Drop>(
-    alloc: Global,
-    job: &CollectJob,
-    collected: &Serial<S, FullReport, FlatTable>,
-    contents: Contents,
-    mut place: P,
-) -> PutReceipt<P>
-    requires { FitsPlan job.now.plan.now collected.now.table }
-    ensures put { OnOk result.answer (IsPutReceipt (P.holds result.place) contents.made job.now
-        (map input_value contents.inputs.items) collected.now.sessions.items contents.text
-        collected.now.table) }
-    ensures fault { IfErr result.answer IsOfReceipt }
-{
-    let Contents { made, inputs, text } = contents;
-    let made = make_receipt(
-        alloc,
         made,
-        job,
-        inputs,
-        &collected.sessions,
-        text,
-        &collected.table,
-    );
-    let answer = match made {
+        mut place,
+    } = to;
+    let MadeRun { out, answer } = make_run(alloc, job, origins, run, out, made);
+    let answer = match answer {
         Ok(receipt) => put_text(alloc, &receipt, &mut place),
-        Err(AllocError) => Err(RunFault::Receipt(ReceiptFault::OutOfMemory)),
+        Err(fault) => Err(fault),
     };
-    PutReceipt { place, answer }
+    WrittenRun { out, place, answer }
 }
 
 // Puts the text of a receipt.

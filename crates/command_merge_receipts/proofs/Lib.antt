@@ -1,0 +1,4 @@
+pub mod TextsAdded
+pub mod TablesMerged
+pub mod Ended
+pub mod Taken

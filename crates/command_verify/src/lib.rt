@@ -1,0 +1,9 @@
+//! The command that compares a table with its receipt.
+#![tactic(auto)]
+
+mod names;
+mod telling;
+mod verify;
+
+pub use names::table_of_receipt;
+pub use verify::{VerifyJob, run_verify};

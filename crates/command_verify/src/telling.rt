@@ -1,0 +1,58 @@
+//! The lines of what was found.
+
+ghost use Rattle.std.specs.Prelude.{◌≡◌, codes, length, map};
+ghost use Rattle.report_writing.specs.Told.{AreToldTo};
+ghost use Rattle.report_writing.specs.Writing.{Tells};
+ghost use Rattle.table_receipts.specs.Values.{receipt_value};
+ghost use Rattle.command_verify.specs.Verified.{TellsDifferences, fault_line, fault_status, verified_line};
+
+use report_writing::{Status, WriteLines, write_fault};
+use std::io;
+use table_receipts::{Receipt, ReceiptFault};
+
+/// Tells what differs from a receipt, by its lines; or, if nothing does, that.
+pub fn tell_differences<E: WriteLines>(receipt: &Receipt, lines: &[u8], err: &mut E) -> Status
+    ensures tells { TellsDifferences (receipt_value receipt.now) lines.now result
+        (AreToldTo E.contents E.failed err.old err.new) }
+    ensures kept { E.failed err.old → E.failed err.new }
+{
+    match lines {
+        [] => {
+            let _ = write_verified(receipt.inputs.len(), receipt.table.rows, err);
+            Status::Well
+        }
+        [_, ..] => {
+            let _ = err.write_all(lines);
+            Status::SessionFault
+        }
+    }
+}
+
+#[tactic(auto, unfolding(crate::specs::Verified::verified_line))]
+fn write_verified<E: WriteLines>(inputs: usize, rows: u64, err: &mut E) -> io::Result<()>
+    ensures { Tells E.contents E.failed err.old err.new result (verified_line inputs rows) }
+{
+    writeln!(err, "collectd: verified: inputs {inputs} rows {rows}")
+}
+
+/// Tells why a text isn't read as a receipt.
+pub fn tell_fault<E: WriteLines>(fault: ReceiptFault, err: &mut E) -> Status
+    ensures status { result ≡ fault_status fault }
+    ensures told { AreToldTo E.contents E.failed err.old err.new (fault_line fault) }
+    ensures kept { E.failed err.old → E.failed err.new }
+{
+    let _ = write_receipt_fault(fault, err);
+    match fault {
+        ReceiptFault::OutOfMemory => Status::Failed,
+        ReceiptFault::NotAReceipt => Status::NotOpened,
+    }
+}
+
+fn write_receipt_fault<E: WriteLines>(fault: ReceiptFault, err: &mut E) -> io::Result<()>
+    ensures { Tells E.contents E.failed err.old err.new result (fault_line fault) }
+{
+    match fault {
+        ReceiptFault::OutOfMemory => write_fault("verify", 1, "OutOfMemory", err),
+        ReceiptFault::NotAReceipt => write_fault("verify", 2, "NotAReceipt", err),
+    }
+}
