@@ -36,7 +36,7 @@ install: bin/collectd
 	cd share && find . -type f ! -path './zsh/*' -exec install -D -m 644 {} $(abspath $(DESTDIR)$(PREFIX))/share/{} ';'
 	install -D -m 644 -t $(DESTDIR)$(PREFIX)/share/zsh/$(ZSH) share/zsh/site-functions/_collectd
 	install -D -t $(DESTDIR)$(PREFIX)/lib/collectd examples/collect_rounds
-	install -D -t $(DESTDIR)$(PREFIX)/lib/collectd/scale scale/*
+	install -D -t $(DESTDIR)$(PREFIX)/lib/collectd/scale scale/merge scale/shard scale/slurm
 
 dist: bin/collectd ; @packaging/dist
 

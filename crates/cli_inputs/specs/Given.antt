@@ -7,9 +7,9 @@ use Rattle.report_writing.specs.declared.verbosity.Verbosity.{Verbosity}
 use Rattle.cli_words.specs.Given.{IsFlagGiven, IsNumberGiven, count_given, text_given, texts_given}
 use Rattle.cli_words.specs.declared.chosen.Chosen.{Chosen}
 use Rattle.cli_words.specs.declared.subcommands.Subcommand.TheVariants as command
-use Rattle.cli_inputs.specs.Formats.{form_word, format_word}
+use Rattle.cli_inputs.specs.Formats.{form_word, format_word, interval_word}
 use Rattle.cli_inputs.specs.declared.arguments.Arguments.{Arguments}
-use Rattle.cli_inputs.specs.declared.arguments.Arguments.TheVariants.{Dump, Files, Tcp, Record, Finish, Merge, Elements, Explain}
+use Rattle.cli_inputs.specs.declared.arguments.Arguments.TheVariants.{Dump, Files, Tcp, Record, Finish, Merge, Verify, Elements, Explain}
 use Rattle.cli_inputs.specs.declared.arguments.DumpArguments.{DumpArguments}
 use Rattle.cli_inputs.specs.declared.arguments.TableArguments.{TableArguments}
 use Rattle.cli_inputs.specs.declared.arguments.CollectArguments.{CollectArguments}
@@ -18,6 +18,7 @@ use Rattle.cli_inputs.specs.declared.arguments.TcpArguments.{TcpArguments}
 use Rattle.cli_inputs.specs.declared.arguments.RecordArguments.{RecordArguments}
 use Rattle.cli_inputs.specs.declared.arguments.FinishArguments.{FinishArguments}
 use Rattle.cli_inputs.specs.declared.arguments.MergeArguments.{MergeArguments}
+use Rattle.cli_inputs.specs.declared.arguments.VerifyArguments.{VerifyArguments}
 use Rattle.cli_inputs.specs.declared.arguments.ElementsArguments.{ElementsArguments}
 use Rattle.cli_inputs.specs.declared.arguments.ExplainArguments.{ExplainArguments}
 use Rattle.cli_inputs.specs.declared.arguments.ShowProgress.{ShowProgress}
@@ -78,6 +79,7 @@ module _ (chosen : Chosen) where
     pub sessions : IsNumberGiven chosen (codes "sessions") (Some told.sessions)
     pub peers : IsNumberGiven chosen (codes "peers") (Some (non_zero_usize_get told.peers))
     pub reorder : IsNumberGiven chosen (codes "reorder") (Some told.reorder)
+    pub templates : IsNumberGiven chosen (codes "templates") (Some told.templates)
     pub buffer : IsNumberGiven chosen (codes "buffer") (Some told.buffer)
     pub prefixes : map (λ prefix. prefix.now) told.prefixes.now ≡ texts_given chosen (codes "from")
     pub idle : IsDurationGiven (codes "idle") told.idle
@@ -90,6 +92,17 @@ module _ (chosen : Chosen) where
   pub record IsMerge (told : MergeArguments) : Type 0 where
     pub table : IsTable told.table
     pub files : map (λ path. path.now) told.paths.now ≡ texts_given chosen (codes "file")
+    pub into : option_map interval_word told.into ≡ text_given chosen (codes "into")
+    pub zone : option_map (λ zone. zone.now) told.zone ≡ text_given chosen (codes "zone")
+    pub receipts : IsFlagGiven chosen (codes "receipts") told.receipts
+    pub receipts_of : map (λ word. word.now) told.receipts_of.now ≡ texts_given chosen (codes "receipt-of")
+    pub incomplete : IsFlagGiven chosen (codes "incomplete") told.incomplete
+
+  pub record IsVerify (told : VerifyArguments) : Type 0 where
+    pub receipt : text_given chosen (codes "receipt") ≡ Some told.receipt.now
+    pub table : option_map (λ path. path.now) told.table ≡ text_given chosen (codes "table")
+    pub verbose : IsFlagGiven chosen (codes "verbose") told.verbosity.verbose
+    pub strict : told.verbosity.strict ≡ false
 
   pub record IsElements (told : ElementsArguments) : Type 0 where
     pub elements : map (λ path. path.now) told.element_files.now ≡ texts_given chosen (codes "elements")
@@ -106,5 +119,6 @@ module _ (chosen : Chosen) where
   IsGiven (Record told) = (chosen.command ≡ command.Record) × IsRecord told
   IsGiven (Finish told) = (chosen.command ≡ command.Finish) × IsFinish told
   IsGiven (Merge told) = (chosen.command ≡ command.Merge) × IsMerge told
+  IsGiven (Verify told) = (chosen.command ≡ command.Verify) × IsVerify told
   IsGiven (Elements told) = (chosen.command ≡ command.Elements) × IsElements told
   IsGiven (Explain told) = (chosen.command ≡ command.Explain) × IsExplain told

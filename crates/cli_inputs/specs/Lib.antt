@@ -1,3 +1,5 @@
 -- What public contracts cite.
 pub mod Formats
 pub mod Given
+pub mod MapFiles
+pub mod Zones

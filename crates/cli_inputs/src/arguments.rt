@@ -1,18 +1,20 @@
 //! What the words of each command say.
 
 ghost use Rattle.std.specs.Prelude.{◌≡◌, IfSome, IsSome};
-ghost use Rattle.cli_inputs.specs.Given.{IsCollect, IsDump, IsFiles, IsFinish, IsGiven, IsMerge, IsRecord, IsTable, IsTcp, IsDurationGiven, IsVerbosity};
+ghost use Rattle.cli_inputs.specs.Given.{IsCollect, IsDump, IsFiles, IsFinish, IsGiven, IsMerge, IsRecord, IsTable, IsTcp, IsDurationGiven, IsVerbosity, IsVerify};
 ghost use Rattle.cli_words.specs.Arguments.{OneNumber, reading_of};
 
-use crate::formats::{dump_form, table_format};
+use crate::formats::{dump_form, merge_interval, table_format};
 use cli_words::{
     Argument, BUFFER, Chosen, DIRECT, DUMP_FORMAT, ELEMENTS, EVERY, EXPORTER, FAULT, FILES_FROM,
-    FLOW_FILES, FOLDER, FROM, IDLE, INTO, LISTEN, PEERS, PLAN, PROGRESS, RECEIPT, RECORD_IDLE,
-    RECORD_LISTEN, RECORD_SESSIONS, RECORD_VERBOSE, REORDER, RING, SESSIONS, STRICT, Subcommand,
-    TABLE_FILES, TABLE_FORMAT, TIME, UDP, VERBOSE, WORD, WORKERS,
+    FLOW_FILES, FOLDER, FROM, IDLE, INCOMPLETE, INTO, LISTEN, MERGE_INTO, PEERS, PLAN, PROGRESS,
+    RECEIPT, RECEIPT_FILE, RECEIPT_OF, RECEIPTS, RECORD_IDLE, RECORD_LISTEN, RECORD_SESSIONS,
+    RECORD_VERBOSE, REORDER, RING, SESSIONS, STRICT, Subcommand, TABLE, TABLE_FILES, TABLE_FORMAT,
+    TEMPLATES, TIME, UDP, VERBOSE, WORD, WORKERS, ZONE,
 };
 use flow_collect::Pool;
 use ipfix_dump::Form;
+use local_days::LocalInterval;
 use output_tables::Output;
 use report_writing::Verbosity;
 use std::num::{NonZeroU64, NonZeroUsize};
@@ -27,6 +29,7 @@ pub enum Arguments<'m, 'w> {
     Record(RecordArguments<'m, 'w>),
     Finish(FinishArguments<'w>),
     Merge(MergeArguments<'m, 'w>),
+    Verify(VerifyArguments<'w>),
     Elements(ElementsArguments<'m, 'w>),
     Explain(ExplainArguments<'w>),
 }
@@ -109,6 +112,8 @@ pub struct RecordArguments<'m, 'w> {
     /// How many seconds a datagram waits for those before it if it is ahead of the due sequence number. With 0 none
     /// waits, and none is held for doubled.
     pub reorder: u64,
+    /// What the templates of a peer that sends datagrams may count.
+    pub templates: u64,
     /// How many octets of datagrams that nobody took yet the system is asked to keep.
     pub buffer: u32,
     /// The prefixes that peers may have, as they were given.
@@ -131,6 +136,23 @@ pub struct FinishArguments<'w> {
 pub struct MergeArguments<'m, 'w> {
     pub table: TableArguments<'m, 'w>,
     pub paths: &'m [&'w str],
+    /// The local intervals that rows are put in, if that was given, and the name of their time zone.
+    pub into: Option<LocalInterval>,
+    pub zone: Option<&'w str>,
+    /// Whether the files are merged by their receipts; words of those receipts that have other names than FILE.receipt;
+    /// and whether files are merged whose receipts aren't complete, too.
+    pub receipts: bool,
+    pub receipts_of: &'m [&'w str],
+    pub incomplete: bool,
+}
+
+/// What `verify` is told.
+#[derive(Clone, Copy)]
+pub struct VerifyArguments<'w> {
+    /// The path of the receipt, and that of the table, if it was given.
+    pub receipt: &'w str,
+    pub table: Option<&'w str>,
+    pub verbosity: Verbosity,
 }
 
 /// What `elements` is told.
@@ -160,6 +182,7 @@ pub fn read_arguments<'m, 'w>(chosen: Chosen<'m, 'w>) -> Option<Arguments<'m, 'w
         Subcommand::Record => Some(Arguments::Record(read_record(chosen)?)),
         Subcommand::Finish => Some(Arguments::Finish(read_finish(chosen)?)),
         Subcommand::Merge => Some(Arguments::Merge(read_merge(chosen)?)),
+        Subcommand::Verify => Some(Arguments::Verify(read_verify(chosen)?)),
         Subcommand::Elements => Some(Arguments::Elements(ElementsArguments {
             element_files: chosen.texts(ELEMENTS),
             word: chosen.text(WORD),
@@ -259,6 +282,7 @@ fn read_record<'m, 'w>(chosen: Chosen<'m, 'w>) -> Option<RecordArguments<'m, 'w>
     let sessions = chosen.number(RECORD_SESSIONS)?;
     let peers = chosen.number(PEERS)?;
     let reorder = chosen.number(REORDER)?;
+    let templates = chosen.number(TEMPLATES)?;
     Some(RecordArguments {
         into: chosen.text(INTO)?,
         listen: chosen.text(RECORD_LISTEN),
@@ -267,6 +291,7 @@ fn read_record<'m, 'w>(chosen: Chosen<'m, 'w>) -> Option<RecordArguments<'m, 'w>
         sessions: sessions as usize,
         peers: NonZeroUsize::new(peers as usize)?,
         reorder: u64::from(reorder),
+        templates: u64::from(templates),
         buffer: chosen.number(BUFFER)?,
         prefixes: chosen.texts(FROM),
         idle: read_duration(chosen, RECORD_IDLE),
@@ -290,9 +315,32 @@ fn read_merge<'m, 'w>(chosen: Chosen<'m, 'w>) -> Option<MergeArguments<'m, 'w>>
     ensures told { IfSome result (IsMerge chosen.entry) }
     ensures each { (told : MergeArguments) → IsMerge chosen.entry told → IsSome result }
 {
+    let into = match chosen.text(MERGE_INTO) {
+        Some(word) => Some(merge_interval(word)?),
+        None => None,
+    };
     Some(MergeArguments {
         table: read_table(chosen)?,
         paths: chosen.texts(TABLE_FILES),
+        into,
+        zone: chosen.text(ZONE),
+        receipts: chosen.is_given(RECEIPTS),
+        receipts_of: chosen.texts(RECEIPT_OF),
+        incomplete: chosen.is_given(INCOMPLETE),
+    })
+}
+
+fn read_verify<'m, 'w>(chosen: Chosen<'m, 'w>) -> Option<VerifyArguments<'w>>
+    ensures told { IfSome result (IsVerify chosen.entry) }
+    ensures each { (told : VerifyArguments) → IsVerify chosen.entry told → IsSome result }
+{
+    Some(VerifyArguments {
+        receipt: chosen.text(RECEIPT_FILE)?,
+        table: chosen.text(TABLE),
+        verbosity: Verbosity {
+            verbose: chosen.is_given(VERBOSE),
+            strict: false,
+        },
     })
 }
 

@@ -1,11 +1,12 @@
-//! The formats that the words of `--format` name.
+//! What the words of `--format` and of `--into` of `merge` name.
 
 ghost use Rattle.std.specs.Prelude.{◌≡◌, All, Some, IfSome, IsSome};
-ghost use Rattle.cli_inputs.specs.Formats.{form_word, format_word};
-ghost use Rattle.cli_words.specs.declared.format_words.TheConstants.{DUMP_FORMATS, TABLE_FORMATS};
+ghost use Rattle.cli_inputs.specs.Formats.{form_word, format_word, interval_word};
+ghost use Rattle.cli_words.specs.declared.format_words.TheConstants.{DUMP_FORMATS, MERGE_INTERVALS, TABLE_FORMATS};
 
 use flow_export::Format;
 use ipfix_dump::Form;
+use local_days::LocalInterval;
 
 /// The form of a dump that a word names.
 pub fn dump_form(word: &str) -> Option<Form>
@@ -32,6 +33,21 @@ pub fn table_format(word: &str) -> Option<Format>
         "csv" => Some(Format::Csv),
         "ipfix" => Some(Format::Ipfix),
         "json" => Some(Format::Json),
+        _ => None,
+    }
+}
+
+/// The local intervals that a word names.
+pub fn merge_interval(word: &str) -> Option<LocalInterval>
+    ensures names { IfSome result (λ interval. word.now ≡ interval_word interval) }
+    ensures each { (interval : LocalInterval)
+        → word.now ≡ interval_word interval → result ≡ Some interval }
+    // The parser lets through no word that names none.
+    ensures known { All (λ w. word.now ≡ w.now → IsSome result) MERGE_INTERVALS }
+{
+    match word {
+        "day" => Some(LocalInterval::Day),
+        "month" => Some(LocalInterval::Month),
         _ => None,
     }
 }

@@ -5,6 +5,7 @@ use crate::progress_output::{ProgressOutput, open_terminal};
 use crate::receipts::{PlanAndReceipt, ReceiptTo, load_with_receipt};
 use crate::timers::ask_for_short_sleeps;
 use flow_export::ExportFault;
+use flow_maps::Maps;
 use input_files::{ReadText, load_elements};
 use input_sources::{LoadedPlan, WithReason, load_plan};
 use output_tables::write_export_fault;
@@ -64,6 +65,8 @@ pub fn load_from<T: ReadText>(
 pub struct Collecting<'r> {
     /// The plan, with the elements by which it names its keys and counters, and texts name them again.
     pub loaded: LoadedPlan,
+    /// The plan's maps, if it names some.
+    pub maps: Option<Maps>,
     pub out: BufWriter<WithReason<Stdout>>,
     /// Where the receipt is put, and what it says beside the run, if there is to be one.
     pub receipt: Option<ReceiptTo<'r>>,
@@ -77,7 +80,11 @@ pub fn prepare_collecting<'r>(
     arguments: &CollectArguments,
     err: &mut Stderr,
 ) -> Result<Collecting<'r>, Status> {
-    let PlanAndReceipt { loaded, receipt } = load_with_receipt(rt, arguments, err)?;
+    let PlanAndReceipt {
+        loaded,
+        maps,
+        receipt,
+    } = load_with_receipt(rt, arguments, err)?;
     let out = table_output(rt, err)?;
     ask_for_short_sleeps(rt);
     let terminal = match arguments.progress {
@@ -86,6 +93,7 @@ pub fn prepare_collecting<'r>(
     };
     Ok(Collecting {
         loaded,
+        maps,
         out,
         receipt,
         terminal,

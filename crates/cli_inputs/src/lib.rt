@@ -7,15 +7,18 @@ mod formats;
 mod inputs;
 mod listed_files;
 mod listening;
+mod part_receipts;
+mod plan_maps;
 mod progress_output;
 mod receipts;
 mod refused;
 mod timers;
+mod zones;
 
 pub use arguments::{
     Arguments, CollectArguments, DumpArguments, ElementsArguments, ExplainArguments,
     FilesArguments, FinishArguments, MergeArguments, RecordArguments, ShowProgress, TableArguments,
-    TcpArguments, read_arguments,
+    TcpArguments, VerifyArguments, read_arguments,
 };
 pub use exporters::{check_exporters, place_exporters};
 pub use inputs::{
@@ -23,6 +26,9 @@ pub use inputs::{
 };
 pub use listed_files::{all_paths, check_paths, read_list};
 pub use listening::listen_on;
+pub use part_receipts::{check_receipts, receipt_paths};
+pub use plan_maps::{MapsOfPlan, load_plan_maps};
 pub use progress_output::ProgressOutput;
-pub use receipts::ReceiptTo;
+pub use receipts::{PlanMade, ReceiptTo, load_plan_made};
 pub use refused::{WITH_REASONS, write_refused_output};
+pub use zones::zone_borders;

@@ -4,11 +4,13 @@ ghost use Rattle.std.specs.Prelude.{⊤};
 
 use crate::arguments::{CollectArguments, TableArguments};
 use crate::inputs::{load_from, load_table_plan};
+use crate::plan_maps::{MapsOfPlan, load_plan_maps};
 use cli_words::VERSION;
 use command_receipt::{MadeWith, ReceiptFault, RunFault, SystemPlace, write_run_fault};
+use flow_maps::Maps;
 use input_files::ReadText;
 use input_sources::LoadedPlan;
-use report_writing::{Reason, Status, write_not_had_because};
+use report_writing::{CheckedWriter, Reason, Status, write_not_had_because};
 use sha2::{Digest, Sha256};
 use std::alloc::{AllocError, Global};
 use std::io::Stderr;
@@ -21,14 +23,16 @@ pub struct ReceiptTo<'r> {
     pub made: MadeWith,
 }
 
-/// A plan, and its receipt's place, if there is to be one.
+/// A plan, its maps, and its receipt's place, if there is to be one.
 #[derive(Drop)]
 pub struct PlanAndReceipt<'r> {
     pub loaded: LoadedPlan,
+    /// The plan's maps, if it names some.
+    pub maps: Option<Maps>,
     pub receipt: Option<ReceiptTo<'r>>,
 }
 
-/// Loads the plan, and makes the place of its receipt. `err` has a line if it can't be made.
+/// Loads the plan and its maps, and makes the place of its receipt. `err` has a line if it can't be made.
 pub fn load_with_receipt<'r>(
     rt: &'r HostRuntime,
     arguments: &CollectArguments,
@@ -37,8 +41,10 @@ pub fn load_with_receipt<'r>(
     let table = &arguments.table;
     let Some(path) = arguments.receipt else {
         let loaded = load_table_plan(rt, table).ok_or(Status::NotOpened)?;
+        let MapsOfPlan { maps, .. } = load_maps_of(rt, table, &loaded)?;
         return Ok(PlanAndReceipt {
             loaded,
+            maps,
             receipt: None,
         });
     };
@@ -46,12 +52,14 @@ pub fn load_with_receipt<'r>(
         return Err(without_memory(err));
     };
     let loaded = load_from(rt, &texts, table).ok_or(Status::NotOpened)?;
-    let Ok(made) = texts.made(rt.alloc()) else {
+    let MapsOfPlan { maps, files } = load_maps_of(rt, table, &loaded)?;
+    let Ok(made) = texts.made(rt.alloc(), files) else {
         return Err(without_memory(err));
     };
     match SystemPlace::make(rt, rt.alloc(), path) {
         Ok(place) => Ok(PlanAndReceipt {
             loaded,
+            maps,
             receipt: Some(ReceiptTo { place, made }),
         }),
         Err(reason) => {
@@ -59,6 +67,47 @@ pub fn load_with_receipt<'r>(
             Err(Status::NotOpened)
         }
     }
+}
+
+/// A plan, and what a receipt says of it.
+#[derive(Drop)]
+pub struct PlanMade {
+    pub loaded: LoadedPlan,
+    pub made: MadeWith,
+}
+
+/// Loads the plan that parts are merged under, with what their receipts have to say of it.
+pub fn load_plan_made(
+    rt: &HostRuntime,
+    table: &TableArguments,
+    err: &mut Stderr,
+) -> Result<PlanMade, Status> {
+    let Ok(texts) = KeptTexts::of(rt, table) else {
+        return Err(without_memory(err));
+    };
+    let loaded = load_from(rt, &texts, table).ok_or(Status::NotOpened)?;
+    let MapsOfPlan { files, .. } = load_maps_of(rt, table, &loaded)?;
+    match texts.made(rt.alloc(), files) {
+        Ok(made) => Ok(PlanMade { loaded, made }),
+        Err(AllocError) => Err(without_memory(err)),
+    }
+}
+
+// The maps of a plan, from the system's files. If there is a fault, standard error has a line.
+fn load_maps_of(
+    rt: &HostRuntime,
+    table: &TableArguments,
+    loaded: &LoadedPlan,
+) -> Result<MapsOfPlan, Status> {
+    let mut err = CheckedWriter::new(rt.stderr());
+    load_plan_maps(
+        rt,
+        rt.alloc(),
+        table.plan,
+        &loaded.maps,
+        table.verbosity,
+        &mut err,
+    )
 }
 
 // There was no memory for what a receipt says.
@@ -112,8 +161,8 @@ impl KeptTexts {
         &self.plan.text
     }
 
-    // What a receipt says of them.
-    fn made(self, alloc: Global) -> Result<MadeWith, AllocError> {
+    // What a receipt says of them, and of these files of maps.
+    fn made(self, alloc: Global, maps: Vec<FileReceipt>) -> Result<MadeWith, AllocError> {
         let mut elements = Vec::with_capacity(alloc, self.elements.len())?;
         for kept in &self.elements {
             elements.push(file_of(alloc, kept)?)?;
@@ -126,6 +175,7 @@ impl KeptTexts {
             collectd: String::from_str(alloc, VERSION)?,
             plan,
             elements,
+            maps,
         })
     }
 }

@@ -19,6 +19,14 @@ pub const TABLE_FILES: Argument = Argument {
     help: "A table that was written as IPFIX under the same plan; '-' is standard input",
 };
 
+/// The receipt that `verify` reads.
+pub const RECEIPT_FILE: Argument = Argument {
+    word: "receipt",
+    takes: Takes::Bare("RECEIPT"),
+    due: Due::Always,
+    help: "A receipt that was written with a table",
+};
+
 /// What `finish` finishes.
 pub const FOLDER: Argument = Argument {
     word: "folder",

@@ -1,14 +1,15 @@
 //! What the parser is told of each command.
 
 use crate::arguments::Argument;
-use crate::bare_arguments::{FAULT, FLOW_FILES, FOLDER, TABLE_FILES, WORD};
+use crate::bare_arguments::{FAULT, FLOW_FILES, FOLDER, RECEIPT_FILE, TABLE_FILES, WORD};
 use crate::listen_options::{
     BUFFER, EVERY, FROM, IDLE, INTO, LISTEN, PEERS, RECORD_IDLE, RECORD_LISTEN, RECORD_SESSIONS,
-    RECORD_VERBOSE, REORDER, SESSIONS, UDP,
+    RECORD_VERBOSE, REORDER, SESSIONS, TEMPLATES, UDP,
 };
 use crate::options::{
-    DIRECT, DUMP_FORMAT, ELEMENTS, EXPORTER, FILES_FROM, MERGE_STRICT, PLAN, PROGRESS, RECEIPT,
-    RING, STRICT, TABLE_FORMAT, TIME, VERBOSE, WORKERS,
+    DIRECT, DUMP_FORMAT, ELEMENTS, EXPORTER, FILES_FROM, INCOMPLETE, MERGE_INTO, MERGE_STRICT,
+    PLAN, PROGRESS, RECEIPT, RECEIPT_OF, RECEIPTS, RING, STRICT, TABLE, TABLE_FORMAT, TIME,
+    VERBOSE, WORKERS, ZONE,
 };
 
 /// A command.
@@ -76,6 +77,7 @@ pub const RECORD: CommandWords = CommandWords {
         RECORD_SESSIONS,
         PEERS,
         REORDER,
+        TEMPLATES,
         BUFFER,
         FROM,
         RECORD_IDLE,
@@ -101,10 +103,22 @@ pub const MERGE: CommandWords = CommandWords {
         ELEMENTS,
         TABLE_FORMAT,
         TIME,
+        MERGE_INTO,
+        ZONE,
+        RECEIPTS,
+        RECEIPT_OF,
+        INCOMPLETE,
         VERBOSE,
         MERGE_STRICT,
         TABLE_FILES,
     ],
+};
+
+pub const VERIFY: CommandWords = CommandWords {
+    about: "Compares a table with its receipt",
+    example: "Example:\n  collectd verify table.csv.receipt",
+    shared: &[],
+    own: &[TABLE, VERBOSE, RECEIPT_FILE],
 };
 
 pub const LIST_ELEMENTS: CommandWords = CommandWords {

@@ -1,7 +1,9 @@
 //! The options that commands share.
 
 use crate::arguments::{Argument, Due, LARGEST, Takes};
-use crate::format_words::{DUMP_FORMAT_DEFAULT, DUMP_FORMATS, TABLE_FORMAT_DEFAULT, TABLE_FORMATS};
+use crate::format_words::{
+    DUMP_FORMAT_DEFAULT, DUMP_FORMATS, MERGE_INTERVALS, TABLE_FORMAT_DEFAULT, TABLE_FORMATS,
+};
 
 /// The word of the option that stands for the files that `files` reads.
 pub const FILES_FROM_WORD: &str = "files-from";
@@ -85,6 +87,14 @@ pub const RECEIPT: Argument = Argument {
     help: "Write to FILE, when the table is written, what it was made of; a receipt that FILE has is replaced",
 };
 
+/// The table of a receipt.
+pub const TABLE: Argument = Argument {
+    word: "table",
+    takes: Takes::Text("FILE"),
+    due: Due::Never,
+    help: "The table, if it isn't the receipt's path without '.receipt' at its end",
+};
+
 pub const PROGRESS: Argument = Argument {
     word: "progress",
     takes: Takes::Nothings,
@@ -102,7 +112,7 @@ pub const VERBOSE: Argument = Argument {
     help: "Print more on standard error: what was opened, what was not counted, where faults are, and why",
 };
 
-// The word of an option that changes nothing for `merge`.
+// The word of an option that says less for `merge`.
 const STRICT_WORD: &str = "strict";
 
 pub const STRICT: Argument = Argument {
@@ -112,10 +122,50 @@ pub const STRICT: Argument = Argument {
     help: "End with status 1 also if anything was lost or not counted, and print what",
 };
 
+/// The intervals that `merge` puts rows in.
+pub const MERGE_INTO: Argument = Argument {
+    word: "into",
+    takes: Takes::Word("INTERVAL", &MERGE_INTERVALS),
+    due: Due::Never,
+    help: "Add the rows of shorter intervals up into local days or months",
+};
+
+/// Whose days and months they are.
+pub const ZONE: Argument = Argument {
+    word: "zone",
+    takes: Takes::Text("ZONE"),
+    due: Due::Never,
+    help: "The time zone of the days and months of --into, as Europe/Zurich; by default UTC",
+};
+
+/// Whether `merge` reads the receipts of its files.
+pub const RECEIPTS: Argument = Argument {
+    word: "receipts",
+    takes: Takes::Nothing(None),
+    due: Due::Never,
+    help: "Merge FILE by its receipt, FILE.receipt: no input with data records may come twice",
+};
+
+/// Receipts of files that have other names.
+pub const RECEIPT_OF: Argument = Argument {
+    word: "receipt-of",
+    takes: Takes::Texts("FILE=RECEIPT"),
+    due: Due::Never,
+    help: "With --receipts: the receipt that FILE has; may be repeated",
+};
+
+/// Whether `merge` takes parts that aren't complete.
+pub const INCOMPLETE: Argument = Argument {
+    word: "incomplete",
+    takes: Takes::Nothing(None),
+    due: Due::Never,
+    help: "With --receipts: merge files whose receipts aren't complete, too",
+};
+
 /// The same of `merge`.
 pub const MERGE_STRICT: Argument = Argument {
     word: STRICT_WORD,
     takes: Takes::Nothing(None),
     due: Due::Never,
-    help: "Changes nothing: a file with anything missing is refused in any case",
+    help: "End with status 1 if a file that --incomplete let through isn't complete",
 };

@@ -12,19 +12,21 @@ pub enum Subcommand {
     Record,
     Finish,
     Merge,
+    Verify,
     Elements,
     Explain,
 }
 
 impl Subcommand {
     /// All of them, in the order of the help.
-    pub const ALL: [Subcommand; 8] = [
+    pub const ALL: [Subcommand; 9] = [
         Subcommand::Dump,
         Subcommand::Files,
         Subcommand::Tcp,
         Subcommand::Record,
         Subcommand::Finish,
         Subcommand::Merge,
+        Subcommand::Verify,
         Subcommand::Elements,
         Subcommand::Explain,
     ];
@@ -40,6 +42,7 @@ impl Subcommand {
             Subcommand::Record => "record",
             Subcommand::Finish => "finish",
             Subcommand::Merge => "merge",
+            Subcommand::Verify => "verify",
             Subcommand::Elements => "elements",
             Subcommand::Explain => "explain",
         }
@@ -57,6 +60,7 @@ impl Subcommand {
             "record" => Some(Subcommand::Record),
             "finish" => Some(Subcommand::Finish),
             "merge" => Some(Subcommand::Merge),
+            "verify" => Some(Subcommand::Verify),
             "elements" => Some(Subcommand::Elements),
             "explain" => Some(Subcommand::Explain),
             _ => None,

@@ -2,7 +2,7 @@
 
 use crate::arguments::Argument;
 use crate::commands::{
-    CommandWords, DUMP, EXPLAIN, FILES, FINISH, LIST_ELEMENTS, MERGE, RECORD, TCP,
+    CommandWords, DUMP, EXPLAIN, FILES, FINISH, LIST_ELEMENTS, MERGE, RECORD, TCP, VERIFY,
 };
 use crate::subcommands::Subcommand;
 use clap::{ArgMatches, Command, Error};
@@ -57,6 +57,7 @@ fn words_of(named: Subcommand) -> CommandWords {
         Subcommand::Record => RECORD,
         Subcommand::Finish => FINISH,
         Subcommand::Merge => MERGE,
+        Subcommand::Verify => VERIFY,
         Subcommand::Elements => LIST_ELEMENTS,
         Subcommand::Explain => EXPLAIN,
     }

@@ -1,31 +1,41 @@
 //! The commands. Each answers how it ended; an error says how if the library was not called.
 
 ghost use Rattle.std.specs.Prelude.{◌≡◌, MatchBool};
-ghost use Rattle.std.specs.Option.{option_map};
-ghost use Rattle.flow_filtered_plan.specs.FilteredPlans.{context_of, filter_of};
+ghost use Rattle.std.specs.Option.{ForSome, option_map};
+ghost use Rattle.flow_filtered_plan.specs.FilteredPlans.{filter_of};
+ghost use Rattle.flow_plan_maps.specs.Wants.{wanted_context as context_wanted};
+ghost use Rattle.flow_merge.specs.RowRecords.{AreOrdered, CanTakeRows};
 
 use cli_inputs::{
-    CollectArguments, Collecting, DumpArguments, FilesArguments, MergeArguments, ProgressOutput,
-    ReceiptTo, TableArguments, TcpArguments, all_paths, buffered_output, check_exporters,
-    check_paths, listen_on, load_table_plan, place_exporters, prepare_collecting, progress_writer,
-    read_list, table_output, write_refused_output,
+    CollectArguments, Collecting, DumpArguments, FilesArguments, MergeArguments, PlanMade,
+    ProgressOutput, ReceiptTo, TableArguments, TcpArguments, VerifyArguments, all_paths,
+    buffered_output, check_exporters, check_paths, check_receipts, listen_on, load_plan_made,
+    load_table_plan, place_exporters, prepare_collecting, progress_writer, read_list,
+    receipt_paths, table_output, write_refused_output, zone_borders,
 };
 use command_collect::{
     CollectJob, Connections, Engine, run_files_with, run_tcp_with, write_collect_fault, write_limit,
 };
 use command_dump::{DumpJob, run_dump_with, write_dump_fault};
 use command_merge::{MergeJob, run_merge_with};
+use command_merge_receipts::{PartsJob, run_merge_parts};
 use command_receipt::{Ended, Receipted, SystemPlace, run_files_receipted, run_tcp_receipted};
+use command_verify::{VerifyJob, run_verify, table_of_receipt};
 use flow_collect::{CollectFault, Pool};
+use flow_export::Intervals;
+use flow_maps::Maps;
+use flow_plan_maps::wanted_context;
 use input_sources::{FilesInTurn, LoadedPlan, OpenSource, SystemFiles, SystemListener, WithReason};
 use ipfix_dump::DumpFault;
 use ipfix_session::{FromReader, Source};
 use report_writing::{CheckedWriter, Origin, Status, Verbosity};
+use std::alloc::{AllocError, Global};
 use std::io::{BufWriter, Stderr, Stdout};
 use std::net::IpAddr;
 use std::rt::Clock;
 use std::sync::Wait;
 use std::thread::Threads;
+use table_parts::{PartFiles, PlanAtHand};
 
 /// `collectd dump`: standard input to standard output.
 pub fn dump(rt: &HostRuntime, arguments: &DumpArguments) -> Result<Status, Status> {
@@ -83,12 +93,13 @@ pub fn files<R: Clock + Threads + Wait + Sync>(
     };
     let Collecting {
         loaded,
+        maps,
         out,
         receipt,
         terminal,
     } = prepare_collecting(rt, &collect, &mut err)?;
     let engine = engine_of(direct, collect.pool);
-    let job = collect_job(&loaded, &collect, engine, &exporters);
+    let job = collect_job(&loaded, maps.as_ref(), &collect, engine, &exporters);
     let progress = progress_writer(collect.progress, &terminal, rt);
     let to = TableTo { out, receipt };
     let TableWritten { status, out } = if direct {
@@ -190,6 +201,7 @@ pub fn tcp<R: Clock + Threads + Wait + Sync>(
     } = *arguments;
     let Collecting {
         loaded,
+        maps,
         out,
         receipt,
         terminal,
@@ -209,7 +221,7 @@ pub fn tcp<R: Clock + Threads + Wait + Sync>(
         count: sessions,
         idle,
     };
-    let job = collect_job(&loaded, &collect, engine, &[]);
+    let job = collect_job(&loaded, maps.as_ref(), &collect, engine, &[]);
     let progress = progress_writer(collect.progress, &terminal, rt);
     let to = TableTo { out, receipt };
     let TableWritten { status, out } = collect_connections(
@@ -268,8 +280,20 @@ fn collect_connections<R: Clock + Threads + Wait + Sync>(
 /// `collectd merge`: the table of the exports in files to standard output.
 pub fn merge(rt: &HostRuntime, arguments: &MergeArguments) -> Result<Status, Status> {
     let mut err = rt.stderr();
-    let MergeArguments { table, paths } = *arguments;
+    let MergeArguments {
+        table,
+        paths,
+        into,
+        zone,
+        receipts,
+        ..
+    } = *arguments;
     check_paths(paths, None, &mut err)?;
+    check_receipts(arguments, &mut err)?;
+    let borders = zone_borders(rt, into, zone, &mut err)?;
+    if receipts {
+        return merge_parts(rt, arguments, &borders, &mut err);
+    }
     let loaded = load_table_plan(rt, &table).ok_or(Status::NotOpened)?;
     let mut out = table_output(rt, &mut err)?;
     let mut files = SystemFiles::new(rt);
@@ -277,7 +301,7 @@ pub fn merge(rt: &HostRuntime, arguments: &MergeArguments) -> Result<Status, Sta
         &mut files,
         rt.alloc(),
         paths,
-        &merge_job(&loaded, &table),
+        &merge_job(&loaded, &table, intervals_of(&borders)),
         &mut out,
         &mut CheckedWriter::new(rt.stderr()),
     );
@@ -285,11 +309,102 @@ pub fn merge(rt: &HostRuntime, arguments: &MergeArguments) -> Result<Status, Sta
     Ok(status)
 }
 
+// The same by the receipts of the files.
+fn merge_parts(
+    rt: &HostRuntime,
+    arguments: &MergeArguments,
+    borders: &Option<Vec<u64>>,
+    err: &mut Stderr,
+) -> Result<Status, Status>
+    requires { ForSome borders.now (λ b. AreOrdered b.items) }
+{
+    let table = &arguments.table;
+    let alloc = rt.alloc();
+    let PlanMade { loaded, made } = load_plan_made(rt, table, err)?;
+    let Ok(receipts) = receipt_paths(alloc, arguments.paths, arguments.receipts_of) else {
+        return Err(without_memory(err));
+    };
+    let Ok(parts) = part_files(alloc, arguments.paths, &receipts) else {
+        return Err(without_memory(err));
+    };
+    let mut out = table_output(rt, err)?;
+    let job = PartsJob {
+        merge: merge_job(&loaded, table, intervals_of(borders)),
+        plan: PlanAtHand {
+            text: made.plan.as_str(),
+            elements: &made.elements,
+            maps: &made.maps,
+        },
+        parts: &parts,
+        incomplete: arguments.incomplete,
+    };
+    let told = &mut CheckedWriter::new(rt.stderr());
+    let status = run_merge_parts(rt, alloc, &job, &mut out, told);
+    write_refused_output(table.verbosity, &out, err);
+    Ok(status)
+}
+
+// The files of parts, by their places.
+fn part_files<'a>(
+    alloc: Global,
+    tables: &[&'a str],
+    receipts: &'a [String],
+) -> Result<Vec<PartFiles<'a>>, AllocError> {
+    let mut parts = Vec::new(alloc);
+    for (table, receipt) in tables.iter().zip(receipts) {
+        parts.push(PartFiles {
+            table: *table,
+            receipt: receipt.as_str(),
+        })?;
+    }
+    Ok(parts)
+}
+
+/// `collectd verify`: a table compared with its receipt.
+pub fn verify(rt: &HostRuntime, arguments: &VerifyArguments) -> Result<Status, Status> {
+    let VerifyArguments {
+        receipt,
+        table,
+        verbosity,
+    } = *arguments;
+    let Some(table) = table.or(table_of_receipt(receipt)) else {
+        let _ = eprintln!(rt;
+            "error: --table FILE is needed for a receipt whose name doesn't end in .receipt"
+        );
+        return Err(Status::NotOpened);
+    };
+    let job = VerifyJob {
+        receipt,
+        table,
+        verbosity,
+    };
+    let mut err = CheckedWriter::new(rt.stderr());
+    Ok(run_verify(rt, rt.alloc(), &job, &mut err))
+}
+
+// The intervals that rows are put in: those between borders, if there are some.
+fn intervals_of(borders: &Option<Vec<u64>>) -> Intervals<'_>
+    requires { ForSome borders.now (λ b. AreOrdered b.items) }
+    ensures { CanTakeRows result }
+{
+    match borders {
+        Some(borders) => Intervals::Between(borders.as_slice()),
+        None => Intervals::OfPlan,
+    }
+}
+
 // What a merge is to do. Rows were filtered when they were collected: the plan's conditions say nothing of them.
-fn merge_job<'a>(loaded: &'a LoadedPlan, table: &TableArguments) -> MergeJob<'a>
+fn merge_job<'a>(
+    loaded: &'a LoadedPlan,
+    table: &TableArguments,
+    intervals: Intervals<'a>,
+) -> MergeJob<'a>
+    requires { CanTakeRows intervals }
     // It names the plan's keys and counters by the elements that the plan was read with.
     ensures names { result.elements.now ≡ loaded.now.elements }
     ensures plan { result.plan.now ≡ loaded.now.read.plan }
+    ensures intervals { result.intervals ≡ intervals.entry }
+    ensures rows { CanTakeRows result.intervals }
     // The rest is as the command is told.
     ensures output { result.output ≡ table.now.output }
     ensures verbosity { result.verbosity ≡ table.now.verbosity }
@@ -297,6 +412,7 @@ fn merge_job<'a>(loaded: &'a LoadedPlan, table: &TableArguments) -> MergeJob<'a>
     MergeJob {
         elements: &loaded.elements,
         plan: &loaded.read.plan,
+        intervals,
         output: table.output,
         verbosity: table.verbosity,
     }
@@ -305,6 +421,7 @@ fn merge_job<'a>(loaded: &'a LoadedPlan, table: &TableArguments) -> MergeJob<'a>
 // What a run is to do with what this engine collects.
 fn collect_job<'a>(
     loaded: &'a LoadedPlan,
+    maps: Option<&'a Maps>,
     collect: &CollectArguments,
     engine: Engine,
     exporters: &'a [Option<IpAddr>],
@@ -312,9 +429,10 @@ fn collect_job<'a>(
     // It names the plan's keys and counters by the elements that the plan was read with.
     ensures names { result.elements.now ≡ loaded.now.elements }
     ensures plan { result.plan.now ≡ loaded.now.read.plan }
-    // It wants what these keys and the plan's conditions name of context, and these conditions are its filter.
-    ensures wanted { result.wanted ≡ context_of loaded.now.read }
+    // It wants what these keys, the plan's conditions and its maps name of context, and these conditions are its filter.
+    ensures wanted { result.wanted ≡ context_wanted loaded.now.read loaded.now.maps }
     ensures filter { option_map (λ f. f.now) result.filter ≡ filter_of loaded.now.read }
+    ensures maps { result.maps ≡ maps.entry }
     ensures exporters { result.exporters.now ≡ exporters.now }
     // The rest is as the command is told.
     ensures engine { result.engine ≡ engine }
@@ -327,7 +445,8 @@ fn collect_job<'a>(
         engine,
         output: collect.table.output,
         verbosity: collect.table.verbosity,
-        wanted: loaded.read.context(),
+        wanted: wanted_context(&loaded.read, &loaded.maps),
+        maps,
         filter: loaded.read.conditions(),
         exporters,
     }

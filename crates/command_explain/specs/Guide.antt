@@ -5,7 +5,7 @@ use Rattle.ipfix_message.specs.declared.fault.MessageFault.TheVariants.{Version,
 use Rattle.ipfix_session.specs.declared.fault.SessionFault.{SessionFault}
 use Rattle.ipfix_session.specs.declared.fault.SessionFault.TheVariants.{Message, Truncated, ReadFailed, TooManyReads, SinkClosed}
 use Rattle.command_explain.specs.declared.ending_fault.EndingFault.{EndingFault}
-use Rattle.command_explain.specs.declared.ending_fault.EndingFault.TheVariants.{Session, NotWritten}
+use Rattle.command_explain.specs.declared.ending_fault.EndingFault.TheVariants.{Session, NotWritten, TooManyFields}
 
 -- what was found, by which rule it is a fault, and what an operator does about it
 pub record Texts : Type 0 where
@@ -59,3 +59,5 @@ abbrev pub texts_of : EndingFault → Texts
 texts_of (Session fault) = texts_of_session fault
 texts_of NotWritten = texts (codes "a file of the recorded session could not be written, or not be finished") (codes "none of RFC 7011")
     (codes "Look for a full disk, or for a folder without permission. The messages that were written\nare whole in the session's files. Let the exporter connect again.")
+texts_of TooManyFields = texts (codes "a datagram defines more than record --templates allows its peer") (codes "none of RFC 7011")
+    (codes "A template counts 8 and its fields, a domain 16. If the exporter needs so many, give a\nlarger --templates; the ids that it would have changed have no template until then.")

@@ -21,7 +21,7 @@ use Rattle.ipfix_dump.specs.declared.fault.DumpFault.TheVariants as dumps
 use Rattle.element_registry.specs.declared.fault.Heading.TheVariants as headings
 use Rattle.ipfix_session.specs.declared.fault.SessionFault.TheVariants as sessions
 use Rattle.command_explain.specs.declared.run_faults.RunFault.{RunFault}
-use Rattle.command_explain.specs.declared.run_faults.RunFault.TheVariants.{PlanText, Plan, Filter, Elements, Collect, Merge, Row, Export, Dump}
+use Rattle.command_explain.specs.declared.run_faults.RunFault.TheVariants.{PlanText, Plan, Filter, Map, Elements, Collect, Merge, Row, Export, Dump}
 use Rattle.command_explain.specs.declared.run_faults.TheConstants.{RUN_FAULTS}
 use Rattle.command_explain.specs.Guide.{texts_of_message}
 
@@ -30,6 +30,7 @@ abbrev pub name_of : RunFault → List ℕ
 name_of (PlanText fault) = of_texts.name_of fault
 name_of (Plan fault) = of_plans.name_of fault
 name_of Filter = codes "Filter"
+name_of Map = codes "Map"
 name_of (Elements fault) = of_elements.name_of fault
 name_of (Collect fault) = of_collects.name_of fault
 name_of (Merge fault) = of_merges.name_of fault
@@ -46,6 +47,7 @@ abbrev pub place_of : RunFault → List ℕ
 place_of (PlanText fault) = place (codes "plan") (of_texts.number_of fault)
 place_of (Plan fault) = place (codes "plan") (of_texts.number_of (texts.Plan fault)) ++ (codes " " ++ place (of_texts.name_of (texts.Plan fault)) (of_plans.number_of fault))
 place_of Filter = place (codes "plan") 8
+place_of Map = place (codes "plan") 9
 place_of (Elements fault) = place (codes "elements") (of_elements.number_of fault)
 place_of (Collect fault) = place (codes "collect") (of_collects.number_of fault)
 place_of (Merge fault) = place (codes "merge") (of_merges.number_of fault)
@@ -72,6 +74,8 @@ listed_of (Merge (merges.Session _)) = Merge (merges.Session sessions.Truncated)
 listed_of (Merge (merges.Row _)) = Merge (merges.Row rows.Template)
 listed_of (Merge merges.SumTooLarge) = Collect collects.SumTooLarge
 listed_of (Row rows.Prefix) = Plan plans.Prefix
+listed_of (Merge (merges.Border _)) = Merge (merges.Border 1)
+listed_of (Row rows.Border) = Merge (merges.Border 1)
 listed_of (Dump dumps.WriteFailed) = Export exports.WriteFailed
 listed_of fault = fault
 
@@ -104,6 +108,7 @@ words_of (Plan plans.CounterCount) = words (codes "no counter, or more than 4") 
 words_of (Plan plans.CounterKind) = words (codes "an element that can't be a counter") (codes "Counters are octetDeltaCount, packetDeltaCount, deltaFlowCount, postOctetDeltaCount,\npostPacketDeltaCount, droppedOctetDeltaCount and droppedPacketDeltaCount; with --elements\nalso the delta counters of files. Totals are no counters: flows would be counted again\nand again. Where each record says all of a flow, totals = \"as-deltas\" lets octetTotalCount\n(e0.85) and packetTotalCount (e0.86) be counters.")
 words_of (Plan plans.Repeated) = words (codes "an element twice among keys and counters") (codes "Leave one of them out. A key with a prefix also counts as sourceIPv4Prefix,\ndestinationIPv4Prefix, sourceIPv6Prefix or destinationIPv6Prefix.")
 words_of Filter = words (codes "a condition of the plan is none") (codes "A [[where]] has an element, and in, not_in or both: 1 to 64 texts as \"80\", \"1024-65535\",\n\"192.0.2.1\", \"192.0.2.0/24\" or \"2001:db8::/32\". The next line says which one has none.")
+words_of Map = words (codes "a map of the plan is none") (codes "A [[map]] has a name of letters, digits, _ and -, and a file. The next line says which one has\nnone, or that keys of maps have the numbers of elements of a file.")
 words_of (Elements elements.NotCsv) = words (codes "a row has more or fewer fields than the first line") (codes "The same line says in which line of the file the row begins.")
 words_of (Elements (elements.Column _)) = words (codes "the first line lacks a column") (codes "The first line has ElementID, Name and Abstract Data Type, as that of IANA's file.")
 words_of (Elements elements.Number) = words (codes "the number is not decimal, or above 32767") (codes "Write the element's number without its enterprise bit.")
@@ -125,6 +130,7 @@ words_of (Row rows.Template) = words (codes "a record has another template than 
 words_of (Row rows.Fields) = words (codes "a row has other keys or counters than the plan") (codes "Give all runs, and the merge, the same plan.")
 words_of (Row rows.Interval) = words (codes "a row has another interval than the plan") (codes "Give all runs, and the merge, the same plan.")
 words_of (Row rows.Flows) = words (codes "a row has no flow") (codes "Merge files that were written with --format ipfix, and not changed since.")
+words_of (Merge (merges.Border _)) = words (codes "a row's interval crosses the border of a day or month") (codes "Take intervals of which days are made in the zone, as minutes, or another --zone.")
 words_of (Export exports.WriteFailed) = words (codes "standard output could not be written") (codes "Look for a full disk, or for a pipe whose reader has ended. What was written is not whole.")
 words_of (Export exports.TooManyRows) = words (codes "2^32 rows or more, too many for IPFIX") (codes "Write the table as CSV or JSON, or take longer intervals or fewer keys.")
 words_of fault = words (texts_of_message OutOfMemory).found (texts_of_message OutOfMemory).advice

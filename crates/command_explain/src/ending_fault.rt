@@ -13,6 +13,8 @@ pub enum EndingFault {
     Session(SessionFault),
     /// A file of a recorded session could not be written, or not be finished.
     NotWritten,
+    /// A datagram defines more templates than the budget of its peer allows.
+    TooManyFields,
 }
 
 impl EndingFault {
@@ -23,6 +25,7 @@ impl EndingFault {
         match self {
             EndingFault::Session(fault) => fault.number(),
             EndingFault::NotWritten => RecordFault::NotWritten.number(),
+            EndingFault::TooManyFields => 21,
         }
     }
 
@@ -33,6 +36,7 @@ impl EndingFault {
         match self {
             EndingFault::Session(fault) => fault.name(),
             EndingFault::NotWritten => RecordFault::NotWritten.name(),
+            EndingFault::TooManyFields => "TooManyFields",
         }
     }
 }

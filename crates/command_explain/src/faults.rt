@@ -5,7 +5,7 @@ use ipfix_message::MessageFault;
 use ipfix_session::SessionFault;
 
 /// Each fault that ends a session, or for which a datagram is refused, in the order of their numbers.
-pub const FAULTS: [EndingFault; 18] = [
+pub const FAULTS: [EndingFault; 19] = [
     EndingFault::Session(SessionFault::Message(MessageFault::Version)),
     EndingFault::Session(SessionFault::Message(MessageFault::MessageLength)),
     EndingFault::Session(SessionFault::Message(MessageFault::SetHeader)),
@@ -24,4 +24,5 @@ pub const FAULTS: [EndingFault; 18] = [
     EndingFault::Session(SessionFault::TooManyReads),
     EndingFault::Session(SessionFault::SinkClosed),
     EndingFault::NotWritten,
+    EndingFault::TooManyFields,
 ];

@@ -33,6 +33,12 @@ impl Explanation {
                 advice: "Look for a full disk, or for a folder without permission. The messages that were written\n\
                     are whole in the session's files. Let the exporter connect again.",
             },
+            EndingFault::TooManyFields => Explanation {
+                found: "a datagram defines more than record --templates allows its peer",
+                rule: "none of RFC 7011",
+                advice: "A template counts 8 and its fields, a domain 16. If the exporter needs so many, give a\n\
+                    larger --templates; the ids that it would have changed have no template until then.",
+            },
         }
     }
 }

@@ -94,6 +94,7 @@ fn write_place<W: Write>(fault: RunFault, out: &mut W) -> io::Result<()>
             write_number(outer.name(), fault.number(), out)
         }
         RunFault::Filter => write_number("plan", 8, out),
+        RunFault::Map => write_number("plan", 9, out),
         RunFault::Elements(fault) => write_number("elements", fault.number(), out),
         RunFault::Collect(fault) => write_number("collect", fault.number(), out),
         RunFault::Merge(fault) => write_number("merge", fault.number(), out),

@@ -22,6 +22,8 @@ pub enum RunFault {
     Plan(PlanFault),
     /// The conditions of such a text make no filter.
     Filter,
+    /// What such a text says of maps makes none.
+    Map,
     /// A file says no elements.
     Elements(ElementsFault),
     /// Nothing was collected.
@@ -45,6 +47,7 @@ impl RunFault {
             RunFault::PlanText(fault) => fault.name(),
             RunFault::Plan(fault) => fault.name(),
             RunFault::Filter => "Filter",
+            RunFault::Map => "Map",
             RunFault::Elements(fault) => fault.name(),
             RunFault::Collect(fault) => fault.name(),
             RunFault::Merge(fault) => fault.name(),
@@ -73,7 +76,7 @@ impl RunFault {
 
 /// Each of them that is explained, in the order of the lines that have them. A fault within which there are
 /// others stands here with the first of them. OutOfMemory is a session's fault, too, and so is not among them.
-pub const RUN_FAULTS: [RunFault; 38] = [
+pub const RUN_FAULTS: [RunFault; 40] = [
     RunFault::PlanText(PlanTextFault::NotToml),
     RunFault::PlanText(PlanTextFault::UnknownField),
     RunFault::PlanText(PlanTextFault::Missing),
@@ -89,6 +92,7 @@ pub const RUN_FAULTS: [RunFault; 38] = [
     RunFault::Plan(PlanFault::CounterKind),
     RunFault::Plan(PlanFault::Repeated),
     RunFault::Filter,
+    RunFault::Map,
     RunFault::Elements(ElementsFault::NotCsv),
     RunFault::Elements(ElementsFault::Column(Heading::Number)),
     RunFault::Elements(ElementsFault::Number),
@@ -110,6 +114,7 @@ pub const RUN_FAULTS: [RunFault; 38] = [
     RunFault::Row(RowFault::Fields),
     RunFault::Row(RowFault::Interval),
     RunFault::Row(RowFault::Flows),
+    RunFault::Merge(MergeFault::Border(1)),
     RunFault::Export(ExportFault::WriteFailed),
     RunFault::Export(ExportFault::TooManyRows),
 ];

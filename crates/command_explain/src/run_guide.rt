@@ -5,7 +5,7 @@ ghost use Rattle.command_explain.specs.RunFaults.{guide_of};
 
 use crate::guide::explanation_of_message;
 use crate::run_faults::RunFault::{
-    self, Collect, Dump, Elements, Export, Filter, Merge, Plan, PlanText, Row,
+    self, Collect, Dump, Elements, Export, Filter, Map, Merge, Plan, PlanText, Row,
 };
 use element_registry::ElementsFault;
 use flow_collect::CollectFault;
@@ -39,6 +39,7 @@ impl RunFault {
             Plan(PlanFault::CounterKind) => "an element that can't be a counter",
             Plan(PlanFault::Repeated) => "an element twice among keys and counters",
             Filter => "a condition of the plan is none",
+            Map => "a map of the plan is none",
             Elements(ElementsFault::NotCsv) => "a row has more or fewer fields than the first line",
             Elements(ElementsFault::Column(_)) => "the first line lacks a column",
             Elements(ElementsFault::Number) => "the number is not decimal, or above 32767",
@@ -63,6 +64,8 @@ impl RunFault {
             Row(RowFault::Fields) => "a row has other keys or counters than the plan",
             Row(RowFault::Interval) => "a row has another interval than the plan",
             Row(RowFault::Flows) => "a row has no flow",
+            Merge(MergeFault::Border(_)) | Row(RowFault::Border) =>
+                "a row's interval crosses the border of a day or month",
             Export(ExportFault::WriteFailed) | Dump(DumpFault::WriteFailed) =>
                 "standard output could not be written",
             Export(ExportFault::TooManyRows) => "2^32 rows or more, too many for IPFIX",
@@ -120,6 +123,9 @@ impl RunFault {
             Filter =>
                 "A [[where]] has an element, and in, not_in or both: 1 to 64 texts as \"80\", \"1024-65535\",\n\
                 \"192.0.2.1\", \"192.0.2.0/24\" or \"2001:db8::/32\". The next line says which one has none.",
+            Map =>
+                "A [[map]] has a name of letters, digits, _ and -, and a file. The next line says which one has\n\
+                none, or that keys of maps have the numbers of elements of a file.",
             Elements(ElementsFault::NotCsv) =>
                 "The same line says in which line of the file the row begins.",
             Elements(ElementsFault::Column(_)) =>
@@ -155,6 +161,8 @@ impl RunFault {
             Row(RowFault::Interval) => "Give all runs, and the merge, the same plan.",
             Row(RowFault::Flows) =>
                 "Merge files that were written with --format ipfix, and not changed since.",
+            Merge(MergeFault::Border(_)) | Row(RowFault::Border) =>
+                "Take intervals of which days are made in the zone, as minutes, or another --zone.",
             Export(ExportFault::WriteFailed) | Dump(DumpFault::WriteFailed) =>
                 "Look for a full disk, or for a pipe whose reader has ended. What was written is not whole.",
             Export(ExportFault::TooManyRows) =>

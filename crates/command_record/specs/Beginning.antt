@@ -27,15 +27,19 @@ most_part word (Some most) = most_text word most
 abbrev pub addresses_text : Option SocketAddr → Option SocketAddr → List ℕ
 addresses_text listen udp = address_part (codes "listen") listen ++ address_part (codes "udp") udp
 
--- how many peers that send datagrams, and how many octets of these the system keeps until they are taken
-abbrev pub datagram_texts : Option ℕ → Option ℕ → List ℕ
-datagram_texts peers buffer = most_part (codes "peers") peers ++ (most_part (codes "buffer") buffer ++ codes "\n")
+-- what the templates of a peer may count, and how many octets of datagrams the system keeps until they are taken
+abbrev pub room_texts : Intake → List ℕ
+room_texts i = most_part (codes "templates") i.templates ++ (most_part (codes "buffer") i.buffer ++ codes "\n")
 
-abbrev pub most_texts : Option ℕ → Option ℕ → Option ℕ → List ℕ
-most_texts sessions peers buffer = most_part (codes "sessions") sessions ++ datagram_texts peers buffer
+-- how many peers that send datagrams, and those
+abbrev pub datagram_texts : Intake → List ℕ
+datagram_texts i = most_part (codes "peers") i.peers ++ room_texts i
+
+abbrev pub most_texts : Intake → List ℕ
+most_texts i = most_part (codes "sessions") i.sessions ++ datagram_texts i
 
 abbrev pub intake_texts : Intake → List ℕ
-intake_texts i = addresses_text i.listen i.udp ++ most_texts i.sessions i.peers i.buffer
+intake_texts i = addresses_text i.listen i.udp ++ most_texts i
 
 abbrev pub beginning_line : List ℕ → Intake → List ℕ
 beginning_line folder intake = folder_text folder ++ intake_texts intake

@@ -2,7 +2,7 @@
 
 ghost use Rattle.std.specs.Prelude.{◌++◌, codes};
 ghost use Rattle.report_writing.specs.Writing.{Tells};
-ghost use Rattle.command_record.specs.Beginning.{address_part, address_text, addresses_text, beginning_line, datagram_texts, folder_text, intake_texts, most_part, most_text, most_texts};
+ghost use Rattle.command_record.specs.Beginning.{address_part, address_text, addresses_text, beginning_line, datagram_texts, folder_text, intake_texts, most_part, most_text, most_texts, room_texts};
 
 use report_writing::WriteLines;
 use std::io;
@@ -19,6 +19,8 @@ pub(crate) struct Intake {
     pub sessions: Option<usize>,
     /// How many peers that send datagrams it keeps.
     pub peers: Option<usize>,
+    /// What the templates of each of them may count.
+    pub templates: Option<usize>,
     /// How many octets of datagrams that nobody took yet the system keeps.
     pub buffer: Option<usize>,
 }
@@ -46,7 +48,7 @@ fn write_intake<W: WriteLines>(intake: Intake, out: &mut W) -> io::Result<()>
     ensures { Tells W.contents W.failed out.old out.new result (intake_texts intake) }
 {
     write_addresses(intake.listen, intake.udp, out)?;
-    write_most(intake.sessions, intake.peers, intake.buffer, out)
+    write_most(intake, out)
 }
 
 fn write_addresses<W: WriteLines>(
@@ -80,27 +82,25 @@ fn write_address_text<W: WriteLines>(word: &str, address: SocketAddr, out: &mut 
     write!(out, " {word} {address}")
 }
 
-fn write_most<W: WriteLines>(
-    sessions: Option<usize>,
-    peers: Option<usize>,
-    buffer: Option<usize>,
-    out: &mut W,
-) -> io::Result<()>
-    ensures { Tells W.contents W.failed out.old out.new result (most_texts sessions peers buffer) }
+fn write_most<W: WriteLines>(intake: Intake, out: &mut W) -> io::Result<()>
+    ensures { Tells W.contents W.failed out.old out.new result (most_texts intake) }
 {
-    write_most_part("sessions", sessions, out)?;
-    write_datagrams(peers, buffer, out)
+    write_most_part("sessions", intake.sessions, out)?;
+    write_datagrams(intake, out)
 }
 
-fn write_datagrams<W: WriteLines>(
-    peers: Option<usize>,
-    buffer: Option<usize>,
-    out: &mut W,
-) -> io::Result<()>
-    ensures { Tells W.contents W.failed out.old out.new result (datagram_texts peers buffer) }
+fn write_datagrams<W: WriteLines>(intake: Intake, out: &mut W) -> io::Result<()>
+    ensures { Tells W.contents W.failed out.old out.new result (datagram_texts intake) }
 {
-    write_most_part("peers", peers, out)?;
-    write_last(buffer, out)
+    write_most_part("peers", intake.peers, out)?;
+    write_rooms(intake, out)
+}
+
+fn write_rooms<W: WriteLines>(intake: Intake, out: &mut W) -> io::Result<()>
+    ensures { Tells W.contents W.failed out.old out.new result (room_texts intake) }
+{
+    write_most_part("templates", intake.templates, out)?;
+    write_last(intake.buffer, out)
 }
 
 fn write_last<W: WriteLines>(buffer: Option<usize>, out: &mut W) -> io::Result<()>

@@ -147,6 +147,7 @@ fn intake_of(sockets: &Sockets, order: &RecordOrder, limits: &PeerLimits) -> Int
         },
         sessions: sockets.listener.as_ref().map(|_| order.sessions),
         peers: sockets.socket.as_ref().map(|_| limits.most.get()),
+        templates: sockets.socket.as_ref().map(|_| limits.templates as usize),
         buffer: sockets.socket.as_ref().map(|socket| socket.buffer as usize),
     }
 }
@@ -170,17 +171,20 @@ fn idle_of(arguments: &RecordArguments) -> u64
     }
 }
 
-// How many peers that send datagrams are kept, how long each may be silent, and for how long a datagram waits.
+// How many peers that send datagrams are kept, how long each may be silent, for how long a datagram waits, and what their
+// templates may count.
 fn limits_of(arguments: &RecordArguments, peers: NonZeroUsize) -> PeerLimits
     ensures most { result.most ≡ peers }
     ensures idle { MatchOption arguments.now.idle (result.idle ≡ IDLE)
         (λ limit. result.idle ≡ as_nanos limit / 1000000000) }
     ensures reorder { result.reorder ≡ arguments.now.reorder }
+    ensures templates { result.templates ≡ arguments.now.templates }
 {
     PeerLimits {
         most: peers,
         idle: idle_of(arguments),
         reorder: arguments.reorder,
+        templates: arguments.templates,
     }
 }
 

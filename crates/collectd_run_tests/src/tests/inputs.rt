@@ -1,6 +1,7 @@
 //! Runs over files and connections that are in memory.
 
 ghost use Rattle.std.specs.Prelude.{◌≡◌, ⊤, None, IfSome, true};
+ghost use Rattle.flow_merge.specs.RowRecords.{CanTakeRows};
 ghost use Rattle.input_sources.specs.Had.{IsUnread};
 
 use super::sessions::{BY_SOURCE, CSV, POOL};
@@ -10,7 +11,9 @@ use collectd::{
 };
 use element_registry::Elements;
 use flow_collect::Pool;
+use flow_export::Intervals;
 use flow_plan::read_plan;
+use flow_table::Plan;
 use ipfix_session::{ScriptSource, Source};
 use report_writing::NOTHING_MORE;
 use std::alloc::Global;
@@ -253,18 +256,26 @@ collectd: collect: fault 1 Workers
     Ok(())
 }
 
+// A merge of a plan's exports.
+fn merge_under<'a>(elements: &'a Elements, plan: &'a Plan) -> MergeJob<'a>
+    ensures { CanTakeRows result.intervals }
+{
+    MergeJob {
+        elements,
+        plan,
+        intervals: Intervals::OfPlan,
+        output: CSV,
+        verbosity: NOTHING_MORE,
+    }
+}
+
 // The same of the merge of two files with the same row.
 fn merged(alloc: Global) -> Result<Vec<u8>, Fail> {
     let mut inputs = Inputs::new(alloc);
     let plan = read_plan(alloc, BY_SOURCE)?;
     let (mut out, mut err) = (Vec::new(alloc), Vec::new(alloc));
     let elements = Elements::built_in(alloc);
-    let job = MergeJob {
-        elements: &elements,
-        plan: &plan,
-        output: CSV,
-        verbosity: NOTHING_MORE,
-    };
+    let job = merge_under(&elements, &plan);
     let paths = ["export", "export"];
     let status = run_merge_with(&mut inputs, alloc, &paths, &job, &mut out, &mut err);
     joined_with(status.number(), out, &err)

@@ -1,0 +1,2 @@
+pub mod ZoneNames
+pub mod Folders

@@ -1,0 +1,30 @@
+-- The borders between local days or months, in a time zone.
+use Rattle.std.specs.Prelude.{◌≡◌, ℕ, List, codes, Option, Some, None}
+use Rattle.std.specs.Borrow.{Bor}
+use Rattle.jiff_tz.specs.Database.{lower, IsZoneNamed}
+use Rattle.jiff_tz.specs.declared.db.TimeZoneDatabase.{TimeZoneDatabase}
+use Rattle.jiff_tz.specs.declared.timezone.TimeZone.{TimeZone}
+use Rattle.jiff_tz.specs.declared.timezone.TimeZone.TheVariants.{UTC}
+use Rattle.local_days.specs.LocalDays.{AreBorders}
+use Rattle.local_days.specs.declared.local_interval.LocalInterval.{LocalInterval}
+
+-- the name of the zone that is taken: UTC where none is named
+abbrev pub zone_name : Option (Bor (List ℕ)) → List ℕ
+zone_name None = codes "UTC"
+zone_name (Some name) = name.now
+
+-- they are those of these intervals in a zone whose rules were found under the name, and in UTC exactly if that is named, in any
+-- letter case
+pub record AreOfZone (interval : LocalInterval) (name borders : List ℕ) : Type 0 where
+  pub zone : TimeZone
+  pub utc : lower name ≡ codes "utc" → zone ≡ UTC
+  pub rules : TimeZoneDatabase
+  pub named : IsZoneNamed rules name zone
+  pub are : AreBorders interval zone borders
+
+-- there are borders exactly if local intervals were asked for, and then those of these
+abbrev pub AreBordersFor : Option LocalInterval → List ℕ → Option (List ℕ) → Type 0
+AreBordersFor None name None = Unit {0}
+AreBordersFor None name (Some borders) = ⊥
+AreBordersFor (Some interval) name None = ⊥
+AreBordersFor (Some interval) name (Some borders) = AreOfZone interval name borders

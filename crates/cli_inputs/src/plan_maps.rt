@@ -1,0 +1,210 @@
+//! The maps of a plan, from the texts of their files.
+
+ghost use Rattle.std.specs.Prelude.{◌≡◌, ◌++◌, IfErr, IfOk, OnOk, map, string_bytes};
+ghost use Rattle.std.specs.Option.{option_map};
+ghost use Rattle.std.specs.Path.{rsplit_once, slash};
+ghost use Rattle.report_writing.specs.Told.{AreToldTo};
+ghost use Rattle.table_receipts.specs.Values.{file_value};
+ghost use Rattle.input_sources.specs.declared.maps.LoadedMap.{LoadedMap as Loaded};
+ghost use Rattle.command_collect.specs.CollectLines.{collect_fault_line};
+ghost use Rattle.cli_inputs.specs.MapFiles.{AreMapsOfPlan, AreMapsWith, HasNoMaps, file_told, files_told, folder_of, is_absolute, map_paths, path_from};
+
+use command_collect::write_collect_fault;
+use flow_collect::CollectFault;
+use flow_maps::Maps;
+use flow_plan_maps::{NamedKey, NamedMap, PlanMaps, map_keys};
+use input_files::ReadText;
+use input_sources::{LoadedMap, load_maps};
+use prefix_numbers::PrefixMap;
+use report_writing::{Status, Verbosity, WriteLines};
+use std::alloc::{AllocError, Global};
+use std::collections::VecDeque;
+use table_receipts::FileReceipt;
+
+/// The maps of a plan, and what a receipt says of their files.
+#[derive(Drop)]
+pub struct MapsOfPlan {
+    /// The maps, and the plan's keys that look something up in them, if it names maps.
+    pub maps: Option<Maps>,
+    /// The file of each map, in the plan's order.
+    pub files: Vec<FileReceipt>,
+}
+
+/// The maps that the plan of a path names, from the texts of their files. If a file can't be had, or has a fault, the
+/// answer is `NotOpened`, and if memory runs out beside that, `Failed`; `err` has a line.
+pub fn load_plan_maps<T: ReadText, E: WriteLines>(
+    texts: &T,
+    alloc: Global,
+    plan: &str,
+    named: &PlanMaps,
+    verbosity: Verbosity,
+    err: &mut E,
+) -> Result<MapsOfPlan, Status>
+    // The maps are those of the files that the plan names, and what is said of each file is of the text that gave its map.
+    ensures maps { IfOk result (AreMapsOfPlan (T.has texts.now) plan.now named.now) }
+    // Nothing is told if all were read.
+    ensures silent { IfOk result (λ _. err.new ≡ err.old) }
+    // Else why not was told: of the first file that gives no map, or that memory ran out.
+    ensures told { IfErr result (HasNoMaps (T.has texts.now) plan.now (T.refuses texts.now) named.now
+        verbosity (AreToldTo E.contents E.failed err.old err.new)) }
+    ensures kept { E.failed err.old → E.failed err.new }
+{
+    if named.maps.is_empty() {
+        return Ok(MapsOfPlan {
+            maps: None,
+            files: Vec::new(alloc),
+        });
+    }
+    let Ok(paths) = paths_of(alloc, plan, &named.maps) else {
+        return Err(without_memory(err));
+    };
+    let Ok(words) = words_of(alloc, &paths) else {
+        return Err(without_memory(err));
+    };
+    let Some(loaded) = load_maps(texts, alloc, &words, verbosity, err) else {
+        return Err(Status::NotOpened);
+    };
+    match maps_with(alloc, &words, loaded, &named.keys) {
+        Ok(maps) => Ok(maps),
+        Err(AllocError) => Err(without_memory(err)),
+    }
+}
+
+// There was no memory for the names of files and what is told of them.
+fn without_memory<E: WriteLines>(err: &mut E) -> Status
+    ensures failed { result ≡ Status.Failed }
+    ensures told { AreToldTo E.contents E.failed err.old err.new
+        (collect_fault_line CollectFault.OutOfMemory) }
+    ensures kept { E.failed err.old → E.failed err.new }
+{
+    let _ = write_collect_fault(CollectFault::OutOfMemory, err);
+    Status::Failed
+}
+
+// What was loaded from files of these paths, with the keys that look something up.
+fn maps_with(
+    alloc: Global,
+    paths: &[&str],
+    loaded: Vec<LoadedMap>,
+    keys: &[NamedKey],
+) -> Result<MapsOfPlan, AllocError>
+    ensures { IfOk result (AreMapsWith (map (λ p. p.now) paths.now) loaded.items keys.now) }
+{
+    let files = files_of(alloc, paths, &loaded)?;
+    let keys = map_keys(alloc, keys)?;
+    let maps = maps_in(alloc, loaded)?;
+    Ok(MapsOfPlan {
+        maps: Some(Maps { maps, keys }),
+        files,
+    })
+}
+
+// What a receipt says of files of these paths.
+fn files_of(
+    alloc: Global,
+    mut paths: &[&str],
+    mut loaded: &[LoadedMap],
+) -> Result<Vec<FileReceipt>, AllocError>
+    ensures { IfOk result (λ files. map file_value files.items
+        ≡ files_told (map (λ p. p.now) paths.entry.now) loaded.entry.now) }
+{
+    let mut files = Vec::new(alloc);
+    while let [path, later @ ..] = paths {
+        let [map, rest @ ..] = loaded else {
+            return Ok(files);
+        };
+        files.push(file_of(alloc, path, map)?)?;
+        paths = later;
+        loaded = rest;
+    }
+    Ok(files)
+}
+
+fn file_of(alloc: Global, path: &str, loaded: &LoadedMap) -> Result<FileReceipt, AllocError>
+    ensures { IfOk result (λ file. file_value file ≡ file_told path.now loaded.now) }
+{
+    Ok(FileReceipt {
+        name: String::from_str(alloc, path)?,
+        octets: loaded.octets,
+        sha256: loaded.sha256,
+    })
+}
+
+// The maps without what is said of their files.
+fn maps_in(alloc: Global, loaded: Vec<LoadedMap>) -> Result<Vec<PrefixMap>, AllocError>
+    ensures { IfOk result (λ maps. maps.items ≡ map (λ (l : Loaded). l.map) loaded.items) }
+{
+    let mut waiting = VecDeque::from_vec(loaded);
+    let mut maps = Vec::new(alloc);
+    while let Some(next) = waiting.pop_front() {
+        let LoadedMap { map, .. } = next;
+        maps.push(map)?;
+    }
+    Ok(maps)
+}
+
+// The paths of the files of a plan's maps.
+fn paths_of(alloc: Global, plan: &str, mut maps: &[NamedMap]) -> Result<Vec<String>, AllocError>
+    ensures { IfOk result (λ paths. map string_bytes paths.items
+        ≡ map_paths plan.now maps.entry.now) }
+{
+    let mut paths = Vec::new(alloc);
+    while let [map, rest @ ..] = maps {
+        paths.push(path_beside(alloc, plan, map.file.as_str())?)?;
+        maps = rest;
+    }
+    Ok(paths)
+}
+
+fn words_of(alloc: Global, mut texts: &[String]) -> Result<Vec<&str>, AllocError>
+    ensures { IfOk result (λ words. map (λ w. w.now) words.items
+        ≡ map string_bytes texts.entry.now) }
+{
+    let mut words = Vec::new(alloc);
+    while let [text, rest @ ..] = texts {
+        words.push(text.as_str())?;
+        texts = rest;
+    }
+    Ok(words)
+}
+
+// The path of a file that is named from the folder of another.
+fn path_beside(alloc: Global, other: &str, file: &str) -> Result<String, AllocError>
+    ensures { IfOk result (λ path. string_bytes path ≡ path_from other.now file.now) }
+{
+    let mut path = String::new(alloc);
+    if !begins_at_root(file) {
+        push_folder(other, &mut path)?;
+    }
+    path.push_str(file)?;
+    Ok(path)
+}
+
+fn begins_at_root(path: &str) -> bool
+    ensures { result ≡ is_absolute path.now }
+{
+    matches!(path.as_bytes(), [b'/', ..])
+}
+
+// Appends the folder of a path, with its slash, if it has one.
+fn push_folder(path: &str, text: &mut String) -> Result<(), AllocError>
+    ensures { OnOk result (string_bytes text.new ≡ string_bytes text.old ++ folder_of path.now) }
+{
+    match folder(path) {
+        Some(folder) => {
+            text.push_str(folder)?;
+            text.push_str("/")
+        }
+        None => Ok(()),
+    }
+}
+
+fn folder(path: &str) -> Option<&str>
+    ensures { option_map (λ f. f.now) result
+        ≡ option_map (λ split. split.0) (rsplit_once slash path.now) }
+{
+    match path.rsplit_once('/') {
+        Some((folder, _)) => Some(folder),
+        None => None,
+    }
+}

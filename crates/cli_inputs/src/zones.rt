@@ -1,0 +1,102 @@
+//! The days and months of the system's time zones.
+
+ghost use Rattle.std.specs.Prelude.{◌≡◌, IfOk, option_map};
+ghost use Rattle.std.specs.Option.{ForSome};
+ghost use Rattle.flow_merge.specs.RowRecords.{AreOrdered};
+ghost use Rattle.cli_inputs.specs.Zones.{AreBordersFor, AreOfZone, zone_name as name_of};
+
+use input_files::ReadText;
+use jiff::tz::{TimeZone, TimeZoneDatabase};
+use local_days::{LocalInterval, local_borders};
+use report_writing::{Status, write_fault};
+use std::alloc::{AllocError, Global};
+use std::io::{Stderr, Write};
+
+/// Where the system has the rules of time zones, in files that have their names.
+const ZONE_FOLDER: &str = "/usr/share/zoneinfo";
+
+/// The zone whose days and months are told without one. It needs no file.
+const UTC: &str = "UTC";
+
+/// The borders between the intervals that rows are put in, if they are local ones. If a zone is named without them, or is
+/// none of the system, `err` has a line.
+pub fn zone_borders(
+    rt: &HostRuntime,
+    into: Option<LocalInterval>,
+    zone: Option<&str>,
+    err: &mut Stderr,
+) -> Result<Option<Vec<u64>>, Status>
+    ensures are { IfOk result (λ found.
+        AreBordersFor into (name_of zone.entry) (option_map (λ borders. borders.items) found)) }
+    ensures ordered { IfOk result (λ found. ForSome found (λ borders. AreOrdered borders.items)) }
+{
+    let Some(interval) = into else {
+        if zone.is_some() {
+            let _ = writeln!(err, "error: --zone is of no use without --into");
+            return Err(Status::NotOpened);
+        }
+        return Ok(None);
+    };
+    match borders_in(rt, interval, zone_name(zone), err) {
+        Ok(borders) => Ok(Some(borders)),
+        Err(status) => Err(status),
+    }
+}
+
+// The name of the zone that is taken.
+fn zone_name(zone: Option<&str>) -> &str
+    ensures { result.now ≡ name_of zone.entry }
+{
+    match zone {
+        Some(name) => name,
+        None => UTC,
+    }
+}
+
+// The borders in the zone of this name.
+fn borders_in(
+    rt: &HostRuntime,
+    interval: LocalInterval,
+    name: &str,
+    err: &mut Stderr,
+) -> Result<Vec<u64>, Status>
+    ensures { IfOk result (λ borders. AreOfZone interval name.now borders.items) }
+{
+    let Ok(zones) = zones_with(rt, rt.alloc(), name) else {
+        return Err(without_memory(err));
+    };
+    let Ok(zone) = zones.get(name) else {
+        let _ = writeln!(
+            err,
+            "error: --zone '{name}' is no time zone of {ZONE_FOLDER}"
+        );
+        return Err(Status::NotOpened);
+    };
+    match local_borders(rt.alloc(), interval, zone) {
+        Ok(borders) => Ok(borders),
+        Err(_) => Err(without_memory(err)),
+    }
+}
+
+// There was no memory for borders.
+fn without_memory(err: &mut Stderr) -> Status {
+    let _ = write_fault("merge", 1, "OutOfMemory", err);
+    Status::Failed
+}
+
+// UTC, and the zone of this name if the system has its rules.
+fn zones_with(rt: &HostRuntime, alloc: Global, name: &str) -> Result<TimeZoneDatabase, AllocError> {
+    let mut zones = TimeZoneDatabase::new(alloc);
+    if is_zone_name(name) {
+        let path = format!(in alloc; "{ZONE_FOLDER}/{name}")?;
+        if let Ok(rules) = rt.read_text(alloc, path.as_str()) {
+            let _ = zones.insert(name, &rules);
+        }
+    }
+    Ok(zones)
+}
+
+// Whether a name is one of a file below the folder of zones.
+fn is_zone_name(name: &str) -> bool {
+    !name.starts_with('/') && !name.split('/').any(|part| part == "..")
+}
