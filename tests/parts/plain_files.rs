@@ -17,6 +17,7 @@ use element::{Element, Kind};
 use session::{Fault, Session};
 use std::collections::BTreeMap;
 use std::fs;
+use std::path::Path;
 use std::process::ExitCode;
 
 const HEADER: usize = 16;
@@ -25,6 +26,24 @@ const LATEST: u64 = 1 << 50;
 struct Key {
     element: Element,
     prefix: Option<u32>,
+    /// The elements that a key of the map looks up, and its text.
+    looked_up: Option<(Vec<Element>, String)>,
+}
+
+/// A network: its address as one of IPv6, where one of IPv4 is mapped, and its bits of these 128.
+type Network = (u128, u32);
+
+/// What a condition says of values: a network, or the numbers from one to another.
+enum Values {
+    Network(Network),
+    Range(u128, u128),
+}
+
+struct Condition {
+    /// The key that it compares, or the element.
+    key: Key,
+    within: Option<Vec<Values>>,
+    without: Option<Vec<Values>>,
 }
 
 struct Plan {
@@ -33,6 +52,8 @@ struct Plan {
     max_spread: u64,
     keys: Vec<Key>,
     counters: Vec<Element>,
+    conditions: Vec<Condition>,
+    map: Vec<(Network, u64)>,
 }
 
 /// The element that a name stands for.
@@ -76,14 +97,70 @@ impl PlanFault {
     }
 }
 
-fn read_plan(text: &str) -> Result<Plan, PlanFault> {
+/// An address as one of IPv6, where one of IPv4 is mapped.
+fn address_of(text: &str) -> u128 {
+    if text.contains(':') { joined(text, ':', 16, 16) } else { 0xffff << 32 | joined(text, '.', 10, 8) }
+}
+
+fn network_of(text: &str) -> Network {
+    let (address, bits) = text.split_once('/').expect("a network has bits");
+    let bits: u32 = bits.parse().expect("bits are a number");
+    (address_of(address), if address.contains(':') { bits } else { 96 + bits })
+}
+
+/// Whether an address is in a network. Those of IPv4 are in no network of IPv6.
+fn has(network: Network, address: u128) -> bool {
+    let is_mapped = |address: u128| address >> 32 == 0xffff;
+    let is_ipv4 = is_mapped(network.0) && network.1 >= 96;
+    is_ipv4 == is_mapped(address) && (network.1 == 0 || (network.0 ^ address) >> (128 - network.1) == 0)
+}
+
+/// The key that a name stands for; those of the map are numbered by `map_keys`.
+fn key_of(name: &str, map_keys: &[&str]) -> Option<Key> {
+    if let Some(elements) = name.strip_prefix("m(").and_then(|rest| rest.strip_suffix(')')) {
+        let number = 1 + map_keys.iter().position(|key| *key == name)? as u16;
+        let elements = elements.split(", ").map(element_of).collect::<Option<Vec<Element>>>()?;
+        return Some(Key { element: Element { pen: 32473, number }, prefix: None, looked_up: Some((elements, name.to_string())) });
+    }
+    let (element, prefix) = match name.split_once('/') {
+        Some((element, bits)) => (element, Some(bits.parse().expect("bits are a number"))),
+        None => (name, None),
+    };
+    Some(Key { element: element_of(element)?, prefix, looked_up: None })
+}
+
+fn values_of(text: &str) -> Values {
+    if text.contains('/') {
+        return Values::Network(network_of(text));
+    }
+    let (first, last) = text.split_once('-').unwrap_or((text, text));
+    Values::Range(first.parse().expect("a number"), last.parse().expect("a number"))
+}
+
+fn condition_of(text: &str, map_keys: &[&str]) -> Condition {
+    let texts = |word| {
+        let line = text.lines().find_map(|line| line.strip_prefix(word)?.strip_prefix(" = "));
+        line.map(|line| names_of(line).into_iter().map(values_of).collect())
+    };
+    let key = key_of(value_of(text, "element").trim_matches('"'), map_keys).expect("an element is named");
+    Condition { key, within: texts("in"), without: texts("not_in") }
+}
+
+/// The rows of the file of a map.
+fn read_map(file: &Path) -> Vec<(Network, u64)> {
+    let text = fs::read_to_string(file).unwrap_or_default();
+    let rows = text.lines().map(|line| line.split_once(',').expect("a row has a prefix and a number"));
+    rows.map(|(prefix, number)| (network_of(prefix), number.parse().expect("a number"))).collect()
+}
+
+fn read_plan(file: &Path) -> Result<Plan, PlanFault> {
+    let whole = fs::read_to_string(file).expect("the plan is there");
+    let (text, tables) = whole.split_at(whole.find("[[").unwrap_or(whole.len()));
+    let names = names_of(value_of(text, "keys"));
+    let map_keys: Vec<&str> = names.iter().copied().filter(|name| name.starts_with("m(")).collect();
     let mut keys = Vec::new();
-    for name in names_of(value_of(text, "keys")) {
-        let (element, prefix) = match name.split_once('/') {
-            Some((element, bits)) => (element, Some(bits.parse().expect("bits are a number"))),
-            None => (name, None),
-        };
-        keys.push(Key { element: element_of(element).ok_or_else(|| PlanFault::unknown("keys", name))?, prefix });
+    for name in names {
+        keys.push(key_of(name, &map_keys).ok_or_else(|| PlanFault::unknown("keys", name))?);
     }
     let counters = names_of(value_of(text, "counters")).into_iter();
     let counters = counters.map(|name| element_of(name).ok_or_else(|| PlanFault::unknown("counters", name)));
@@ -93,8 +170,10 @@ fn read_plan(text: &str) -> Result<Plan, PlanFault> {
         max_spread: value_of(text, "max_spread").parse().expect("a number"),
         keys,
         counters: counters.collect::<Result<_, _>>()?,
+        conditions: tables.split("[[where]]").skip(1).map(|condition| condition_of(condition, &map_keys)).collect(),
+        map: read_map(&file.with_file_name("map.csv")),
     };
-    match fault_of(&plan, &names_of(value_of(text, "keys")), &names_of(value_of(text, "counters"))) {
+    match fault_of(&plan, !map_keys.is_empty(), &names_of(value_of(text, "keys")), &names_of(value_of(text, "counters"))) {
         Some(fault) => Err(fault),
         None => Ok(plan),
     }
@@ -117,9 +196,9 @@ fn repeated(read: &[Element], written: &[Element]) -> Option<usize> {
     (1..read.len()).find(|&at| read[..at].contains(&read[at]) || written[..at].contains(&written[at]))
 }
 
-/// The fault of a plan whose keys and counters have these names.
-fn fault_of(plan: &Plan, keys: &[&str], counters: &[&str]) -> Option<PlanFault> {
-    let is_key = |key: &Key| matches!(key.element.kind(), Kind::Unsigned(_) | Kind::Ipv4 | Kind::Ipv6 | Kind::Mac);
+/// The fault of a plan whose keys and counters have these names. (Keys of maps are named as those of files of elements are.)
+fn fault_of(plan: &Plan, has_map: bool, keys: &[&str], counters: &[&str]) -> Option<PlanFault> {
+    let is_key = |key: &Key| key.looked_up.is_some() || matches!(key.element.kind(), Kind::Unsigned(_) | Kind::Ipv4 | Kind::Ipv6 | Kind::Mac);
     let most_bits = |key: &Key| match (key.element.pen, key.element.number) {
         (0, 8 | 12) => Some(32),
         (0, 27 | 28) => Some(128),
@@ -138,16 +217,28 @@ fn fault_of(plan: &Plan, keys: &[&str], counters: &[&str]) -> Option<PlanFault> 
     } else if plan.keys.len() > 8 {
         ("6 Plan: fault 3 KeyCount", "keys", format!("{} elements, at most 8", keys.len()))
     } else if let Some(at) = bad_key {
-        let words = "only elements known as unsigned numbers or addresses (IPv4, IPv6, MAC) may be keys";
+        let words = match has_map {
+            true => "only elements known as unsigned numbers, addresses (IPv4, IPv6, MAC) or booleans may be keys",
+            false => "only elements known as unsigned numbers or addresses (IPv4, IPv6, MAC) may be keys",
+        };
         ("6 Plan: fault 4 KeyKind", "keys", format!("\"{}\": {words}", keys[at]))
     } else if let Some(at) = bad_prefix {
         ("6 Plan: fault 9 Prefix", "keys", format!("\"{}\": only IPv4 addresses take a prefix, 0 to 32, and IPv6 addresses, 0 to 128", keys[at]))
     } else if !(1..=4).contains(&plan.counters.len()) {
         ("6 Plan: fault 5 CounterCount", "counters", format!("{} elements, must be 1 to 4", counters.len()))
     } else if let Some(at) = bad_counter {
-        let words = "only octetDeltaCount, packetDeltaCount, deltaFlowCount, postOctetDeltaCount, postPacketDeltaCount, \
-                     droppedOctetDeltaCount and droppedPacketDeltaCount may be counters, and with totals = \"as-deltas\" \
-                     octetTotalCount (e0.85) and packetTotalCount (e0.86)";
+        let (and, of_files, total) = match has_map {
+            true => (
+                ", droppedOctetDeltaCount, droppedPacketDeltaCount",
+                " and elements of files with an unsigned type and the semantics deltaCounter",
+                "; another total is none: adding a flow's totals up counts it twice",
+            ),
+            false => (", droppedOctetDeltaCount and droppedPacketDeltaCount", "", ""),
+        };
+        let words = format!(
+            "only octetDeltaCount, packetDeltaCount, deltaFlowCount, postOctetDeltaCount, postPacketDeltaCount{and}{of_files} may be \
+             counters, and with totals = \"as-deltas\" octetTotalCount (e0.85) and packetTotalCount (e0.86){total}"
+        );
         ("6 Plan: fault 6 CounterKind", "counters", format!("\"{}\": {words}", counters[at]))
     } else if let Some(at) = repeated(&read, &written) {
         let (key, text) = match at.checked_sub(keys.len()) {
@@ -200,7 +291,36 @@ fn joined(text: &str, separator: char, radix: u32, bits: u32) -> u128 {
     groups.fold(0, |number, group| number << bits | group)
 }
 
+/// The number of the longest prefix that has the address of the first of these elements that the record has.
+fn number_of(plan: &Plan, elements: &[Element], record: &Record) -> Option<u64> {
+    let address = address_of(elements.iter().find_map(|element| record.text(*element))?);
+    let fitting = plan.map.iter().filter(|(network, _)| has(*network, address));
+    Some(fitting.max_by_key(|(network, _)| network.1).map_or(0, |(_, number)| *number))
+}
+
+/// The text of a key's value: that of its element, or its number by the map.
+fn text_of(plan: &Plan, key: &Key, record: &Record) -> Option<String> {
+    match &key.looked_up {
+        Some((elements, _)) => Some(number_of(plan, elements, record)?.to_string()),
+        None => record.text(key.element).map(str::to_string),
+    }
+}
+
+fn holds(condition: &Condition, plan: &Plan, record: &Record) -> bool {
+    let Some(text) = text_of(plan, &condition.key, record) else { return condition.within.is_none() };
+    let is_said = |values: &Vec<Values>| {
+        values.iter().any(|values| match values {
+            Values::Network(network) => has(*network, address_of(&text)),
+            Values::Range(first, last) => (*first..=*last).contains(&text.parse().expect("a number")),
+        })
+    };
+    condition.within.as_ref().is_none_or(is_said) && !condition.without.as_ref().is_some_and(is_said)
+}
+
 fn cell_of(key: &Key, text: &str) -> Cell {
+    if key.looked_up.is_some() {
+        return (text.parse().expect("a number"), text.to_string());
+    }
     let number = match key.element.kind() {
         Kind::Ipv4 => joined(text, '.', 10, 8),
         Kind::Ipv6 => joined(text, ':', 16, 16),
@@ -256,10 +376,15 @@ type Tally = [u64; 6];
 struct Table {
     rows: BTreeMap<(u64, Vec<Cell>), (Vec<u128>, u128)>,
     tally: Tally,
+    filtered: u64,
 }
 
 impl Table {
     fn add(&mut self, plan: &Plan, record: &Record) {
+        if !record.is_options && !plan.conditions.iter().all(|condition| holds(condition, plan, record)) {
+            self.filtered += 1;
+            return;
+        }
         self.tally[self.class(plan, record)] += 1;
     }
 
@@ -272,7 +397,7 @@ impl Table {
         if end < start {
             return 3;
         }
-        let cells = plan.keys.iter().map(|key| Some(cell_of(key, record.text(key.element)?)));
+        let cells = plan.keys.iter().map(|key| Some(cell_of(key, &text_of(plan, key, record)?)));
         let Some(cells) = cells.collect::<Option<Vec<Cell>>>() else { return 4 };
         let (first, count) = covered(plan, start, end);
         if count > plan.max_spread && ["uniform", "proportional"].contains(&plan.method.as_str()) {
@@ -299,7 +424,11 @@ impl Table {
     fn write(&self, plan: &Plan) {
         let mut names = vec!["start".to_string(), "end".to_string()];
         let prefix = |key: &Key| key.prefix.map_or(String::new(), |bits| format!("/{bits}"));
-        names.extend(plan.keys.iter().map(|key| name_of(key.element) + &prefix(key)));
+        names.extend(plan.keys.iter().map(|key| match &key.looked_up {
+            Some((elements, text)) if elements.len() > 1 => format!("\"{text}\""),
+            Some((_, text)) => text.clone(),
+            None => name_of(key.element) + &prefix(key),
+        }));
         names.extend(plan.counters.iter().map(|counter| name_of(*counter)));
         println!("{},flows", names.join(","));
         for ((interval, cells), (sums, flows)) in &self.rows {
@@ -332,7 +461,7 @@ fn read_session(mut rest: &[u8], session: &mut Session, mut take: impl FnMut(&Re
 
 fn main() -> ExitCode {
     let words: Vec<String> = std::env::args().skip(1).collect();
-    let plan = match read_plan(&fs::read_to_string(&words[0]).expect("the plan is there")) {
+    let plan = match read_plan(Path::new(&words[0])) {
         Ok(plan) => plan,
         Err(PlanFault { name, key, words }) => {
             eprintln!("collectd: plan: fault {name}\ncollectd: plan: key \"{key}\": {words}");
@@ -360,8 +489,9 @@ fn main() -> ExitCode {
     table.write(&plan);
     let [used, options, untimed, backward, unkeyed, too_long] = table.tally;
     eprint!("{texts}");
+    let filtered = if plan.conditions.is_empty() { String::new() } else { format!(" filtered {}", table.filtered) };
     eprintln!(
-        "collectd: records: used {used} options {options} untimed {untimed} backward {backward} unkeyed {unkeyed} too_long {too_long}"
+        "collectd: records: used {used} options {options} untimed {untimed} backward {backward} unkeyed {unkeyed} too_long {too_long}{filtered}"
     );
     ExitCode::from(status)
 }

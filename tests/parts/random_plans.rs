@@ -1,8 +1,8 @@
 //! Writes random plans, and sessions of flows for them: `random_plans FOLDER COUNT SEED` makes the folders FOLDER/0 to
-//! FOLDER/COUNT-1, each with plan.toml and one to three files session-1 and on.
+//! FOLDER/COUNT-1, each with plan.toml, the file of its map, if it has one, and one to three files session-1 and on.
 //!
 //! A plan has up to three keys and four counters, any method, and an interval from 1 ms to an hour; every twentieth
-//! has something that makes it no plan. A session's template has most of what the plan reads, in any order, some of it
+//! has something that makes it no plan. Every third has a map and a key or two of it, and every third conditions. A session's template has most of what the plan reads, in any order, some of it
 //! with a reduced, a wrong or a variable width; its flows lie close together, so that many share a row, and some are
 //! backward, long, or too late to have a time. Every fourth session is damaged somewhere. The same words give the same
 //! files.
@@ -38,6 +38,10 @@ const COUNTERS: &[Element] = &[
     (132, "droppedOctetDeltaCount", 8),
 ];
 
+/// The addresses that flows have. One of IPv6 is IPv4 mapped.
+const IPV4: &[u32] = &[0xc000_0200, 0xc000_0201, 0xc000_0202, 0xc000_0280, 0xc000_02c8, 0xc000_0300];
+const IPV6: &[u128] = &[0, 1, 2, 250, 0xffff_c000_0201, 0x2001_0db8 << 96];
+
 const VARIABLE: u16 = 65535;
 
 /// A field of a template: its element, the width of its kind, and the width that it has here.
@@ -71,8 +75,83 @@ fn quoted(names: &[String]) -> String {
     names.join(", ")
 }
 
-/// The text of a plan.
-fn plan(numbers: &mut Numbers, keys: &[Element], counters: &[Element]) -> String {
+/// The elements that a map may look up.
+const ADDRESSES: &[&str] = &["sourceIPv4Address", "destinationIPv4Address", "sourceIPv6Address"];
+
+/// A network of one of these addresses as a text: of IPv4, or of IPv6 (and none that is IPv4 mapped).
+fn network(numbers: &mut Numbers, is_ipv6: bool) -> String {
+    if is_ipv6 {
+        let address = numbers.of(IPV6);
+        let bits = if address >> 32 == 0xffff { numbers.of(&[0u32, 8, 64]) } else { numbers.of(&[0, 8, 96, 120, 126, 127, 128]) };
+        let network = if bits == 0 { 0 } else { address >> (128 - bits) << (128 - bits) };
+        let groups: Vec<String> = (0..8).map(|at| format!("{:x}", network >> (112 - 16 * at) & 0xffff)).collect();
+        return format!("{}/{bits}", groups.join(":"));
+    }
+    let bits = numbers.of(&[0u32, 8, 23, 24, 25, 30, 31, 32]);
+    let network = (u64::from(numbers.of(IPV4)) >> (32 - bits) << (32 - bits)) as u32;
+    let [a, b, c, d] = network.to_be_bytes();
+    format!("{a}.{b}.{c}.{d}/{bits}")
+}
+
+/// The rows of a map, no prefix of them twice.
+fn map(numbers: &mut Numbers) -> String {
+    let mut rows: Vec<(String, u64)> = Vec::new();
+    for _ in 0..numbers.below(12) {
+        let is_ipv6 = numbers.one_in(3);
+        let prefix = network(numbers, is_ipv6);
+        if rows.iter().all(|row| row.0 != prefix) {
+            rows.push((prefix, numbers.next() % 4));
+        }
+    }
+    rows.iter().map(|(prefix, number)| format!("{prefix},{number}\n")).collect()
+}
+
+/// Names of one or two keys of the map `m`.
+fn map_keys(numbers: &mut Numbers) -> Vec<String> {
+    let mut names = Vec::new();
+    for _ in 0..1 + numbers.below(2) {
+        let first = numbers.below(ADDRESSES.len());
+        let mut looked_up = vec![ADDRESSES[first]];
+        if numbers.one_in(2) {
+            looked_up.push(ADDRESSES[(first + 1) % ADDRESSES.len()]);
+        }
+        names.push(format!("m({})", looked_up.join(", ")));
+    }
+    names
+}
+
+/// A text that says values of an element.
+fn values(numbers: &mut Numbers, element: &str) -> String {
+    match element {
+        "sourceIPv4Address" | "destinationIPv4Address" => network(numbers, false),
+        "sourceIPv6Address" => {
+            let is_ipv6 = !numbers.one_in(3);
+            network(numbers, is_ipv6)
+        }
+        _ => {
+            let (low, high) = (numbers.of(&[0u64, 1, 2, 3]), numbers.of(&[3u64, 40, 250, 70_000]));
+            if numbers.one_in(2) { format!("{low}") } else { format!("{low}-{high}") }
+        }
+    }
+}
+
+/// A condition on one of these elements.
+fn condition(numbers: &mut Numbers, elements: &[String]) -> String {
+    let element = &elements[numbers.below(elements.len())];
+    let mut lines = format!("[[where]]\nelement = \"{element}\"\n");
+    let which = numbers.below(5);
+    for (word, is_there) in [("in", which != 0), ("not_in", which < 2)] {
+        if is_there {
+            let count = 1 + numbers.below(3);
+            let texts: Vec<String> = (0..count).map(|_| values(numbers, element)).collect();
+            lines += &format!("{word} = [{}]\n", quoted(&texts));
+        }
+    }
+    lines
+}
+
+/// The text of a plan, and whether it has a map.
+fn plan(numbers: &mut Numbers, keys: &[Element], counters: &[Element]) -> (String, bool) {
     let bad = if numbers.one_in(20) { numbers.below(7) } else { 7 };
     let mut names: Vec<String> = keys.iter().map(|key| key.1.to_string()).collect();
     for (name, key) in names.iter_mut().zip(keys) {
@@ -89,14 +168,33 @@ fn plan(numbers: &mut Numbers, keys: &[Element], counters: &[Element]) -> String
         4 => counted.clear(),
         _ => {}
     }
+    let mut more = String::new();
+    let has_map = numbers.one_in(3);
+    let mut compared = ["sourceIPv4Address", "sourceIPv6Address", "protocolIdentifier", "sourceTransportPort", "octetDeltaCount"]
+        .map(String::from)
+        .to_vec();
+    if has_map {
+        more += "[[map]]\nname = \"m\"\nfile = \"map.csv\"\n";
+        for name in map_keys(numbers) {
+            let at = numbers.below(names.len() + 1);
+            names.insert(at, name.clone());
+            compared.push(name);
+        }
+    }
+    if numbers.one_in(3) {
+        for _ in 0..1 + numbers.below(2) {
+            more += &condition(numbers, &compared);
+        }
+    }
     let length = if bad == 5 { 0 } else { numbers.of(&[1, 7, 1000, 60_000, 60_000, 3_600_000]) };
     let spread = if bad == 6 { numbers.of(&[0, 4097]) } else { numbers.of(&[1, 2, 10, 4096, 4096]) };
     let method = numbers.of(&["start", "end", "mid", "uniform", "proportional"]);
-    format!(
-        "interval_ms = {length}\nmethod = \"{method}\"\nmax_spread = {spread}\nkeys = [{}]\ncounters = [{}]\n",
+    let text = format!(
+        "interval_ms = {length}\nmethod = \"{method}\"\nmax_spread = {spread}\nkeys = [{}]\ncounters = [{}]\n{more}",
         quoted(&names),
         quoted(&counted)
-    )
+    );
+    (text, has_map)
 }
 
 /// The width of a field: mostly that of its kind.
@@ -115,7 +213,7 @@ fn template(numbers: &mut Numbers, keys: &[Element], counters: &[Element]) -> Te
     elements.extend(keys.iter().chain(counters));
     elements.retain(|_| !numbers.one_in(25));
     for _ in 0..numbers.below(3) {
-        elements.push(numbers.of(&[(150, "", 4), (153, "", 8), (8, "", 4), (1, "", 8), (210, "", 3)]));
+        elements.push(numbers.of(&[(150, "", 4), (153, "", 8), (8, "", 4), (1, "", 8), (210, "", 3), (27, "", 16), (12, "", 4)]));
     }
     for at in 1..elements.len() {
         elements.swap(at, numbers.below(at + 1));
@@ -134,7 +232,8 @@ fn value(numbers: &mut Numbers, start: u64, end: u64, field: Field) -> u128 {
         151 => u128::from(end / 1000),
         152 => u128::from(start),
         153 => u128::from(end),
-        8 | 12 => 0xc000_0200 + numbers.of(&[0, 1, 2, 128, 200, 0x100]),
+        8 | 12 => u128::from(numbers.of(IPV4)),
+        27 => numbers.of(IPV6),
         1 | 2 | 3 | 24 | 132 if numbers.one_in(400) => u128::from(u64::MAX - numbers.next() % 3),
         1 | 2 | 3 | 24 | 132 => numbers.of(&[0, 1, 7, 40, 1500, 70_000]),
         _ => numbers.of(&[0, 1, 2, 250]),
@@ -230,7 +329,11 @@ fn main() -> io::Result<()> {
         let keys = some_of(&mut numbers, KEYS, many_keys);
         let counters = some_of(&mut numbers, COUNTERS, many_counters);
         fs::create_dir(format!("{folder}/{case}"))?;
-        fs::write(format!("{folder}/{case}/plan.toml"), plan(&mut numbers, &keys, &counters))?;
+        let (text, has_map) = plan(&mut numbers, &keys, &counters);
+        fs::write(format!("{folder}/{case}/plan.toml"), text)?;
+        if has_map {
+            fs::write(format!("{folder}/{case}/map.csv"), map(&mut numbers))?;
+        }
         for file in 1..=1 + numbers.below(3) {
             fs::write(format!("{folder}/{case}/session-{file}"), session(&mut numbers, &keys, &counters))?;
         }

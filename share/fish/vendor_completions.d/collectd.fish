@@ -1,5 +1,5 @@
 # Completions of collectd for fish.
-set -l commands dump files tcp record finish merge elements explain help
+set -l commands dump files tcp record finish merge verify elements explain help
 complete -c collectd -f
 complete -c collectd -n "not __fish_seen_subcommand_from $commands" -a dump -d 'Write a line for each data record'
 complete -c collectd -n "not __fish_seen_subcommand_from $commands" -a files -d 'Write the table of files'
@@ -7,17 +7,18 @@ complete -c collectd -n "not __fish_seen_subcommand_from $commands" -a tcp -d 'W
 complete -c collectd -n "not __fish_seen_subcommand_from $commands" -a record -d 'Record what exporters send in files'
 complete -c collectd -n "not __fish_seen_subcommand_from $commands" -a finish -d 'Finish what a stopped run left'
 complete -c collectd -n "not __fish_seen_subcommand_from $commands" -a merge -d 'Write the table of tables'
+complete -c collectd -n "not __fish_seen_subcommand_from $commands" -a verify -d 'Compare a table with its receipt'
 complete -c collectd -n "not __fish_seen_subcommand_from $commands" -a elements -d 'List the elements that are known'
 complete -c collectd -n "not __fish_seen_subcommand_from $commands" -a explain -d 'Explain a fault'
 complete -c collectd -n "not __fish_seen_subcommand_from $commands" -a help -d 'Print help'
 complete -c collectd -n "not __fish_seen_subcommand_from $commands" -l version -d 'Print the version'
 complete -c collectd -l help -d 'Print help'
-complete -c collectd -n '__fish_seen_subcommand_from help' -a 'dump files tcp record finish merge elements explain'
+complete -c collectd -n '__fish_seen_subcommand_from help' -a 'dump files tcp record finish merge verify elements explain'
 # (the names of the faults, as the program lists them)
 complete -c collectd -n '__fish_seen_subcommand_from explain' -a "(command -q collectd; and collectd explain 2> /dev/null | string replace -r '^(?:\d+ )?(\w+):? ' '\$1\t')"
 complete -c collectd -n '__fish_seen_subcommand_from dump files tcp merge elements' -l elements -r -F -d 'A file of elements'
 complete -c collectd -n '__fish_seen_subcommand_from dump' -l format -x -a 'text json' -d 'How a data record is written'
-complete -c collectd -n '__fish_seen_subcommand_from files merge' -F
+complete -c collectd -n '__fish_seen_subcommand_from files merge verify' -F
 complete -c collectd -n '__fish_seen_subcommand_from files tcp merge' -l plan -r -F -d 'The plan of the aggregation'
 complete -c collectd -n '__fish_seen_subcommand_from files tcp' -l workers -x -d 'How many threads aggregate, 1 to 16'
 complete -c collectd -n '__fish_seen_subcommand_from files tcp' -l ring -x -d 'How many records may wait for a worker'
@@ -28,15 +29,22 @@ complete -c collectd -n '__fish_seen_subcommand_from files tcp merge' -l format 
 complete -c collectd -n '__fish_seen_subcommand_from files tcp merge' -l time -x -d 'The export time in the messages of ipfix'
 complete -c collectd -n '__fish_seen_subcommand_from files tcp' -l progress -d 'Show how much each session has read'
 complete -c collectd -n '__fish_seen_subcommand_from files tcp' -l receipt -r -F -d 'Write to FILE what the table was made of'
-complete -c collectd -n '__fish_seen_subcommand_from dump files tcp record merge' -s v -l verbose -d 'Print more on standard error'
+complete -c collectd -n '__fish_seen_subcommand_from dump files tcp record merge verify' -s v -l verbose -d 'Print more on standard error'
 complete -c collectd -n '__fish_seen_subcommand_from dump files tcp merge' -l strict -d 'End with status 1 if anything was lost'
+complete -c collectd -n '__fish_seen_subcommand_from verify' -l table -r -F -d 'The table'
 complete -c collectd -n '__fish_seen_subcommand_from tcp record' -l listen -x -d 'The TCP address and port to listen on'
 complete -c collectd -n '__fish_seen_subcommand_from tcp record' -l sessions -x -d 'How many connections'
 complete -c collectd -n '__fish_seen_subcommand_from tcp record' -l idle -x -d 'How many seconds a peer may send nothing'
+complete -c collectd -n '__fish_seen_subcommand_from merge' -l into -x -a 'day month' -d 'Add rows up into local days or months'
+complete -c collectd -n '__fish_seen_subcommand_from merge' -l zone -x -d 'The time zone of days and months'
+complete -c collectd -n '__fish_seen_subcommand_from merge' -l receipts -d 'Merge files by their receipts'
+complete -c collectd -n '__fish_seen_subcommand_from merge' -l receipt-of -x -d 'The receipt that a file has'
+complete -c collectd -n '__fish_seen_subcommand_from merge' -l incomplete -d 'Merge files that are not complete, too'
 complete -c collectd -n '__fish_seen_subcommand_from record' -l into -x -a '(__fish_complete_directories)' -d 'The folder of the recordings'
 complete -c collectd -n '__fish_seen_subcommand_from record' -l udp -x -d 'The UDP address and port to receive datagrams on'
 complete -c collectd -n '__fish_seen_subcommand_from record' -l peers -x -d 'How many peers that send datagrams are kept'
 complete -c collectd -n '__fish_seen_subcommand_from record' -l reorder -x -d 'How many seconds a datagram waits for those before it'
+complete -c collectd -n '__fish_seen_subcommand_from record' -l templates -x -d 'What the templates of a peer over UDP may count'
 complete -c collectd -n '__fish_seen_subcommand_from record' -l buffer -x -d 'How many octets of datagrams the system is asked to keep'
 complete -c collectd -n '__fish_seen_subcommand_from record' -l every -x -d 'The length of a period in seconds'
 complete -c collectd -n '__fish_seen_subcommand_from record' -l from -x -d 'Which peers may send'
