@@ -1,7 +1,7 @@
 -- How many octets of a text count: at least all but those of a message and of a read.
-use Rattle.std.proofs.Common.{◌≡◌, ℕ, ◌+◌, ◌<◌, ◌≤◌, List, [], ◌∷◌, ◌++◌, length, take, drop, get_or, sym, ap, subst, ◌∙◌, arith, inl, inr}
+use Rattle.std.proofs.Common.{◌≡◌, ℕ, ◌+◌, ◌<◌, ◌≤◌, List, [], ◌∷◌, ◌++◌, length, take, drop, get_or, refl, sym, ap, subst, ◌∙◌, arith, inl, inr}
 use Rattle.std.specs.Prelude.{◌⊎◌, ◌^◌, All, Option, Some, None, sum_by}
-use Rattle.std.proofs.lemmas.List.{append-nil, length-append, length-drop, length-take-le}
+use Rattle.std.proofs.lemmas.List.{length-append, length-drop, length-take-le, take_all}
 use Rattle.std.proofs.lemmas.Bool.{cases_lt}
 use Rattle.std.proofs.lemmas.List.{get_or_past}
 use Rattle.std.proofs.lemmas.List.Concat.{length-flat_map}
@@ -11,23 +11,17 @@ use Rattle.ipfix_wire.proofs.Octets.{IsOctets-drop, IsOctets-front}
 use Rattle.ipfix_wire.proofs.Headers.{header_is_good}
 use Rattle.ipfix_wire.proofs.Parts.{cases_read}
 use Rattle.ipfix_message.specs.Domains.{History, Message, message_gives}
-use Rattle.ipfix_message.specs.declared.fault.MessageFault.TheVariants.{OutOfMemory}
-use Rattle.ipfix_session.specs.declared.fault.SessionFault.{SessionFault}
-use Rattle.ipfix_session.specs.declared.fault.SessionFault.TheVariants as faults
-use Rattle.ipfix_session.specs.declared.report.FullReport.{FullReport}
+use Rattle.ipfix_message.specs.declared.fault.MessageFault.{MessageFault}
 use Rattle.ipfix_session.specs.declared.report.MessagePlace.{MessagePlace}
 use Rattle.ipfix_session.specs.declared.stop.Stop.{Stop}
 use Rattle.ipfix_session.specs.declared.driver.TheConstants.{READ_SIZE}
 use Rattle.ipfix_session.specs.Buffers.{IsRest}
-use Rattle.ipfix_session.specs.Drives.{PutsUpTo}
-use Rattle.ipfix_session.specs.Feeding.{PutsWhole}
-use Rattle.ipfix_session.specs.Given.{Given, gives, gives_after, known_after, octets_of, stop_of, IsOpen, IsPrefix}
-use Rattle.ipfix_session.specs.MessageStream.{cut, next_message}
-use Rattle.ipfix_session.specs.Places.{length_of, messages_before_fault, place_after, ReportsInFull}
-use Rattle.ipfix_session.specs.Sinks.{SinkView}
+use Rattle.ipfix_session.specs.Given.{Given, gives, gives_after, known_after, messages_give, octets_of, stop_after, stop_of, IsOpen, IsPrefix}
+use Rattle.ipfix_session.specs.MessageStream.{cut, next_message, rest_stop}
+use Rattle.ipfix_session.specs.Places.{length_of, messages_before_fault, place_after}
 use Rattle.ipfix_session.specs.WholeMessages.{whole_octets}
 use Rattle.ipfix_session.proofs.Filling.{rest_is_short}
-use Rattle.ipfix_session.proofs.Giving.{gives_after-next, gives_after-fault, gives_after-stop}
+use Rattle.ipfix_session.proofs.Giving.{closed, give-none, give-next, give-fault, gives_after-is, gives_after-next, gives_after-fault, gives_after-stop}
 use Rattle.ipfix_session.proofs.Places.{place_is, stops_at_place}
 
 -- ---- which messages count
@@ -39,22 +33,6 @@ pub record Counted (old all : List Message) (place : MessagePlace) : Type 0 wher
   pub up_to : IsPrefix messages all
   pub is : place ≡ place_after messages
 
-pub counted : {K : Type 0} (view : SinkView K) (fault : Option SessionFault) (old all : List Message) (before after : K) (full : FullReport) → IsPrefix old all
-    → PutsUpTo view fault old all before after (ReportsInFull full) → Counted old all full.stopped_at
-counted view fault old all before after full prefix = by_fault fault
-  where
-    whole : PutsWhole view old all before after (ReportsInFull full) → Counted old all full.stopped_at
-    whole p = record { messages = all; from = prefix; up_to = ([], sym (append-nil all)); is = p.tells.counts.stopped_at }
-
-    by_fault : (fault : Option SessionFault) → PutsUpTo view fault old all before after (ReportsInFull full) → Counted old all full.stopped_at
-    by_fault None p = whole p
-    by_fault (Some faults.Truncated) p = whole p
-    by_fault (Some faults.ReadFailed) p = whole p
-    by_fault (Some faults.TooManyReads) p = whole p
-    by_fault (Some (faults.Message OutOfMemory)) p = record { messages = p.whole; from = p.from; up_to = p.up_to; is = p.puts.tells.counts.stopped_at }
-    by_fault (Some (faults.Message e)) p = whole p
-    by_fault (Some faults.SinkClosed) b = record { messages = b.whole; from = b.from; up_to = (b.next ∷ b.more, b.are); is = b.tells.counts.stopped_at }
-
 -- ---- how long they are
 
 -- a text is its whole messages and the rest
@@ -65,8 +43,8 @@ IsCut = (text : List ℕ) → take (whole_octets text) text ≡ octets_of (cut t
 abbrev pub octets_before : List ℕ → ℕ
 octets_before text = sum_by length (messages_before_fault text)
 
-at_most : IsCut → (text : List ℕ) → octets_before text ≤ length text
-at_most is_cut text =
+pub octets_fit : IsCut → (text : List ℕ) → octets_before text ≤ length text
+octets_fit is_cut text =
     let items = (cut text).items in
     let first = sum_by-take-le length items (length (gives text).messages) in
     let sum : length (octets_of items) ≡ sum_by length items = length-flat_map (λ (m : List ℕ). m) items in
@@ -112,6 +90,37 @@ at_least text octets is_open =
     let short = short_rest rest (IsOctets-drop (octets_before text) text octets) is_rest in
     omega (arith, short, length-drop {A = ℕ})
 
+-- messages without a fault are all given
+all_given : (ds : History) (ms : List (List ℕ)) → (messages_give ds ms).1 ≡ None → length (messages_give ds ms).0 ≡ length ms
+all_given ds [] none = ap (λ (r : List Message × Option MessageFault). length r.0) (give-none ds)
+all_given ds (m ∷ ms) none =
+    elim (cases_read (message_gives ds m)) [
+      | inl good ↦
+          let is = give-next ds m ms good.0 good.1 in
+          let later = all_given good.0.domains ms (sym (ap (λ (r : List Message × Option MessageFault). r.1) is) ∙ none) in
+          omega (arith, ap (λ (r : List Message × Option MessageFault). length r.0) is, later)
+      | inr bad ↦
+          let some = sym (ap (λ (r : List Message × Option MessageFault). r.1) (give-fault ds m ms bad.0 bad.1)) ∙ none in
+          absurd cc
+    ]
+
+none_if_open : (o : Option MessageFault) (s : Stop) → IsOpen (stop_after o s) → o ≡ None
+none_if_open None s is_open = refl
+none_if_open (Some e) s is_open = absurd is_open
+
+-- all whole messages of a text without a fault are before it
+pub whole_before : IsCut → (text : List ℕ) → IsOpen (stop_of text) → whole_octets text ≤ octets_before text
+whole_before is_cut text is_open =
+    let items = (cut text).items in
+    let read = messages_give [] items in
+    let is : gives text ≡ closed read (cut text).rest = gives_after-is [] text (cut text) refl in
+    let none = none_if_open read.1 (rest_stop (cut text).rest) (subst IsOpen (ap (λ (g : Given). g.stop) is) is_open) in
+    let count : length (gives text).messages ≡ length items = ap (λ (g : Given). length g.messages) is ∙ all_given [] items none in
+    let all : messages_before_fault text ≡ items = take_all (length (gives text).messages) items (omega (arith, count)) in
+    let sum : length (octets_of items) ≡ sum_by length items = length-flat_map (λ (m : List ℕ). m) items in
+    let whole = length-take-le (whole_octets text) text (omega arith) in
+    omega (arith, ap (sum_by length) all, sum, whole, ap length (is_cut text))
+
 -- messages that go on from others are no shorter
 longer : (xs ys : List Message) → IsPrefix xs ys → sum_by length_of xs ≤ sum_by length_of ys
 longer xs ys p = omega (arith, ap (sum_by length_of) p.1, sum_by-append length_of xs p.0)
@@ -128,8 +137,8 @@ counts_in is_cut gave earlier last place octets small is size is_open c =
     let old = ap (λ (p : MessagePlace). p.octet) (place_is earlier) in
     let first : IsOctets earlier = IsOctets-front earlier last (subst IsOctets is octets) in
     let low = at_least earlier first is_open in
-    let high = at_most is_cut gave in
-    let before = at_most is_cut earlier in
+    let high = octets_fit is_cut gave in
+    let before = octets_fit is_cut earlier in
     let above = longer (gives earlier).messages c.messages c.from in
     let below = longer c.messages (gives gave).messages c.up_to in
     let sum : length gave ≡ length earlier + length last = ap length is ∙ length-append earlier last in

@@ -1,21 +1,27 @@
 -- The digest of a session is that of the octets that count.
-use Rattle.std.proofs.Common.{◌≡◌, ℕ, ◌+◌, ◌<◌, List, ◌++◌, length, take, refl, sym, ap, subst, ◌∙◌, arith, inl, inr}
-use Rattle.std.specs.Prelude.{◌⊎◌, ◌^◌, Option, Some, None, IfSome, IfNone, unwrap_or}
+use Rattle.std.proofs.Common.{◌≡◌, ℕ, ◌<◌, List, ◌++◌, length, take, refl, sym, ap, subst, ◌∙◌, arith, inl, inr}
+use Rattle.std.specs.Prelude.{◌⊎◌, ◌^◌, ◌≢◌, ◌≤◌, Bool, true, false, Option, Some, None}
 use Rattle.std.specs.Io.KnownBytes.{Consumes}
 use Rattle.std.proofs.lemmas.List.{length-append, take-append-le, take_at}
 use Rattle.ipfix_wire.specs.Numbers.{IsOctets}
 use Rattle.ipfix_session.specs.declared.report.FullReport.{FullReport}
-use Rattle.ipfix_session.specs.Drives.{DrivesTo, Gave}
-use Rattle.ipfix_session.specs.Places.{ReportsInFull}
-use Rattle.ipfix_session.specs.Given.{gives, IsPrefix}
-use Rattle.ipfix_session.specs.Sinks.{SinkView}
+use Rattle.ipfix_session.specs.declared.report.MessagePlace.{MessagePlace}
+use Rattle.ipfix_session.specs.declared.fault.SessionFault.{SessionFault}
+use Rattle.ipfix_session.specs.declared.fault.SessionFault.TheVariants as faults
+use Rattle.ipfix_message.specs.declared.fault.MessageFault.TheVariants.{OutOfMemory}
+use Rattle.ipfix_session.specs.Drives.{IsDue}
+use Rattle.ipfix_session.specs.Faults.{ends_open}
+use Rattle.ipfix_session.specs.Given.{gives, stop_of, IsOpen}
+use Rattle.ipfix_session.specs.MessageCounts.{CounterView}
+use Rattle.ipfix_session.specs.Places.{place_after}
 use Rattle.ipfix_session.specs.Sources.{SourceView}
-use Rattle.ipfix_session.proofs.Giving.{gives-prefix}
+use Rattle.ipfix_session.specs.WholeMessages.{whole_octets}
+use Rattle.ipfix_session.proofs.Places.{place_is}
 use Rattle.sha2.specs.Sha256.{sha256}
 use Rattle.input_digests.specs.declared.front_digest.FrontDigest.{FrontDigest}
-use Rattle.input_digests.specs.FrontDigests.{HasRead}
+use Rattle.input_digests.specs.FrontDigests.{HasRead, MayBeUnknown}
 use Rattle.input_digests.specs.HashedTexts.{HasHashed, TellsSession}
-use Rattle.input_digests.proofs.Counted.{Counted, CountsIn, IsCut, are_octets, counted, counts_in}
+use Rattle.input_digests.proofs.Counted.{Counted, CountsIn, IsCut, are_octets, counts_in, octets_fit, whole_before}
 
 -- what was given of a text, and what is left of it
 pub record IsGivenOf (text gave : List ℕ) : Type 0 where
@@ -36,52 +42,78 @@ both_given : (text a b : List ℕ) (after : Option (List ℕ)) → Consumes (Som
 both_given text a b None c e = absurd c
 both_given text a b (Some left) c e = same_given text a b left c e
 
--- what a digest answers of the octets that count
-pub record Answers (digest : FrontDigest) (octets : ℕ) (found : Option (List ℕ)) : Type 0 where
-  pub is : (t : List ℕ) → HasRead digest t → length t < 2 ^ 64 → IfSome found (λ x. x ≡ sha256 (take octets t))
-  pub none : (t : List ℕ) → HasRead digest t → length t < 2 ^ 64 → IfNone found ((length t < octets) ⊎ (octets + 131072 < length t))
+-- ---- a session whose report tells of all its messages that count
 
-answered : (digest : FrontDigest) (octets : ℕ) (found : Option (List ℕ)) (zeros gave left text : List ℕ) → Answers digest octets found → HasRead digest gave → CountsIn octets gave → length gave < 2 ^ 64 → text ≡ gave ++ left
-    → unwrap_or found zeros ≡ sha256 (take octets text)
-answered digest octets None zeros gave left text a read counts small whole =
-    elim (a.none gave read small) [
-      | inl few ↦ absurd (omega (arith, few, counts.at_most))
-      | inr many ↦ absurd (omega (arith, many, counts.at_least))
-    ]
-answered digest octets (Some x) zeros gave left text a read counts small whole =
-    a.is gave read small ∙ ap sha256 (sym (ap (take octets) whole ∙ take-append-le octets gave left counts.at_most))
+-- the octets that a session counted of what a source gave, and the digest has read it
+pub record CountedOf (digest : FrontDigest) (text : List ℕ) (full : FullReport) (now : SourceView) : Type 0 where
+  pub gave : List ℕ
+  pub left : List ℕ
+  pub whole : text ≡ gave ++ left
+  pub sure : ℕ
+  pub read : HasRead digest sure gave
+  pub small : length gave < 2 ^ 64
+  pub counts : CountsIn full.stopped_at.octet gave
+  -- more are known to count only after the end, and then the session ended at a message
+  pub settled : full.stopped_at.octet < sure → (now.ended ≡ true) × (ends_open full.report.fault ≡ false)
 
--- of a source that gave octets, of whose messages these count
-pub digested_given : {S : Type 0} (seen : S → SourceView) (limit : ℕ) (before after : S) (gave : List ℕ) (full : FullReport) (digest : FrontDigest) (text zeros : List ℕ) (found : Option (List ℕ))
-    → IsCut → length text < 2 ^ 64 → (seen before).text ≡ Some text → (g : Gave seen limit before gave after full.report.fault) → Counted (gives g.stops.earlier).messages (gives gave).messages full.stopped_at
-    → HasHashed digest (Some text) (seen after).text → Answers digest full.stopped_at.octet found
-    → unwrap_or found zeros ≡ sha256 (take full.stopped_at.octet text)
-digested_given seen limit before after gave full digest text zeros found is_cut small start g c h a =
-    let stops = g.stops in
-    let given : Consumes (Some text) (seen after).text gave = subst (λ (o : Option (List ℕ)). Consumes o (seen after).text gave) start g.octets in
-    let of = given_of text gave (seen after).text given in
-    let same : h.gave ≡ gave = both_given text h.gave gave (seen after).text h.given given in
-    let read : HasRead digest gave = subst (HasRead digest) same h.read in
-    let octets : IsOctets gave = subst IsOctets same (are_octets h.gave h.octets) in
-    let less : length gave < 2 ^ 64 = omega (arith, ap length of.whole, length-append gave of.left, small) in
-    answered digest full.stopped_at.octet found zeros gave of.left text a read
-    (counts_in is_cut gave stops.earlier stops.last full.stopped_at octets less stops.is stops.size stops.no_fault c) less of.whole
+-- no message that counts is after those that are whole, if the session could have gone on
+all_if_open : (fault : Option SessionFault) (limit : ℕ) (gave : List ℕ) (before after : SourceView) → IsDue fault limit gave before after → ends_open fault ≡ true → IsOpen (stop_of gave) × (fault ≢ Some (faults.Message OutOfMemory))
+all_if_open None limit gave before after due goes = (subst IsOpen (sym due.0) tt, λ is. absurd cc)
+all_if_open (Some faults.Truncated) limit gave before after due goes = (subst IsOpen (sym due.0) tt, λ is. absurd cc)
+all_if_open (Some faults.ReadFailed) limit gave before after due goes = (due.0, λ is. absurd cc)
+all_if_open (Some faults.TooManyReads) limit gave before after due goes = (due.0, λ is. absurd cc)
+all_if_open (Some (faults.Message e)) limit gave before after due goes = absurd cc
+all_if_open (Some faults.SinkClosed) limit gave before after due goes = absurd cc
 
-pub digested : {S K : Type 0} (seen : S → SourceView) (view : SinkView K) (limit : ℕ) (before after : S) (first last : K) (full : FullReport) (digest : FrontDigest) (text zeros : List ℕ) (found : Option (List ℕ))
-    → IsCut → length text < 2 ^ 64 → (seen before).text ≡ Some text → DrivesTo seen view limit before after first last full.report.fault (ReportsInFull full)
-    → HasHashed digest (Some text) (seen after).text → Answers digest full.stopped_at.octet found
-    → unwrap_or found zeros ≡ sha256 (take full.stopped_at.octet text)
-digested seen view limit before after first last full digest text zeros found is_cut small start d h a =
-    let stops = d.given.stops in
-    let prefix = subst (λ (xs : List ℕ). IsPrefix (gives stops.earlier).messages (gives xs).messages) (sym stops.is) (gives-prefix stops.earlier stops.last) in
-    let c = counted view full.report.fault (gives stops.earlier).messages (gives d.gave).messages d.middle last full prefix d.puts in
-    digested_given seen limit before after d.gave full digest text zeros found is_cut small start d.given c h a
-
--- of a session whose report tells of all its messages that count
-pub digested_session : {S : Type 0} (seen : S → SourceView) (limit : ℕ) (before after : S) (full : FullReport) (digest : FrontDigest) (text zeros : List ℕ) (found : Option (List ℕ))
-    → IsCut → length text < 2 ^ 64 → (seen before).text ≡ Some text → TellsSession seen limit before after full → HasHashed digest (Some text) (seen after).text → Answers digest full.stopped_at.octet found
-    → unwrap_or found zeros ≡ sha256 (take full.stopped_at.octet text)
-digested_session seen limit before after full digest text zeros found is_cut small start t h a =
+pub counted_of : {S : Type 0} (seen : S → SourceView) (limit : ℕ) (before after : S) (full : FullReport) (digest : FrontDigest) (messages : CounterView) (text : List ℕ)
+    → IsCut → length text < 2 ^ 64 → (seen before).text ≡ Some text → TellsSession seen limit before after full → HasHashed digest messages (Some text) (seen after) → CountedOf digest text full (seen after)
+counted_of seen limit before after full digest messages text is_cut small start t h =
     let g = t.given in
-    let c : Counted (gives g.given.stops.earlier).messages (gives g.gave).messages full.stopped_at = record { messages = g.counted; from = g.earlier; up_to = g.first; is = t.told.counts.stopped_at } in
-    digested_given seen limit before after g.gave full digest text zeros found is_cut small start g.given c h a
+    let stops = g.given.stops in
+    let given : Consumes (Some text) (seen after).text g.gave = subst (λ (o : Option (List ℕ)). Consumes o (seen after).text g.gave) start g.given.octets in
+    let of = given_of text g.gave (seen after).text given in
+    let same : h.gave ≡ g.gave = both_given text h.gave g.gave (seen after).text h.given given in
+    let octets : IsOctets g.gave = subst IsOctets same (are_octets h.gave h.octets) in
+    let less : length g.gave < 2 ^ 64 = omega (arith, ap length of.whole, length-append g.gave of.left, small) in
+    let c : Counted (gives stops.earlier).messages (gives g.gave).messages full.stopped_at = record { messages = g.counted; from = g.earlier; up_to = g.first; is = t.told.counts.stopped_at } in
+    record {
+      gave = g.gave;
+      left = of.left;
+      whole = of.whole;
+      sure = h.sure;
+      read = subst (HasRead digest h.sure) same h.read;
+      small = less;
+      counts = counts_in is_cut g.gave stops.earlier stops.last full.stopped_at octets less stops.is stops.size stops.no_fault c;
+      settled = by_end same less h.settled;
+    }
+  where
+    by_fault : length t.given.gave < 2 ^ 64 → h.sure ≤ whole_octets t.given.gave → full.stopped_at.octet < h.sure → (goes : Bool) → ends_open full.report.fault ≡ goes → ends_open full.report.fault ≡ false
+    by_fault less few more false is = is
+    by_fault less few more true is =
+        let g = t.given in
+        let goes = all_if_open full.report.fault limit g.gave (seen before) (seen after) g.given.fault_is_due is in
+        let all = g.all goes.1 in
+        let place = ap (λ (p : MessagePlace). p.octet) (t.told.counts.stopped_at ∙ ap place_after all ∙ place_is g.gave) in
+        let whole = whole_before is_cut g.gave goes.0 in
+        let long = octets_fit is_cut g.gave in
+        absurd (omega (arith, few, more, place, whole, long, less))
+
+    by_end : h.gave ≡ t.given.gave → length t.given.gave < 2 ^ 64 → (h.sure ≡ 0) ⊎ (((seen after).ended ≡ true) × (h.sure ≤ whole_octets h.gave)) → full.stopped_at.octet < h.sure → ((seen after).ended ≡ true) × (ends_open full.report.fault ≡ false)
+    by_end same less (inl none) more = absurd (omega (arith, none, more))
+    by_end same less (inr some) more = (some.0, by_fault less (subst (λ (xs : List ℕ). h.sure ≤ whole_octets xs) same some.1) more (ends_open full.report.fault) refl)
+
+-- the digest that was found is that of the octets that count
+pub digested : (digest : FrontDigest) (text : List ℕ) (full : FullReport) (now : SourceView) (sha : List ℕ) → CountedOf digest text full now
+    → ((sure : ℕ) (t : List ℕ) → HasRead digest sure t → length t < 2 ^ 64 → sha ≡ sha256 (take full.stopped_at.octet t)) → sha ≡ sha256 (take full.stopped_at.octet text)
+digested digest text full now sha c is =
+    is c.sure c.gave c.read c.small ∙ ap sha256 (sym (ap (take full.stopped_at.octet) c.whole ∙ take-append-le full.stopped_at.octet c.gave c.left c.counts.at_most))
+
+-- and none is found only of a session that ended at a message, after the end of its source
+pub none_digested : (digest : FrontDigest) (text : List ℕ) (full : FullReport) (now : SourceView) → CountedOf digest text full now
+    → ((sure : ℕ) (t : List ℕ) → HasRead digest sure t → length t < 2 ^ 64 → MayBeUnknown full.stopped_at.octet sure t) → (now.ended ≡ true) × (ends_open full.report.fault ≡ false)
+none_digested digest text full now c none =
+    elim (none c.sure c.gave c.read c.small) [
+      | inl few ↦ absurd (omega (arith, few, c.counts.at_most))
+      | inr (inl more) ↦ c.settled more
+      | inr (inr many) ↦ absurd (omega (arith, many, c.counts.at_least))
+    ]

@@ -1,6 +1,5 @@
 pub mod Fronts
 pub mod Hashing
 pub mod Counted
-pub mod Driven
 pub mod Digested
 pub mod Whole

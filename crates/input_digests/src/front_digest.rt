@@ -1,20 +1,22 @@
 //! The digest of the front of a text, whose length is known only at its end.
 
-ghost use Rattle.std.specs.Prelude.{◌≡◌, ◌≤◌, ◌<◌, ◌+◌, ◌^◌, ◌++◌, ◌⊎◌, [], ℕ, List, length, take, IfOk, IfSome, IfNone};
-ghost use Rattle.ipfix_session.specs.declared.driver.TheConstants.{READ_SIZE};
+ghost use Rattle.std.specs.Prelude.{◌≡◌, ◌≤◌, ◌<◌, ◌+◌, ◌^◌, ◌++◌, [], ℕ, List, length, max, take, IfSome, IfNone, OnOk};
 ghost use Rattle.sha2.specs.Sha256.{sha256};
-ghost use Rattle.input_digests.specs.FrontDigests.{HasRead};
+ghost use Rattle.input_digests.specs.FrontDigests.{HasRead, HoldsRest, MayBeUnknown};
 
-use crate::held_octets::{HeldOctets, ROOM};
-use ipfix_session::READ_SIZE;
+use crate::held_octets::HeldOctets;
 use sha2::{Digest, Sha256};
 use std::alloc::{AllocError, Global};
 
 /// The octets at the end of a text that may turn out not to count: those of two reads.
 pub const MOST_OPEN: usize = 131072;
 
+// Some octets are hashed before a piece makes them more than these.
+const MOST_HELD: usize = 262144;
+
 /// The SHA-256 of the front of a text that comes in pieces, where only its end tells how many of its
-/// octets count. It holds the last [`MOST_OPEN`] octets of the text, in 262,144 octets of memory.
+/// octets count. It holds the last [`MOST_OPEN`] octets of the text or more, 262,144 if the pieces are of at
+/// most 131,072; but no octet that is known to count.
 #[derive(Drop)]
 pub struct FrontDigest {
     hasher: Sha256,
@@ -23,46 +25,55 @@ pub struct FrontDigest {
 }
 
 impl FrontDigest {
-    /// Of a text of which nothing was read.
-    pub fn new(alloc: Global) -> Result<Self, AllocError>
-        ensures { IfOk result (λ digest. HasRead digest []) }
+    /// Of a text of which nothing was read. It takes no memory before the first piece.
+    pub fn new(alloc: Global) -> Self
+        ensures { HasRead result 0 [] }
     {
-        Ok(FrontDigest {
+        FrontDigest {
             hasher: Sha256::new(),
             hashed: 0,
-            held: HeldOctets::new(alloc)?,
-        })
-    }
-
-    /// Reads on in the text.
-    pub fn read(&mut self, piece: &[u8])
-        ensures { (text : List ℕ) → HasRead self.old text → HasRead self.new (text ++ piece.now) }
-    {
-        let mut left = piece;
-        while left.len() > READ_SIZE {
-            let (front, rest) = left.split_at(READ_SIZE);
-            self.read_part(front);
-            left = rest;
+            held: HeldOctets::new(alloc),
         }
-        self.read_part(left);
     }
 
-    // Reads on by at most so many octets.
-    fn read_part(&mut self, piece: &[u8])
-        requires { length piece.now ≤ READ_SIZE }
-        ensures { (text : List ℕ) → HasRead self.old text → HasRead self.new (text ++ piece.now) }
+    /// Reads on in the text. An `Err` is memory that couldn't be had: the piece is lost.
+    pub fn read(&mut self, piece: &[u8]) -> Result<(), AllocError>
+        ensures { OnOk result ((sure : ℕ) (text : List ℕ) → HasRead self.old sure text
+            → HasRead self.new sure (text ++ piece.now)) }
+    {
+        self.make_room(piece.len());
+        self.held.append(piece)?;
+        Ok(())
+    }
+
+    // Hashes what surely counts, if with so many octets more there were too many to hold.
+    fn make_room(&mut self, coming: usize)
+        ensures { (sure : ℕ) (text : List ℕ) → HasRead self.old sure text
+            → HasRead self.new sure text }
     {
         let held = self.held.as_slice().len();
-        if held + piece.len() > ROOM {
+        if held > MOST_OPEN && held.saturating_add(coming) > MOST_HELD {
             self.hash_held(held - MOST_OPEN);
         }
-        self.held.append(piece);
+    }
+
+    /// Takes it that the first octets of the text, so many of them, count: those that were read are hashed, and no
+    /// memory is kept for them.
+    pub fn settle(&mut self, octets: u64)
+        ensures { (sure : ℕ) (text : List ℕ) → HasRead self.old sure text
+            → HasRead self.new (max sure octets) text }
+    {
+        let held = self.held.as_slice().len();
+        let due = octets.saturating_sub(self.hashed).min(held as u64) as usize;
+        self.hash_held(due);
+        self.held.free_room();
     }
 
     // Hashes so many of the octets that are held.
     fn hash_held(&mut self, due: usize)
-        requires { due + MOST_OPEN ≤ length self.old.held }
-        ensures same { (text : List ℕ) → HasRead self.old text → HasRead self.new text }
+        requires { due ≤ length self.old.held }
+        ensures moved { (front text : List ℕ) → HoldsRest self.old front text
+            → HoldsRest self.new (front ++ take due self.old.held) text }
         ensures length { length self.new.held + due ≡ length self.old.held }
     {
         self.hasher.update(&self.held.as_slice()[..due]);
@@ -70,15 +81,15 @@ impl FrontDigest {
         self.held.remove_front(due);
     }
 
-    /// The digest of the first octets of the text, so many of them. `None` if the text has fewer, or
-    /// [`MOST_OPEN`] more. A text has less than 2^64 octets.
+    /// The digest of the first octets of the text, so many of them. `None` if the text has fewer, or if these are
+    /// fewer than are known to count, or the text has [`MOST_OPEN`] more. A text has less than 2^64 octets.
     pub fn finish(self, octets: u64) -> Option<[u8; 32]>
-        ensures found { (text : List ℕ) → HasRead self text → length text < 2 ^ 64
+        ensures found { (sure : ℕ) (text : List ℕ) → HasRead self sure text → length text < 2 ^ 64
             → IfSome result (λ digest. digest ≡ sha256 (take octets text)) }
-        ensures within { (text : List ℕ) → HasRead self text → length text < 2 ^ 64
+        ensures within { (sure : ℕ) (text : List ℕ) → HasRead self sure text → length text < 2 ^ 64
             → IfSome result (λ digest. octets ≤ length text) }
-        ensures none { (text : List ℕ) → HasRead self text → length text < 2 ^ 64
-            → IfNone result ((length text < octets) ⊎ (octets + MOST_OPEN < length text)) }
+        ensures none { (sure : ℕ) (text : List ℕ) → HasRead self sure text → length text < 2 ^ 64
+            → IfNone result (MayBeUnknown octets sure text) }
     {
         let FrontDigest {
             mut hasher,

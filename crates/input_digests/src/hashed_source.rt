@@ -1,11 +1,11 @@
 //! A source whose octets are hashed as they are read.
 
-ghost use Rattle.std.specs.Prelude.{◌≡◌, ◌<◌, ℕ, All, List, Option, None, IfOk};
-ghost use Rattle.input_digests.specs.HashedTexts.{HasHashed, IsOfSession};
+ghost use Rattle.std.specs.Prelude.{◌≡◌, ◌<◌, ℕ, All, List, Option, None, IfOk, OnErr, false};
+ghost use Rattle.input_digests.specs.HashedTexts.{HasHashed, IsOfSession, LacksDigest};
 
 use crate::front_digest::FrontDigest;
 use ipfix_session::laws::whole_octets_are_messages;
-use ipfix_session::{FullReport, ReadError, Source};
+use ipfix_session::{FullReport, MessageCounter, ReadError, Source};
 use std::alloc::{AllocError, Global};
 use std::io::ErrorKind;
 use std::marker::{Brand, PhantomData};
@@ -19,40 +19,62 @@ impl Start for Brand {
     ghost texts = { λ _. None };
 }
 
-/// A source, its place among others, and the digest of what it gave.
+/// A source, its place among others, and the digest of what it gave. When it has shown its end, all its messages
+/// count, and it keeps no octet of them.
 #[derive(Drop)]
 pub struct HashedSource<S: Source, T: Start> {
     pub source: S,
     pub place: usize,
-    pub digest: FrontDigest,
-    pub start: PhantomData<T>,
-    ghost hashed: { ∥ HasHashed digest (T.texts place) (S.seen source).text ∥₁ },
+    /// Whether memory was refused for octets that it gave. Then its digest isn't known.
+    pub lost: bool,
+    digest: FrontDigest,
+    messages: MessageCounter,
+    start: PhantomData<T>,
+    ghost hashed: { ∥ (lost ≡ false → HasHashed digest messages (T.texts place) (S.seen source)) ∥₁ },
 }
 
 impl<S: Source + Drop, T: Start> HashedSource<S, T> {
-    /// A source of which nothing was read, and which has this place.
-    pub fn new(alloc: Global, source: S, place: usize) -> Result<Self, AllocError>
+    /// A source of which nothing was read, and which has this place. It takes no memory before its first octet.
+    pub fn new(alloc: Global, source: S, place: usize) -> Self
         requires { (S.seen source).text ≡ T.texts place }
-        ensures source { IfOk result (λ hashed. hashed.source ≡ source) }
-        ensures place { IfOk result (λ hashed. hashed.place ≡ place) }
+        ensures source { result.source ≡ source }
+        ensures place { result.place ≡ place }
+        ensures kept { result.lost ≡ false }
     {
-        Ok(HashedSource {
+        HashedSource {
             source,
             place,
-            digest: FrontDigest::new(alloc)?,
+            lost: false,
+            digest: FrontDigest::new(alloc),
+            messages: MessageCounter::new(),
             start: PhantomData,
-        })
+        }
     }
 
-    /// The source after its session, of which this is the report, and the digest of the messages that count.
-    pub fn finish(self, full: &FullReport) -> FinishedSource<S>
-        ensures source { result.source ≡ self.source }
-        ensures digest { IsOfSession S.seen (T.texts self.place) self.source full.now result.sha256 }
+    /// The source after its session, of which this is the report, and the digest of the messages that count. An `Err`
+    /// is memory that was refused for its octets; or a report of a fault of a message that came after the end of the
+    /// source, as no session makes it.
+    pub fn finish(self, full: &FullReport) -> Result<FinishedSource<S>, AllocError>
+        ensures source { IfOk result (λ f. f.source ≡ self.source) }
+        ensures digest { IfOk result
+            (λ f. IsOfSession S.seen (T.texts self.place) self.source full.now f.sha256) }
+        ensures none { OnErr result
+            (LacksDigest S.seen (T.texts self.place) self.lost self.source full.now) }
     {
         whole_octets_are_messages();
-        let HashedSource { source, digest, .. } = self;
-        let sha256 = digest.finish(full.stopped_at.octet).unwrap_or([0; 32]);
-        FinishedSource { source, sha256 }
+        let HashedSource {
+            source,
+            digest,
+            lost,
+            ..
+        } = self;
+        if lost {
+            return Err(AllocError);
+        }
+        match digest.finish(full.stopped_at.octet) {
+            Some(sha256) => Ok(FinishedSource { source, sha256 }),
+            None => Err(AllocError),
+        }
     }
 }
 
@@ -77,8 +99,15 @@ impl<S: Source, T: Start> Source for HashedSource<S, T> {
 
     fn read(&mut self, buffer: &mut [u8]) -> Result<usize, ReadError> {
         let count = self.source.read(buffer)?;
-        are_octets(&buffer[..count]);
-        self.digest.read(&buffer[..count]);
+        let piece = &buffer[..count];
+        are_octets(piece);
+        self.messages.read(piece);
+        let lost = self.digest.read(piece).is_err();
+        self.lost |= lost;
+        if count > 0 || buffer.is_empty() {
+            return Ok(count);
+        }
+        self.digest.settle(self.messages.octets());
         Ok(count)
     }
 

@@ -1,52 +1,46 @@
 //! The octets at the end of a text.
 
-ghost use Rattle.std.specs.Prelude.{◌≡◌, ◌≤◌, ◌+◌, ◌++◌, [], length, drop, IfOk};
+ghost use Rattle.std.specs.Prelude.{◌≡◌, ◌≤◌, ◌++◌, [], length, drop, OnOk};
 
 use std::alloc::{AllocError, Global};
 use std::marker::Model;
 
-/// The octets that there is room for.
-pub const ROOM: usize = 262144;
-
-/// Octets in a row, in room that is made at the start.
+/// Octets in a row, in no more memory than the most of them wanted.
 #[derive(Drop)]
 pub struct HeldOctets {
-    room: Vec<u8>,
-    count: usize,
+    octets: Vec<u8>,
 }
 
 impl Model for HeldOctets {
-    ghost use Rattle.std.specs.Prelude.{◌≡◌, ◌≤◌, ℕ, List, length, take};
+    ghost use Rattle.std.specs.Prelude.{ℕ, List};
 
     ghost Value = { List ℕ };
 
-    ghost view = { λ h. take h.count h.room.items };
-
-    ghost invariant = { λ h. (length h.room.items ≡ 262144) × (h.count ≤ 262144) };
+    ghost view = { λ h. h.octets.items };
 }
 
 impl HeldOctets {
-    pub fn new(alloc: Global) -> Result<Self, AllocError>
-        ensures { IfOk result (λ held. held ≡ []) }
+    /// None of them; no memory is taken.
+    pub fn new(alloc: Global) -> Self
+        ensures { result ≡ [] }
     {
-        let room = vec![in alloc; 0; ROOM]?;
-        Ok(HeldOctets { room, count: 0 })
+        HeldOctets {
+            octets: Vec::new(alloc),
+        }
     }
 
     pub fn as_slice(&self) -> &[u8]
         ensures { result.now ≡ self.now }
     {
-        &self.room[..self.count]
+        self.octets.as_slice()
     }
 
     /// Appends a piece.
-    pub fn append(&mut self, piece: &[u8])
-        requires { length self.old + length piece.now ≤ ROOM }
-        ensures { self.new ≡ self.old ++ piece.now }
+    pub fn append(&mut self, piece: &[u8]) -> Result<(), AllocError>
+        ensures { OnOk result (self.new ≡ self.old ++ piece.now) }
     {
-        let end = self.count + piece.len();
-        self.room[self.count..end].copy_from_slice(piece);
-        self.count = end;
+        self.octets.extend_from_slice(piece)?;
+        Ok(())
     }
 
     /// Removes so many octets from the front.
@@ -54,7 +48,15 @@ impl HeldOctets {
         requires { due ≤ length self.old }
         ensures { self.new ≡ drop due self.old }
     {
-        self.room.copy_within(due..self.count, 0);
-        self.count -= due;
+        let count = self.octets.len();
+        self.octets.copy_within(due..count, 0);
+        self.octets.truncate(count - due);
+    }
+
+    /// Gives back the memory that the octets don't need.
+    pub fn free_room(&mut self)
+        ensures { self.new ≡ self.old }
+    {
+        self.octets.shrink_to_fit();
     }
 }

@@ -1,9 +1,12 @@
 //! The digests of sessions: of texts without a fault, with one, cut short, and longer than what is held; the
 //! digests by `sha256sum`.
 
-use input_digests::drive_hashed;
-use ipfix_session::{ScriptSource, SessionFault, VecSink};
-use std::alloc::Global;
+ghost use Rattle.std.specs.Prelude.{◌≡◌};
+
+use input_digests::{HashedSource, Start};
+use ipfix_session::{FullReport, ScriptSource, SessionFault, Source, VecSink, drive_in_full};
+use std::alloc::{AllocError, Global};
+use std::marker::Brand;
 use std::test::*;
 use worked_examples::faults::VERSION_9;
 use worked_examples::flows::ONE_FLOW;
@@ -27,6 +30,30 @@ const OF_NOTHING: [u8; 32] = [
     0x27, 0xae, 0x41, 0xe4, 0x64, 0x9b, 0x93, 0x4c, 0xa4, 0x95, 0x99, 0x1b, 0x78, 0x52, 0xb8, 0x55,
 ];
 
+// A session that was driven, and the digest of its messages that count.
+#[derive(Drop)]
+struct HashedSession {
+    full: FullReport,
+    sha256: [u8; 32],
+}
+
+// Drives a source while what it gives is hashed.
+fn drive_hashed<S: Source + Drop>(alloc: Global, source: S) -> Result<HashedSession, AllocError> {
+    drive_from::<S, Brand>(alloc, source)
+}
+
+fn drive_from<S: Source + Drop, T: Start>(
+    alloc: Global,
+    source: S,
+) -> Result<HashedSession, AllocError>
+    requires { (S.seen source).text ≡ T.texts 0 }
+{
+    let mut hashed: HashedSource<S, T> = HashedSource::new(alloc, source, 0);
+    let full = drive_in_full(alloc, &mut hashed, &mut VecSink::new(alloc), 1000);
+    let sha256 = hashed.finish(&full)?.sha256;
+    Ok(HashedSession { full, sha256 })
+}
+
 #[test]
 fn hashes_the_messages_that_count(rt: HostRuntime) -> Result<(), Fail> {
     let alloc: Global = rt.alloc();
@@ -42,34 +69,41 @@ fn hashes_the_messages_that_count(rt: HostRuntime) -> Result<(), Fail> {
         (&[&[], &[]], 10, None, 0, OF_NOTHING),
     ] {
         let source = ScriptSource::new(text_of(alloc, messages)?, piece, None, None);
-        let session = drive_hashed(alloc, source, &mut VecSink::new(alloc), 1000)?;
-        assert_eq!(rt; session.report.report.fault, fault);
-        assert_eq!(rt; session.report.stopped_at.octet, octets);
+        let session = drive_hashed(alloc, source)?;
+        assert_eq!(rt; session.full.report.fault, fault);
+        assert_eq!(rt; session.full.stopped_at.octet, octets);
         assert_eq!(rt; session.sha256, sha256);
     }
     Ok(())
 }
 
-// 340,000 octets are more than is held of a text, and a read fails after them, or a message is cut.
+// 340,000 octets are more than is held of a text. It ends after them, or a message is cut, a read fails or a message
+// has a fault.
 #[test]
 fn hashes_a_long_text(rt: HostRuntime) -> Result<(), Fail> {
     let alloc: Global = rt.alloc();
+    let truncated = Some(SessionFault::Truncated);
     let failed = Some(SessionFault::ReadFailed);
-    for (piece, fail_at, fault) in [
-        (65536, None, Some(SessionFault::Truncated)),
-        (1400, None, Some(SessionFault::Truncated)),
-        (65536, Some(340000), failed),
-        (1400, Some(340030), failed),
+    let version = Some(SessionFault::Message(ipfix_message::MessageFault::Version));
+    for (piece, end, fail_at, fault) in [
+        (65536, &ONE_FLOW[..0], None, None),
+        (1400, &ONE_FLOW[..0], None, None),
+        (65536, &ONE_FLOW[..40], None, truncated),
+        (1400, &ONE_FLOW[..40], None, truncated),
+        (65536, &ONE_FLOW[..0], Some(340000), failed),
+        (1400, &ONE_FLOW[..40], Some(340030), failed),
+        (65536, VERSION_9, None, version),
+        (1400, VERSION_9, None, version),
     ] {
         let mut text = Vec::new(alloc);
         for _ in 0..5000 {
             text.extend_from_slice(ONE_FLOW)?;
         }
-        text.extend_from_slice(&ONE_FLOW[..40])?;
+        text.extend_from_slice(end)?;
         let source = ScriptSource::new(text, piece, Some(3), fail_at);
-        let session = drive_hashed(alloc, source, &mut VecSink::new(alloc), 1000)?;
-        assert_eq!(rt; session.report.report.fault, fault);
-        assert_eq!(rt; session.report.stopped_at.octet, 340000);
+        let session = drive_hashed(alloc, source)?;
+        assert_eq!(rt; session.full.report.fault, fault);
+        assert_eq!(rt; session.full.stopped_at.octet, 340000);
         assert_eq!(rt; session.sha256, OF_5000);
     }
     Ok(())
@@ -79,8 +113,8 @@ fn hashes_a_long_text(rt: HostRuntime) -> Result<(), Fail> {
 fn a_read_that_fails_at_once_leaves_nothing(rt: HostRuntime) -> Result<(), Fail> {
     let alloc: Global = rt.alloc();
     let source = ScriptSource::new(text_of(alloc, &[ONE_FLOW])?, 10, None, Some(0));
-    let session = drive_hashed(alloc, source, &mut VecSink::new(alloc), 1000)?;
-    assert_eq!(rt; session.report.report.fault, Some(SessionFault::ReadFailed));
+    let session = drive_hashed(alloc, source)?;
+    assert_eq!(rt; session.full.report.fault, Some(SessionFault::ReadFailed));
     assert_eq!(rt; session.sha256, OF_NOTHING);
     Ok(())
 }

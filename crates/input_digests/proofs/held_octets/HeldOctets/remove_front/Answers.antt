@@ -1,14 +1,12 @@
-use Rattle.std.proofs.Common.{ap, ◌≤◌, length, arith}
-use Rattle.std.proofs.lemmas.List.{length-take-le}
+use Rattle.std.proofs.Common.{ap, ◌≡◌, length, take, drop, ◌∙◌, ◌-◌, ◌≤◌, ℕ, List, arith, rules}
 use Rattle.input_digests.proofs.Fronts.{moved_front}
 use Rattle.input_digests.proofs.held_octets.HeldOctets.remove_front.Goals as goal
 
 pub returns : goal.returns
 returns c =
-    let fits : c.self.inside.count ≤ length c.self.inside.room.items = omega (arith, c.self.invariant) in
-    let size = length-take-le c.self.inside.count c.self.inside.room.items fits in
-    let view = c.self.view_is in
-    let within : c.args.due ≤ c.self.inside.count = omega (arith, ap length view, size, c.requires) in
-    let moved = moved_front c.self.inside.room.items c.args.due c.self.inside.count within fits in
-    let copied = c.copy_within.ensures.items in
-    cc
+    let all : c.len-count.result ≡ length c.self.inside.octets.items = search rules in
+    let within : c.args.due ≤ c.len-count.result = omega (arith, ap length c.self.view_is) in
+    c.truncate.ensures.items
+    ∙ ap (take (c.len-count.result - c.args.due)) c.copy_within.ensures.items
+    ∙ moved_front c.self.inside.octets.items c.args.due c.len-count.result within all
+    ∙ ap (λ (xs : List ℕ). drop c.args.due xs) c.self.view_is
