@@ -21,3 +21,4 @@ pub mod Kept
 pub mod Weighed
 pub mod Reaches
 pub mod Streams
+pub mod Once

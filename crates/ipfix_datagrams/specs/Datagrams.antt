@@ -1,9 +1,9 @@
 -- What the datagrams of a peer give (RFC 7011, sections 8.1 and 8.4). Over UDP a definition replaces an older one of its id, and a
 -- withdrawal is ignored. A datagram of withdrawals alone is not kept. In the files, which are read by the rules of a connection, a withdrawal ends its template.
-use Rattle.std.specs.Prelude.{◌≡◌, ◌≢◌, ◌⊎◌, ◌==◌, ◌&&◌, ◌||◌, ◌+◌, ◌<◌, ◌≤◌, ℕ, Bool, false, true, nat_lt, not, is_some, is_ok, List, [], ◌∷◌, map, ◌++◌, filter, reverse, length, drop, count_by, flat_map, sum, if◌then◌else◌, Option, Some, None, option_map, unwrap_or, Ok, Err, All, Contains}
+use Rattle.std.specs.Prelude.{◌≡◌, ◌≢◌, ◌⊎◌, ◌==◌, ◌&&◌, ◌||◌, ◌+◌, ◌<◌, ◌≤◌, ℕ, Bool, false, true, nat_eq, nat_lt, not, is_some, is_ok, List, [], ◌∷◌, map, ◌++◌, filter, reverse, length, drop, count_by, flat_map, sum, if◌then◌else◌, Option, Some, None, option_map, unwrap_or, Ok, Err, All, Contains}
 use Rattle.std.specs.Option.{option_and_then, option_or}
 use Rattle.std.specs.Global.{Vec}
-use Rattle.std.specs.List.{find, list_all, list_any}
+use Rattle.std.specs.List.{IsDistinct, find, list_all, list_any}
 use Rattle.std.specs.List.Sorted.{IsStrictlySortedBy}
 use Rattle.std.specs.Map.{keys_of, lookup, values_of}
 use Rattle.std.specs.Ordering.{nat_cmp, eq_by_cmp}
@@ -426,7 +426,12 @@ pub record KeepsAfter (old new : KnownTemplates) (m : List ℕ) (x : Message) : 
   pub barred : (domain : ℕ) → barred_in new.barred domain ≡ (if domain == x.header.domain then barred_after (barred_in old.barred domain) m else barred_in old.barred domain)
   pub budget : new.budget ≡ old.budget
 
+-- each id that has none is listed once
+abbrev pub AreOnce : (ℕ → List ℕ) → Type 0
+AreOnce barred = (domain : ℕ) → IsDistinct nat_eq (barred domain)
+
 -- these ids of a domain have no template from now on, and nothing else has changed
 pub record Bars (old new : KnownTemplates) (domain : ℕ) (ids : List ℕ) : Type 0 where
   pub others : new ≡ record old { barred = new.barred }
+  pub once : AreOnce (barred_in old.barred) → AreOnce (barred_in new.barred)
   pub barred : (q id : ℕ) → list_any (λ b. b == id) (barred_in new.barred q) ≡ (list_any (λ b. b == id) (barred_in old.barred q) || ((q == domain) && list_any (λ b. b == id) ids))

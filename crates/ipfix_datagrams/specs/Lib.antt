@@ -3,6 +3,7 @@ pub mod Datagrams
 pub mod Withdrawals
 pub mod Advances
 pub mod Reaches
+pub mod RecordsCame
 pub mod Streams
 -- What only inner functions and proofs need.
 pub mod Attempts

@@ -1,7 +1,7 @@
 //! What is kept of a peer's templates beside those that are in force in its files.
 
-ghost use Rattle.std.specs.Prelude.{◌≡◌, ◌==◌, ◌||◌, ◌&&◌, ◌∷◌, ◌++◌, [], ℕ, List, OnOk, IfOk, not, is_some, filter, if◌then◌else◌};
-ghost use Rattle.std.specs.List.{list_any};
+ghost use Rattle.std.specs.Prelude.{◌≡◌, ◌==◌, ◌||◌, ◌&&◌, ◌∷◌, ◌++◌, [], ℕ, List, OnOk, IfOk, nat_eq, not, is_some, filter, if◌then◌else◌};
+ghost use Rattle.std.specs.List.{IsDistinct, list_any};
 ghost use Rattle.std.specs.BTreeMap.{get};
 ghost use Rattle.std.specs.Ordering.{nat_cmp};
 ghost use Rattle.ipfix_datagrams.specs.Datagrams.{Bars, KeepsKnown, barred_in};
@@ -62,7 +62,8 @@ impl KnownTemplates {
 
 // Puts an id among others, unless it is one of them.
 fn put_id(id: u16, all: &mut Vec<u16>) -> Result<(), AllocError>
-    ensures { OnOk result ((q : ℕ) → list_any (λ b. b == q) all.new.items
+    ensures once { IsDistinct nat_eq all.old.items → OnOk result (IsDistinct nat_eq all.new.items) }
+    ensures puts { OnOk result ((q : ℕ) → list_any (λ b. b == q) all.new.items
         ≡ (list_any (λ b. b == q) all.old.items || (id == q))) }
 {
     if all.contains(&id) {
@@ -74,7 +75,8 @@ fn put_id(id: u16, all: &mut Vec<u16>) -> Result<(), AllocError>
 
 // These ids and those.
 fn both(alloc: Global, ids: &[u16], more: &[u16]) -> Result<Vec<u16>, AllocError>
-    ensures { IfOk result (λ all. (q : ℕ) → list_any (λ b. b == q) all.items
+    ensures once { IsDistinct nat_eq ids.now → IfOk result (λ all. IsDistinct nat_eq all.items) }
+    ensures both { IfOk result (λ all. (q : ℕ) → list_any (λ b. b == q) all.items
         ≡ (list_any (λ b. b == q) ids.now || list_any (λ b. b == q) more.now)) }
 {
     let mut all = Vec::new(alloc);

@@ -5,6 +5,7 @@ ghost use Rattle.std.specs.Map.{lookup};
 ghost use Rattle.ipfix_message.specs.Domains.{Message};
 ghost use Rattle.ipfix_session.specs.Ledger.{count_in};
 ghost use Rattle.ipfix_datagrams.specs.Reaches.{reach_of, reaches_of, told_of};
+ghost use Rattle.ipfix_datagrams.specs.RecordsCame.{has_records};
 
 use crate::domain_advance::DomainAdvance;
 use crate::reach::Reach;
@@ -79,6 +80,18 @@ impl SequenceAdvances {
         ensures { result ≡ (length self.now.reaches == 0) }
     {
         self.reaches.is_empty()
+    }
+
+    /// Whether a data record came in one of the domains.
+    pub fn has_records(&self) -> bool
+        ensures { result ≡ has_records self.now.reaches }
+    {
+        for reach in self.reaches.values() {
+            if 0 < reach.came {
+                return true;
+            }
+        }
+        false
     }
 
     /// What is told of the domain at an index, by order of first appearance.

@@ -26,8 +26,8 @@ pub type Weights = BTreeMap<u32, u64>;
 // What the templates of a domain count, by id.
 type Counts = BTreeMap<u16, u64>;
 
-// What a template counts.
-fn count_of(template: &Template) -> u64
+/// What a template counts.
+pub fn count_of(template: &Template) -> u64
     ensures { result ≡ fields_of template.now }
 {
     let specs = template.specs.as_slice();

@@ -11,7 +11,7 @@ use Rattle.recording_peers.specs.declared.session_limits.SessionLimits.{SessionL
 use Rattle.recording_peers.specs.Happenings.{Happening, DatagramCame, SecondBegan}
 use Rattle.recording_peers.specs.Kept.{IsSession}
 use Rattle.recording_peers.specs.Runs.{IsTaken, happened_by, happened_in}
-use Rattle.recording_peers.specs.Sessions.{PeerHappenings, StandFor, came_in, happened_to}
+use Rattle.recording_peers.specs.Sessions.{PeerHappenings, StandFor, came_in, happened_to, went_in}
 use Rattle.recording_peers.specs.Steps.{Reception, Records, RecordsBy}
 use Rattle.recording_peers.specs.Table.{same_peer, of_peer, others_for, Both, Paired}
 use Rattle.recording_peers.specs.declared.datagram_source.NoDatagram.{NoDatagram}
@@ -106,16 +106,16 @@ module _ {F : Type 0} (seen : F → FilesView) (peer : SocketAddr) (limits : Ses
         record { cs = b.ds; stand = b.stand; heard = b.heard; apart = b.less.apart; last = b.less.last; all = subst (λ (o : Option (List Happening)). HaveAllCame (unwrap_or o []) (own peer)) (sym same) all }
 
     module _ (made_for : F → SocketAddr → Type 0) (most : ℕ) (r : Reception F) (es after : List (SocketAddr × PeerState F)) (cs : PeerHappenings) where
-      taken_by : (became : Became F) → StandFor seen limits after (happened_by became most r cs) → AreApart cs → RecordsBy seen made_for limits became most r es after → same_peer peer r.peer ≡ true → IsIn after → IsTaken became
+      taken_by : (became : Became F) → StandFor seen limits after (happened_by became r cs) → AreApart cs → RecordsBy seen made_for limits became most r es after → same_peer peer r.peer ≡ true → IsIn after → IsTaken became
       taken_by Taken p a t e s = tt
       taken_by (Ended k) p a t e s =
-          let none = found_none peer (others_for most r.peer cs) (others_of peer r.peer (others_for most r.peer cs) e (others_are most r.peer cs a)) in
-          absurd (not_there (of_peer peer (others_for most r.peer cs)) none (came_to after (others_for most r.peer cs) p s))
+          let none = found_none peer (others_for (went_in r) r.peer cs) (others_of peer r.peer (others_for (went_in r) r.peer cs) e (others_are (went_in r) r.peer cs a)) in
+          absurd (not_there (of_peer peer (others_for (went_in r) r.peer cs)) none (came_to after (others_for (went_in r) r.peer cs) p s))
       taken_by NoPlace p a t e s =
-          let none : of_peer peer es ≡ None = sym (same_of most peer r.peer es e) ∙ t.nothing.begins in
+          let none : of_peer peer es ≡ None = sym (same_of peer r.peer es e) ∙ t.nothing.begins in
           absurd (not_there (of_peer peer es) none (subst (λ (l : List (SocketAddr × PeerState F)). IsIn l) t.nothing.same s))
       taken_by NoMemory p a t e s =
-          let none : of_peer peer es ≡ None = sym (same_of most peer r.peer es e) ∙ t.begins in
+          let none : of_peer peer es ≡ None = sym (same_of peer r.peer es e) ∙ t.begins in
           absurd (not_there (of_peer peer es) none (subst (λ (l : List (SocketAddr × PeerState F)). IsIn l) t.same s))
 
     -- after a datagram
@@ -124,9 +124,9 @@ module _ {F : Type 0} (seen : F → FilesView) (peer : SocketAddr) (limits : Ses
     with_one made_for law most r es after s t stays its =
         let stand = stand_after seen made_for limits most r es after s.cs law s.stand t in
         let next = last_by seen limits own made_for r.became most r es after s.cs s.stand s.apart s.last t in
-        let more = one peer most r s.cs (λ e. taken_by made_for most r es after s.cs r.became stand s.apart t e (its e)) (λ k. came_to after (happened_in most r s.cs) stand (stays (kept_in es s.cs s.stand k))) in
+        let more = one peer r s.cs (λ e. taken_by made_for most r es after s.cs r.became stand s.apart t e (its e)) (λ k. came_to after (happened_in r s.cs) stand (stays (kept_in es s.cs s.stand k))) in
         record {
-          cs = happened_in most r s.cs;
+          cs = happened_in r s.cs;
           stand = stand;
           heard = heard_after seen made_for limits most r es after s.cs s.heard t;
           apart = next.0;

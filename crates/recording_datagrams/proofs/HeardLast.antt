@@ -1,6 +1,6 @@
 -- Peers stand in the order of their last datagrams, so nobody is kept that has been silent for too long.
-use Rattle.std.proofs.Common.{◌≡◌, ℕ, zero, suc, ◌-◌, ◌≤◌, ◌<◌, Bool, true, false, cond, List, [], ◌∷◌, ◌++◌, take, length, slice_get, is_some, Result, Ok, Err, sym, ap, ◌∙◌, subst, inl, inr, arith}
-use Rattle.std.specs.Prelude.{IfSome}
+use Rattle.std.proofs.Common.{◌≡◌, ℕ, suc, ◌-◌, ◌≤◌, ◌<◌, Bool, true, false, cond, not, List, [], ◌∷◌, ◌++◌, length, slice_get, is_some, Option, Some, None, Result, Ok, Err, sym, ap, ◌∙◌, subst, inl, inr, arith}
+use Rattle.std.specs.Prelude.{IfSome, filter}
 use Rattle.std.specs.Map.{remove_entry}
 use Rattle.std.specs.declared.net.socket_addr.SocketAddr.{SocketAddr}
 use Rattle.lru.specs.LruCache.{last_entry}
@@ -11,7 +11,8 @@ use Rattle.recording_files.specs.declared.file_series.NotWritten.{NotWritten}
 use Rattle.recording_files.specs.declared.record_fault.RecordFault.{RecordFault}
 use Rattle.recording_peers.specs.declared.session_limits.SessionLimits.{SessionLimits}
 use Rattle.recording_peers.specs.Steps.{Reception, Records, RecordsBy, first_by, kept_by}
-use Rattle.recording_peers.specs.Table.{same_peer, of_peer, others_for}
+use Rattle.recording_peers.specs.Sessions.{went_in}
+use Rattle.recording_peers.specs.Table.{same_peer, of_peer, others_for, without}
 use Rattle.recording_peers.specs.declared.datagram_source.NoDatagram.{NoDatagram}
 use Rattle.recording_peers.specs.declared.datagram_source.NoDatagram.TheVariants.{Tick, Failed}
 use Rattle.recording_peers.specs.declared.peer_state.PeerState.{PeerState}
@@ -40,11 +41,6 @@ module _ {F : Type 0} where
   rest : (second : ℕ) (e : SocketAddr × PeerState F) (es : List (SocketAddr × PeerState F)) → IsInOrder second (e ∷ es) → IsInOrder second es
   rest second e es o = later e.1.heard second es o.0 o.1
 
-  taken : (second n : ℕ) (es : List (SocketAddr × PeerState F)) → IsInOrder second es → IsInOrder second (take n es)
-  taken second zero es o = tt
-  taken second (suc n) [] o = tt
-  taken second (suc n) (e ∷ es) o = (o.0, taken e.1.heard n es o.1)
-
   removed : (second : ℕ) (peer : SocketAddr) (es : List (SocketAddr × PeerState F)) → IsInOrder second es → IsInOrder second (remove_entry (same_peer peer) es)
   removed second peer [] o = tt
   removed second peer (e ∷ es) o = elim (same_peer peer e.0) as (λ b. IsInOrder second (cond b es (e ∷ remove_entry (same_peer peer) es))) [
@@ -52,10 +48,21 @@ module _ {F : Type 0} where
     | false ↦ (o.0, removed e.1.heard peer es o.1)
   ]
 
-  others : (second most : ℕ) (peer : SocketAddr) (es : List (SocketAddr × PeerState F)) → IsInOrder second es → IsInOrder second (others_for most peer es)
-  others second most peer es o = elim (is_some (of_peer peer es)) as (λ b. IsInOrder second (cond b (remove_entry (same_peer peer) es) (take (most - 1) es))) [
+  without_it : (second : ℕ) (gone : SocketAddr) (es : List (SocketAddr × PeerState F)) → IsInOrder second es → IsInOrder second (filter (λ e. not (same_peer gone e.0)) es)
+  without_it second gone [] o = tt
+  without_it second gone (e ∷ es) o = elim (same_peer gone e.0) as (λ b. IsInOrder second (cond (not b) (e ∷ filter (λ e. not (same_peer gone e.0)) es) (filter (λ e. not (same_peer gone e.0)) es))) [
+    | true ↦ without_it second gone es (rest second e es o)
+    | false ↦ (o.0, without_it e.1.heard gone es o.1)
+  ]
+
+  less : (second : ℕ) (gone : Option SocketAddr) (es : List (SocketAddr × PeerState F)) → IsInOrder second es → IsInOrder second (without gone es)
+  less second None es o = o
+  less second (Some peer) es o = without_it second peer es o
+
+  others : (second : ℕ) (gone : Option SocketAddr) (peer : SocketAddr) (es : List (SocketAddr × PeerState F)) → IsInOrder second es → IsInOrder second (others_for gone peer es)
+  others second gone peer es o = elim (is_some (of_peer peer es)) as (λ b. IsInOrder second (cond b (remove_entry (same_peer peer) es) (without gone es))) [
     | true ↦ removed second peer es o
-    | false ↦ taken second (most - 1) es o
+    | false ↦ less second gone es o
   ]
 
   front : (second : ℕ) (after gone : List (SocketAddr × PeerState F)) → IsInOrder second (after ++ gone) → IsInOrder second after
@@ -72,10 +79,10 @@ module _ {F : Type 0} where
       let first = on.0 in let before = o.1.0 in
       (omega arith, on)
 
-  by_answer : (answer : Result (Unit {0}) RecordFault) (now most : ℕ) (peer : SocketAddr) (k : PeerState F) (es after : List (SocketAddr × PeerState F)) → IsInOrder now es → k.heard ≡ now → after ≡ kept_by answer most peer k es → IsInOrder now after
-  by_answer (Ok x) now most peer k es after o h e =
-      subst (λ (l : List (SocketAddr × PeerState F)). IsInOrder now l) (sym e) ((omega arith, subst (λ n. IsInOrder n (others_for most peer es)) (sym h) (others now most peer es o)))
-  by_answer (Err fault) now most peer k es after o h e = subst (λ (l : List (SocketAddr × PeerState F)). IsInOrder now l) (sym e) (others now most peer es o)
+  by_answer : (answer : Result (Unit {0}) RecordFault) (now : ℕ) (gone : Option SocketAddr) (peer : SocketAddr) (k : PeerState F) (es after : List (SocketAddr × PeerState F)) → IsInOrder now es → k.heard ≡ now → after ≡ kept_by answer gone peer k es → IsInOrder now after
+  by_answer (Ok x) now gone peer k es after o h e =
+      subst (λ (l : List (SocketAddr × PeerState F)). IsInOrder now l) (sym e) ((omega arith, subst (λ n. IsInOrder n (others_for gone peer es)) (sym h) (others now gone peer es o)))
+  by_answer (Err fault) now gone peer k es after o h e = subst (λ (l : List (SocketAddr × PeerState F)). IsInOrder now l) (sym e) (others now gone peer es o)
 
   turned : (answer : Result (Unit {0}) RecordFault) (second : ℕ) (e : SocketAddr × PeerState F) (new : PeerState F) (behind after : List (SocketAddr × PeerState F)) → e.1.heard ≤ second → new.heard ≡ e.1.heard → IsInOrder e.1.heard behind
       → after ≡ first_by answer e.0 new behind → IsInOrder second after
@@ -88,8 +95,8 @@ module _ {F : Type 0} (seen : F → FilesView) (finishes : F → FileReport → 
     records_by : (became : Became F) → IsInOrder r.second es → RecordsBy seen made_for limits became most r es after → IsInOrder r.second after
     records_by NoPlace o t = subst (λ (l : List (SocketAddr × PeerState F)). IsInOrder r.second l) (sym t.nothing.same) o
     records_by NoMemory o t = subst (λ (l : List (SocketAddr × PeerState F)). IsInOrder r.second l) (sym t.same) o
-    records_by Taken o t = by_answer t.answer r.second most r.peer t.new es after o (heard_at seen t.old t.new r.octets r.second t.answer t.takes) t.others
-    records_by (Ended k) o t = by_answer t.answer r.second most r.peer t.new es after o (heard_at seen t.old t.new r.octets r.second t.answer t.takes) t.others
+    records_by Taken o t = by_answer t.answer r.second (went_in r) r.peer t.new es after o (heard_at seen t.old t.new r.octets r.second t.answer t.takes) t.others
+    records_by (Ended k) o t = by_answer t.answer r.second (went_in r) r.peer t.new es after o (heard_at seen t.old t.new r.octets r.second t.answer t.takes) t.others
 
     records : IsInOrder r.second es → Records seen made_for limits most r es after → IsInOrder r.second after
     records o t = records_by r.became o t

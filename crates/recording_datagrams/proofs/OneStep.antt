@@ -11,7 +11,7 @@ use Rattle.recording_peers.specs.Calls.{Takes, TakesBy, TakesTurn}
 use Rattle.recording_peers.specs.Happenings.{Happening, DatagramCame, SecondBegan}
 use Rattle.recording_peers.specs.Kept.{IsSession}
 use Rattle.recording_peers.specs.Runs.{happened_by, happened_in}
-use Rattle.recording_peers.specs.Sessions.{PeerHappenings, StandAfter, StandAfterTurn, StandBy, StandFor, StandInTurn, happened_to, with_happening, came_in}
+use Rattle.recording_peers.specs.Sessions.{PeerHappenings, StandAfter, StandAfterTurn, StandBy, StandFor, StandInTurn, happened_to, with_happening, came_in, went_in}
 use Rattle.recording_peers.specs.Steps.{GoesOn, Reception, Records, RecordsBy, became_by, ended_by, first_by, kept_by}
 use Rattle.recording_peers.specs.Table.{Paired, others_for}
 use Rattle.recording_peers.specs.declared.in_turn.InTurn.{InTurn}
@@ -26,7 +26,7 @@ use Rattle.recording_datagrams.specs.Standing.{IsHeard, came_among}
 
 abbrev pub StandAfters : {F : Type 0} → (F → FilesView) → (F → SocketAddr → Type 0) → Type 0
 StandAfters {F} seen made_for = (limits : SessionLimits) (most : ℕ) (r : Reception F) (es after : List (SocketAddr × PeerState F)) (cs : PeerHappenings)
-    → StandFor seen limits es cs → Records seen made_for limits most r es after → StandAfter seen limits most r after cs
+    → StandFor seen limits es cs → Records seen made_for limits most r es after → StandAfter seen limits r after cs
 
 abbrev pub StandInTurns : {F : Type 0} → (F → FilesView) → Type 0
 StandInTurns {F} seen = (limits : SessionLimits) (second : ℕ) (is_over : Bool) (es after : List (SocketAddr × PeerState F)) (cs : PeerHappenings) (t : InTurn F)
@@ -65,34 +65,34 @@ module _ {F : Type 0} (seen : F → FilesView) where
     none_came = refl;
   }
 
-  kept_heard : (answer : Result (Unit {0}) RecordFault) (most : ℕ) (r : Reception F) (new : PeerState F) (es after : List (SocketAddr × PeerState F)) (cs : PeerHappenings) → Paired IsHeard es cs → IsHeard new (happened_to r.peer cs ++ came_in r ∷ [])
-      → Taken ≡ became_by answer new → after ≡ kept_by answer most r.peer new es → Paired IsHeard after (with_happening most cs r.peer (came_in r))
-  kept_heard (Ok x) most r new es after cs p h became e =
-      subst (λ (l : List (SocketAddr × PeerState F)). Paired IsHeard l (with_happening most cs r.peer (came_in r))) (sym e) (paired_first IsHeard most r.peer es cs new (happened_to r.peer cs ++ came_in r ∷ []) p h)
-  kept_heard (Err fault) most r new es after cs p h became e = absurd cc
+  kept_heard : (answer : Result (Unit {0}) RecordFault) (r : Reception F) (new : PeerState F) (es after : List (SocketAddr × PeerState F)) (cs : PeerHappenings) → Paired IsHeard es cs → IsHeard new (happened_to r.peer cs ++ came_in r ∷ [])
+      → Taken ≡ became_by answer new → after ≡ kept_by answer (went_in r) r.peer new es → Paired IsHeard after (with_happening (went_in r) cs r.peer (came_in r))
+  kept_heard (Ok x) r new es after cs p h became e =
+      subst (λ (l : List (SocketAddr × PeerState F)). Paired IsHeard l (with_happening (went_in r) cs r.peer (came_in r))) (sym e) (paired_first IsHeard (went_in r) r.peer es cs new (happened_to r.peer cs ++ came_in r ∷ []) p h)
+  kept_heard (Err fault) r new es after cs p h became e = absurd cc
 
-  others_heard : (answer : Result (Unit {0}) RecordFault) (k : PeerState F) (most : ℕ) (r : Reception F) (new : PeerState F) (es after : List (SocketAddr × PeerState F)) (cs : PeerHappenings) → Paired IsHeard es cs
-      → Ended k ≡ became_by answer new → after ≡ kept_by answer most r.peer new es → Paired IsHeard after (others_for most r.peer cs)
-  others_heard (Ok x) k most r new es after cs p became e = absurd cc
-  others_heard (Err fault) k most r new es after cs p became e = subst (λ (l : List (SocketAddr × PeerState F)). Paired IsHeard l (others_for most r.peer cs)) (sym e) (paired_others IsHeard most r.peer es cs p)
+  others_heard : (answer : Result (Unit {0}) RecordFault) (k : PeerState F) (r : Reception F) (new : PeerState F) (es after : List (SocketAddr × PeerState F)) (cs : PeerHappenings) → Paired IsHeard es cs
+      → Ended k ≡ became_by answer new → after ≡ kept_by answer (went_in r) r.peer new es → Paired IsHeard after (others_for (went_in r) r.peer cs)
+  others_heard (Ok x) k r new es after cs p became e = absurd cc
+  others_heard (Err fault) k r new es after cs p became e = subst (λ (l : List (SocketAddr × PeerState F)). Paired IsHeard l (others_for (went_in r) r.peer cs)) (sym e) (paired_others IsHeard (went_in r) r.peer es cs p)
 
   module _ (made_for : F → SocketAddr → Type 0) (limits : SessionLimits) (most : ℕ) (r : Reception F) (es after : List (SocketAddr × PeerState F)) (cs : PeerHappenings) where
-    heard_by_became : (became : Became F) → r.became ≡ became → Paired IsHeard es cs → RecordsBy seen made_for limits became most r es after → Paired IsHeard after (happened_by became most r cs)
-    heard_by_became Taken is p t = kept_heard t.answer most r t.new es after cs p (heard_now t.old t.new r.octets r.second t.answer (happened_to r.peer cs) t.takes) (sym is ∙ t.became) t.others
-    heard_by_became (Ended k) is p t = others_heard t.answer k most r t.new es after cs p (sym is ∙ t.became) t.others
+    heard_by_became : (became : Became F) → r.became ≡ became → Paired IsHeard es cs → RecordsBy seen made_for limits became most r es after → Paired IsHeard after (happened_by became r cs)
+    heard_by_became Taken is p t = kept_heard t.answer r t.new es after cs p (heard_now t.old t.new r.octets r.second t.answer (happened_to r.peer cs) t.takes) (sym is ∙ t.became) t.others
+    heard_by_became (Ended k) is p t = others_heard t.answer k r t.new es after cs p (sym is ∙ t.became) t.others
     heard_by_became NoPlace is p t = subst (λ (l : List (SocketAddr × PeerState F)). Paired IsHeard l cs) (sym t.nothing.same) p
     heard_by_became NoMemory is p t = subst (λ (l : List (SocketAddr × PeerState F)). Paired IsHeard l cs) (sym t.same) p
 
-    pub heard_after : Paired IsHeard es cs → Records seen made_for limits most r es after → Paired IsHeard after (happened_in most r cs)
+    pub heard_after : Paired IsHeard es cs → Records seen made_for limits most r es after → Paired IsHeard after (happened_in r cs)
     heard_after p t = heard_by_became r.became refl p t
 
-    stands_by : (became : Became F) → StandBy seen limits became most r after cs → StandFor seen limits after (happened_by became most r cs)
+    stands_by : (became : Became F) → StandBy seen limits became r after cs → StandFor seen limits after (happened_by became r cs)
     stands_by Taken s = s.0
     stands_by (Ended k) s = s.0
     stands_by NoPlace s = s.0
     stands_by NoMemory s = s.0
 
-    pub stand_after : StandAfters seen made_for → StandFor seen limits es cs → Records seen made_for limits most r es after → StandFor seen limits after (happened_in most r cs)
+    pub stand_after : StandAfters seen made_for → StandFor seen limits es cs → Records seen made_for limits most r es after → StandFor seen limits after (happened_in r cs)
     stand_after law p t = stands_by r.became (law limits most r es after cs p t)
 
   module _ (second : ℕ) (is_over : Bool) (old new : PeerState F) (turn : Turn) (hs : List Happening) where

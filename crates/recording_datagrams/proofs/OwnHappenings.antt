@@ -1,6 +1,6 @@
 -- What the sessions of peers stand for after rounds: the last ones of what happened to them.
-use Rattle.std.proofs.Common.{◌≡◌, ℕ, zero, suc, ◌-◌, Bool, true, false, cond, List, [], ◌∷◌, ◌++◌, take, is_some, Option, Some, None, Result, Ok, Err, refl, sym, ap, ◌∙◌, subst, append-nil, append_assoc}
-use Rattle.std.specs.Prelude.{unwrap_or}
+use Rattle.std.proofs.Common.{◌≡◌, ℕ, Bool, true, false, cond, not, List, [], ◌∷◌, ◌++◌, is_some, Option, Some, None, Result, Ok, Err, refl, sym, ap, ◌∙◌, subst, append-nil, append_assoc}
+use Rattle.std.specs.Prelude.{filter, unwrap_or}
 use Rattle.std.specs.Map.{lookup_key, remove_entry}
 use Rattle.std.specs.declared.net.socket_addr.SocketAddr.{SocketAddr}
 use Rattle.std.specs.contracts.net.socket_addr.SocketAddrEq.TheImpl.Laws.{laws-law}
@@ -12,9 +12,9 @@ use Rattle.recording_peers.specs.declared.session_limits.SessionLimits.{SessionL
 use Rattle.recording_peers.specs.Happenings.{Happening, SecondBegan}
 use Rattle.recording_peers.specs.Kept.{IsSession}
 use Rattle.recording_peers.specs.Runs.{happened_by, happened_in}
-use Rattle.recording_peers.specs.Sessions.{PeerHappenings, StandFor, came_in, happened_to, with_happening}
+use Rattle.recording_peers.specs.Sessions.{PeerHappenings, StandFor, came_in, happened_to, went_in, with_happening}
 use Rattle.recording_peers.specs.Steps.{Reception, Records, RecordsBy, first_by}
-use Rattle.recording_peers.specs.Table.{same_peer, of_peer, others_for, Both, Paired}
+use Rattle.recording_peers.specs.Table.{same_peer, of_peer, others_for, without, Both, Paired}
 use Rattle.recording_peers.specs.declared.peer_state.PeerState.{PeerState}
 use Rattle.recording_peers.specs.declared.outcome.Became.{Became}
 use Rattle.recording_peers.specs.declared.outcome.Became.TheVariants.{Taken, Ended, NoPlace, NoMemory}
@@ -104,11 +104,6 @@ module _ (own : SocketAddr → List Happening) where
   less_same : (cs : PeerHappenings) → AreApart cs → HaveLast own cs → Less own cs cs
   less_same cs a h = record { apart = a; last = h; among = λ peer e. e; same = λ peer ms e. e }
 
-  less_take : (n : ℕ) (cs : PeerHappenings) → AreApart cs → HaveLast own cs → Less own (take n cs) cs
-  less_take zero cs a h = less_none cs
-  less_take (suc n) [] a h = less_none []
-  less_take (suc n) (c ∷ cs) a h = less_first c (take n cs) cs a h (less_take n cs a.1 h.1)
-
   less_removed : (peer : SocketAddr) (cs : PeerHappenings) → AreApart cs → HaveLast own cs → Less own (remove_entry (same_peer peer) cs) cs
   less_removed peer [] a h = less_none []
   less_removed peer (c ∷ cs) a h = elim (same_peer peer c.0) as (λ b. Less own (cond b cs (c ∷ remove_entry (same_peer peer) cs)) (c ∷ cs)) [
@@ -116,10 +111,21 @@ module _ (own : SocketAddr → List Happening) where
     | false ↦ less_first c (remove_entry (same_peer peer) cs) cs a h (less_removed peer cs a.1 h.1)
   ]
 
-  less_others : (most : ℕ) (peer : SocketAddr) (cs : PeerHappenings) → AreApart cs → HaveLast own cs → Less own (others_for most peer cs) cs
-  less_others most peer cs a h = elim (is_some (of_peer peer cs)) as (λ b. Less own (cond b (remove_entry (same_peer peer) cs) (take (most - 1) cs)) cs) [
+  less_filter : (gone : SocketAddr) (cs : PeerHappenings) → AreApart cs → HaveLast own cs → Less own (filter (λ c. not (same_peer gone c.0)) cs) cs
+  less_filter gone [] a h = less_none []
+  less_filter gone (c ∷ cs) a h = elim (same_peer gone c.0) as (λ b. Less own (cond (not b) (c ∷ filter (λ c. not (same_peer gone c.0)) cs) (filter (λ c. not (same_peer gone c.0)) cs)) (c ∷ cs)) [
+    | true ↦ less_rest c (filter (λ c. not (same_peer gone c.0)) cs) cs a (less_filter gone cs a.1 h.1)
+    | false ↦ less_first c (filter (λ c. not (same_peer gone c.0)) cs) cs a h (less_filter gone cs a.1 h.1)
+  ]
+
+  less_without : (gone : Option SocketAddr) (cs : PeerHappenings) → AreApart cs → HaveLast own cs → Less own (without gone cs) cs
+  less_without None cs a h = less_same cs a h
+  less_without (Some peer) cs a h = less_filter peer cs a h
+
+  less_others : (gone : Option SocketAddr) (peer : SocketAddr) (cs : PeerHappenings) → AreApart cs → HaveLast own cs → Less own (others_for gone peer cs) cs
+  less_others gone peer cs a h = elim (is_some (of_peer peer cs)) as (λ b. Less own (cond b (remove_entry (same_peer peer) cs) (without gone cs)) cs) [
     | true ↦ less_removed peer cs a h
-    | false ↦ less_take (most - 1) cs a h
+    | false ↦ less_without gone cs a h
   ]
 
 others_removed : (peer : SocketAddr) (cs : PeerHappenings) → AreApart cs → AreOthers peer (remove_entry (same_peer peer) cs)
@@ -129,15 +135,21 @@ others_removed peer (c ∷ cs) a = (elim (same_peer peer c.0) as (λ b. same_pee
   | false ↦ λ e. (e, others_removed peer cs a.1)
 ]) refl
 
-others_taken : (peer : SocketAddr) (n : ℕ) (cs : PeerHappenings) → AreOthers peer cs → AreOthers peer (take n cs)
-others_taken peer zero cs h = tt
-others_taken peer (suc n) [] h = tt
-others_taken peer (suc n) (c ∷ cs) h = (h.0, others_taken peer n cs h.1)
+others_filtered : (peer gone : SocketAddr) (cs : PeerHappenings) → AreOthers peer cs → AreOthers peer (filter (λ c. not (same_peer gone c.0)) cs)
+others_filtered peer gone [] h = tt
+others_filtered peer gone (c ∷ cs) h = elim (same_peer gone c.0) as (λ b. AreOthers peer (cond (not b) (c ∷ filter (λ c. not (same_peer gone c.0)) cs) (filter (λ c. not (same_peer gone c.0)) cs))) [
+  | true ↦ others_filtered peer gone cs h.1
+  | false ↦ (h.0, others_filtered peer gone cs h.1)
+]
 
-pub others_are : (most : ℕ) (peer : SocketAddr) (cs : PeerHappenings) → AreApart cs → AreOthers peer (others_for most peer cs)
-others_are most peer cs a = (elim (of_peer peer cs) as (λ o. of_peer peer cs ≡ o → AreOthers peer (cond (is_some o) (remove_entry (same_peer peer) cs) (take (most - 1) cs))) [
+others_without : (peer : SocketAddr) (gone : Option SocketAddr) (cs : PeerHappenings) → AreOthers peer cs → AreOthers peer (without gone cs)
+others_without peer None cs h = h
+others_without peer (Some q) cs h = others_filtered peer q cs h
+
+pub others_are : (gone : Option SocketAddr) (peer : SocketAddr) (cs : PeerHappenings) → AreApart cs → AreOthers peer (others_for gone peer cs)
+others_are gone peer cs a = (elim (of_peer peer cs) as (λ o. of_peer peer cs ≡ o → AreOthers peer (cond (is_some o) (remove_entry (same_peer peer) cs) (without gone cs))) [
   | Some ms ↦ λ e. others_removed peer cs a
-  | None ↦ λ e. others_taken peer (most - 1) cs (not_found peer cs e)
+  | None ↦ λ e. others_without peer gone cs (not_found peer cs e)
 ]) refl
 
 -- ---- one thing more happened to all
@@ -201,18 +213,18 @@ last_same own all (c ∷ cs) e l = (record { before = l.0.before; are = sym (e c
 -- ---- after a datagram
 
 module _ {F : Type 0} (seen : F → FilesView) (limits : SessionLimits) (own : SocketAddr → List Happening) where
-  first_stands : (most : ℕ) (from : SocketAddr) (h : Happening) (cs : PeerHappenings) → AreApart cs → HaveLast own cs → AreApart (with_happening most cs from h) × HaveLast (own_with own from h) (with_happening most cs from h)
-  first_stands most from h cs a l =
-      let less = less_others own most from cs a l in
-      let others = others_are most from cs a in
+  first_stands : (gone : Option SocketAddr) (from : SocketAddr) (h : Happening) (cs : PeerHappenings) → AreApart cs → HaveLast own cs → AreApart (with_happening gone cs from h) × HaveLast (own_with own from h) (with_happening gone cs from h)
+  first_stands gone from h cs a l =
+      let less = less_others own gone from cs a l in
+      let others = others_are gone from cs a in
       let its = key_of from from (lookup_key (same_peer from) cs) (key_passes (same_peer from) cs) in
       let at = unwrap_or (lookup_key (same_peer from) cs) from in (
-        (found_none at (others_for most from cs) (others_of at from (others_for most from cs) (laws-law.symm at from ∙ its) others), less.apart),
-        (last_pushed own from h at (happened_to from cs) its (last_found own from h cs l), last_of_others own from h (others_for most from cs) others less.last),
+        (found_none at (others_for gone from cs) (others_of at from (others_for gone from cs) (laws-law.symm at from ∙ its) others), less.apart),
+        (last_pushed own from h at (happened_to from cs) its (last_found own from h cs l), last_of_others own from h (others_for gone from cs) others less.last),
       )
 
-  rest_stands : (most : ℕ) (from : SocketAddr) (h : Happening) (cs : PeerHappenings) → AreApart cs → HaveLast own cs → AreApart (others_for most from cs) × HaveLast (own_with own from h) (others_for most from cs)
-  rest_stands most from h cs a l = let less = less_others own most from cs a l in (less.apart, last_of_others own from h (others_for most from cs) (others_are most from cs a) less.last)
+  rest_stands : (gone : Option SocketAddr) (from : SocketAddr) (h : Happening) (cs : PeerHappenings) → AreApart cs → HaveLast own cs → AreApart (others_for gone from cs) × HaveLast (own_with own from h) (others_for gone from cs)
+  rest_stands gone from h cs a l = let less = less_others own gone from cs a l in (less.apart, last_of_others own from h (others_for gone from cs) (others_are gone from cs a) less.last)
 
   none_of : (o : Option (PeerState F)) (q : Option (List Happening)) → Both (λ k hs. IsSession seen k limits hs) o q → o ≡ None → q ≡ None
   none_of None None b e = refl
@@ -220,9 +232,9 @@ module _ {F : Type 0} (seen : F → FilesView) (limits : SessionLimits) (own : S
   none_of (Some k) q b e = absurd cc
 
   pub last_by : (made_for : F → SocketAddr → Type 0) (became : Became F) (most : ℕ) (r : Reception F) (es after : List (SocketAddr × PeerState F)) (cs : PeerHappenings) → StandFor seen limits es cs → AreApart cs → HaveLast own cs
-      → RecordsBy seen made_for limits became most r es after → AreApart (happened_by became most r cs) × HaveLast (own_with own r.peer (came_in r)) (happened_by became most r cs)
-  last_by made_for Taken most r es after cs p a l t = first_stands most r.peer (came_in r) cs a l
-  last_by made_for (Ended k) most r es after cs p a l t = rest_stands most r.peer (came_in r) cs a l
+      → RecordsBy seen made_for limits became most r es after → AreApart (happened_by became r cs) × HaveLast (own_with own r.peer (came_in r)) (happened_by became r cs)
+  last_by made_for Taken most r es after cs p a l t = first_stands (went_in r) r.peer (came_in r) cs a l
+  last_by made_for (Ended k) most r es after cs p a l t = rest_stands (went_in r) r.peer (came_in r) cs a l
   last_by made_for NoPlace most r es after cs p a l t =
       let none = none_of (of_peer r.peer es) (of_peer r.peer cs) (paired_lookup (λ (k : PeerState F) (hs : List Happening). IsSession seen k limits hs) (same_peer r.peer) es cs p) t.nothing.begins in
       (a, last_of_others own r.peer (came_in r) cs (not_found r.peer cs none) l)
@@ -264,7 +276,7 @@ module _ {F : Type 0} (seen : F → FilesView) (limits : SessionLimits) where
     behind_datagram made_for law most r es after s t =
         let next = last_by seen limits own made_for r.became most r es after s.cs s.stand s.apart s.last t in
         record {
-          cs = happened_in most r s.cs;
+          cs = happened_in r s.cs;
           stand = stand_after seen made_for limits most r es after s.cs law s.stand t;
           heard = heard_after seen made_for limits most r es after s.cs s.heard t;
           apart = next.0;

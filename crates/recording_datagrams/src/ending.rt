@@ -21,7 +21,7 @@ use std::net::SocketAddr;
 /// Why a peer's session ends that has no fault.
 #[derive(Clone, Copy, Debug, PartialEq, Eq)]
 pub enum EndCause {
-    /// There were more peers than are kept, and this one was silent for longest.
+    /// There were more peers than are kept, and of those that go first this one was silent for longest.
     LongestSilent,
     /// It was silent for as long as a peer may be.
     Idle,

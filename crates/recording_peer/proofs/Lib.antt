@@ -9,3 +9,5 @@ pub mod FilesGive
 pub mod FilesKeep
 pub mod Adding
 pub mod Refusing
+pub mod Counting
+pub mod FieldsLeft

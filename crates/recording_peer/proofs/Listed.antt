@@ -2,7 +2,7 @@
 use Rattle.std.proofs.Common.{◌≡◌, ◌&&◌, ℕ, Bool, true, false, cond, eqb, List, [], ◌∷◌, Option, Some, Result, Ok, refl, sym, ap, ap₂, subst, ◌∙◌, inl, inr}
 use Rattle.std.specs.Prelude.{◌||◌, MatchResult, option_map, unwrap_or}
 use Rattle.std.specs.Global.{Vec}
-use Rattle.std.specs.List.{list_any}
+use Rattle.std.specs.List.{IsDistinct, list_any}
 use Rattle.std.proofs.lemmas.Bool.Decides.{eqb_tells}
 use Rattle.ipfix_wire.specs.declared.header.Header.{Header}
 use Rattle.ipfix_message.specs.declared.fault.MessageFault.{MessageFault}
@@ -15,10 +15,11 @@ use Rattle.std.specs.BTreeMap.{BTreeMap, get}
 use Rattle.ipfix_message.specs.Kept.{kept}
 use Rattle.ipfix_message.specs.declared.record.Template.{Template}
 use Rattle.ipfix_message.specs.Domains.{History, message_header}
-use Rattle.ipfix_datagrams.specs.Datagrams.{Answers as AnswersOf, Basis, Fits, IsRefused, KeepsKnown, KeepsWithdrawn, barred_after, barred_in, template_at}
+use Rattle.ipfix_datagrams.specs.Datagrams.{Answers as AnswersOf, AreOnce, Basis, Fits, IsRefused, KeepsKnown, KeepsWithdrawn, barred_after, barred_in, template_at}
+use Rattle.ipfix_datagrams.proofs.Once.{once_filter, once_put}
 use Rattle.recording_peer.specs.Peers.{Resumed, basis_with, known_after_all}
 use Rattle.recording_peer.specs.Fronts.{ReadsAfter}
-use Rattle.recording_peer.specs.Recording.{FiledDatagrams, KeepsListed, KnownShown, PeerView, barred_before, barred_listed, barred_shown, basis_for, known_shown, resumed_for, taken_in, template_listed}
+use Rattle.recording_peer.specs.Recording.{BarsOnce, FiledDatagrams, KeepsListed, KnownShown, PeerView, barred_before, barred_listed, barred_shown, basis_for, known_shown, resumed_for, taken_in, template_listed}
 
 same_lookup : (test : ℕ → Bool) (id : ℕ) (es : List (ℕ × BTreeMap ℕ Template)) → option_and_then (λ ts. lookup (eq_by_cmp nat_cmp id) ts) (lookup test (kept es)) ≡ option_and_then (λ t. get nat_cmp t id) (lookup test es)
 same_lookup test id [] = refl
@@ -53,6 +54,19 @@ barred_lookup test (e ∷ es) = by_test (test e.0) (barred_lookup test es)
 
 pub barred_same : (k : KnownTemplates) (domain : ℕ) → barred_shown (known_shown k) domain ≡ barred_in k.barred domain
 barred_same k domain = ap (λ (o : Option (List ℕ)). unwrap_or o []) (barred_lookup (eq_by_cmp nat_cmp domain) k.barred.entries)
+
+-- none has none
+pub none_barred : (k : KnownTemplates) → ((domain : ℕ) → barred_in k.barred domain ≡ []) → BarsOnce (known_shown k)
+unfolding IsDistinct
+none_barred k none domain = subst (IsDistinct eqb) (sym (barred_same k domain ∙ none domain)) tt
+
+-- each is listed once after ids were barred, and after a datagram
+pub once_barred : (old new : KnownTemplates) (s : KnownShown) → known_shown old ≡ s → (AreOnce (barred_in old.barred) → AreOnce (barred_in new.barred)) → BarsOnce s → BarsOnce (known_shown new)
+once_barred old new s same once before domain =
+    subst (IsDistinct eqb) (sym (barred_same new domain)) (once (λ q. subst (IsDistinct eqb) (sym (sym (barred_same old q) ∙ ap (λ (k : KnownShown). barred_shown k q) same)) (before q)) domain)
+
+pub once_again : (s t : KnownShown) (d : ℕ) (b m : List ℕ) → b ≡ barred_shown s d → ((domain : ℕ) → barred_shown t domain ≡ cond (eqb domain d) (barred_after b m) (barred_shown s domain)) → BarsOnce s → BarsOnce t
+once_again s t d b m is again before = once_put (barred_shown s) (barred_shown t) d (barred_after b m) again (λ once. once_filter _ b (subst (IsDistinct eqb) (sym is) once)) before
 
 -- after a datagram
 pub shown_again : (old new : KnownTemplates) (s : KnownShown) (d : ℕ) (b m : List ℕ) → known_shown old ≡ s → b ≡ barred_shown s d

@@ -13,7 +13,7 @@ use Rattle.recording_peer.specs.declared.peer_answer.PeerAnswer.{PeerAnswer}
 use Rattle.recording_peer.specs.declared.peer_answer.PeerAnswer.TheVariants.{TooMuch}
 use Rattle.recording_peer.specs.Peers.{known_after_all}
 use Rattle.recording_peer.specs.Recording.{Answers, BarsShown, FiledDatagrams, HasStopped, IsPeer, KnownShown, PeerView, barred_listed, basis_for, known_shown, taken_in}
-use Rattle.recording_peer.proofs.Listed.{shown_barred}
+use Rattle.recording_peer.proofs.Listed.{once_barred, shown_barred}
 use Rattle.recording_peer.proofs.Stopping.{stops_out}
 
 -- what is answered
@@ -35,5 +35,6 @@ bars_shown inside s old new d ids same known bars = record {
       ap (λ (k : KnownTemplates). with_known inside (known_shown k)) bars.others
       ∙ ap (λ (k : KnownShown). with_known inside (record k { barred = barred_listed new.barred.entries })) (sym known)
       ∙ ap (λ (v : PeerView). with_barred v (barred_listed new.barred.entries)) same;
+  once = once_barred old new s.known (sym known ∙ ap (λ (v : PeerView). v.known) same) bars.once;
   barred = shown_barred old new s.known d ids (sym known ∙ ap (λ (v : PeerView). v.known) same) bars.barred;
 }

@@ -22,7 +22,7 @@ use Rattle.ipfix_datagrams.specs.Reaches.{reaches_of}
 use Rattle.ipfix_datagrams.specs.declared.reading.DatagramReading.{DatagramReading}
 use Rattle.recording_peer.specs.Peers.{Resumed, Taken, basis_with, AreResumed, resumed_after, AreTaken, HasFront, HaveFronts, PeerFile, givens, known_after_all, messages_with, given_with, all_messages, all_given, sent_of, withdrawals_ignored, peer_report, peer_reports, resumption_in, resumption_of, resumptions}
 use Rattle.recording_peer.specs.declared.resumption.Resumption.{Resumption}
-use Rattle.recording_peer.specs.Recording.{KnownShown, PeerTold, PeerView, FiledDatagrams, none_filed, taken_before, taken_in, taken_by_file, filed_with, with_ignored, finished_now, ignored_now, ignored_still, file_finished, last_file, HasDatagram, IsLastFile, FilesHold, Counts, KeepsListed, KeepsLeft, LeftShown, left_listed, IsPeer}
+use Rattle.recording_peer.specs.Recording.{BarsOnce, KnownShown, PeerTold, PeerView, FiledDatagrams, none_filed, taken_before, taken_in, taken_by_file, filed_with, with_ignored, finished_now, ignored_now, ignored_still, file_finished, last_file, HasDatagram, IsLastFile, FilesHold, Counts, KeepsListed, KeepsLeft, LeftShown, left_listed, IsPeer}
 use Rattle.recording_peer.specs.Fronts.{TookDatagram, taken_as}
 use Rattle.std.specs.BTreeMap.{BTreeMap}
 use Rattle.recording_resumption.specs.declared.earlier_domain.EarlierDomain.{EarlierDomain}
@@ -31,8 +31,8 @@ use Rattle.recording_peer.proofs.PeerFiles.{files_here, givens-append, all_given
 
 -- ---- the first file
 
-pub peer_first : (v : FilesView) (s : PeerView) → IsEmpty v.contents → s.ended ≡ None → Keeps s.recorder [] [] → Counted s.told.counts [] [] → s.told.ignored ≡ 0 → s.told.advances ≡ [] → s.told.resumed ≡ [] → KeepsListed s.known.withdrawn [] → Fits s.known.budget s.known.weights [] → (earlier : BTreeMap ℕ EarlierDomain) → s.earlier ≡ left_listed earlier.entries → IsPeer v v s (none_filed earlier)
-peer_first v s empty on keeps counted nor none none_resumed withdrawn fits earlier left = record {
+pub peer_first : (v : FilesView) (s : PeerView) → IsEmpty v.contents → s.ended ≡ None → Keeps s.recorder [] [] → Counted s.told.counts [] [] → s.told.ignored ≡ 0 → s.told.advances ≡ [] → s.told.resumed ≡ [] → KeepsListed s.known.withdrawn [] → Fits s.known.budget s.known.weights [] → BarsOnce s.known → (earlier : BTreeMap ℕ EarlierDomain) → s.earlier ≡ left_listed earlier.entries → IsPeer v v s (none_filed earlier)
+peer_first v s empty on keeps counted nor none none_resumed withdrawn fits once earlier left = record {
   holds = record {
     taken = tt;
     resumed = tt;
@@ -52,6 +52,7 @@ peer_first v s empty on keeps counted nor none none_resumed withdrawn fits earli
   keeps = keeps;
   withdrawn = withdrawn;
   fits = fits;
+  once = once;
   left = subst (λ (es : List (ℕ × LeftShown)). KeepsLeft es earlier []) (sym left) (left_as_listed earlier earlier [] (record { at = λ domain. refl }));
 }
 
@@ -125,6 +126,7 @@ peer_turned first v after s t filed p some is keeps counted none same as_resumed
   keeps = subst (λ (ms : List Message). Keeps t.recorder ms []) (sym (all_given-finished filed)) keeps;
   withdrawn = subst (λ (ts : List Taken). KeepsListed t.known.withdrawn (known_after_all ts)) (sym (in-finished filed)) (subst (λ (k : KnownShown). KeepsListed k.withdrawn (known_after_all (taken_in filed))) (sym stays) p.withdrawn);
   fits = subst (λ (ts : List Taken). Fits t.known.budget t.known.weights (known_after_all ts)) (sym (in-finished filed)) (subst (λ (k : KnownShown). Fits k.budget k.weights (known_after_all (taken_in filed))) (sym stays) p.fits);
+  once = subst BarsOnce (sym stays) p.once;
   left = subst (KeepsLeft t.earlier filed.earlier) (sym (in-finished filed)) (subst (λ (w : List (ℕ × LeftShown)). KeepsLeft w filed.earlier (taken_in filed)) (sym left) p.left);
 }
 
@@ -181,9 +183,9 @@ resumptions-push filed t =
 pub peer_with : (first v after : FilesView) (s t : PeerView) (filed : FiledDatagrams) (m : List ℕ) (resumed : Resumed) (barred : List ℕ) (q : DatagramReading) (x : Message) (octets : List ℕ) (c : MessageCount) (p : IsPeer first v s filed)
     → IsTaken (basis_with resumed barred) (known_after_all (taken_in filed)) m (preparation_of q) x → (k : TookDatagram (all_given (taken_before filed)) (all_given filed.here) t.recorder m resumed barred q x octets c)
     → after ≡ with_more v octets → Counted t.told.counts (givens (taken_before filed)) (givens filed.here ++ x ∷ [])
-    → t.told.ignored ≡ capped (s.told.ignored + q.withdrawals) → q.withdrawals ≡ capped (withdrawals_in m) → t.told.advances ≡ reaches_of (givens (taken_in filed) ++ x ∷ []) → t.told.resumed ≡ s.told.resumed ++ option_to_list (resumption_in x.header.domain (length resumed.templates)) → t.ended ≡ None → KeepsListed t.known.withdrawn x.domains → Fits t.known.budget t.known.weights x.domains → resumed ≡ resumed_after filed.earlier (taken_in filed) x.header → KeepsLeft t.earlier filed.earlier (taken_in (filed_with filed (taken_as m resumed barred (preparation_of q) k.front x)))
+    → t.told.ignored ≡ capped (s.told.ignored + q.withdrawals) → q.withdrawals ≡ capped (withdrawals_in m) → t.told.advances ≡ reaches_of (givens (taken_in filed) ++ x ∷ []) → t.told.resumed ≡ s.told.resumed ++ option_to_list (resumption_in x.header.domain (length resumed.templates)) → t.ended ≡ None → KeepsListed t.known.withdrawn x.domains → Fits t.known.budget t.known.weights x.domains → BarsOnce t.known → resumed ≡ resumed_after filed.earlier (taken_in filed) x.header → KeepsLeft t.earlier filed.earlier (taken_in (filed_with filed (taken_as m resumed barred (preparation_of q) k.front x)))
     → IsPeer first after t (filed_with filed (taken_as m resumed barred (preparation_of q) k.front x))
-peer_with first v after s t filed m resumed barred q x octets c p taken k is counted more ignored noted one_resumed on withdrawn fits resumes left =
+peer_with first v after s t filed m resumed barred q x octets c p taken k is counted more ignored noted one_resumed on withdrawn fits once resumes left =
     let h = p.holds in
     let u = taken_as m resumed barred (preparation_of q) k.front x in
     let all : givens (taken_in (filed_with filed u)) ≡ givens (taken_in filed) ++ x ∷ [] = ap givens (taken_in-push filed u) ∙ givens-append (taken_in filed) (u ∷ []) in
@@ -212,6 +214,7 @@ peer_with first v after s t filed m resumed barred q x octets c p taken k is cou
       keeps = subst (Keeps t.recorder (all_given (taken_before filed))) (sym (all_given-push filed.here u)) k.keeps;
       withdrawn = subst (KeepsListed t.known.withdrawn) (sym (known-push filed u)) withdrawn;
       fits = subst (Fits t.known.budget t.known.weights) (sym (known-push filed u)) fits;
+      once = once;
       left = left;
     }
 
@@ -236,5 +239,6 @@ peer_ignoring first v s filed m n p is =
       keeps = p.keeps;
       withdrawn = p.withdrawn;
       fits = p.fits;
+      once = p.once;
       left = p.left;
     }

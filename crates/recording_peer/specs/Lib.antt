@@ -2,5 +2,6 @@
 pub mod Peers
 pub mod Recording
 pub mod Beginnings
+pub mod Places
 -- What only inner functions and proofs need.
 pub mod Fronts

@@ -29,7 +29,7 @@ use Rattle.recording_files.specs.Sessions.{StandsWith, IsReported}
 use Rattle.ipfix_datagrams.specs.declared.reach.Reach.{Reach}
 use Rattle.ipfix_datagrams.specs.Reaches.{reaches_of, told_of}
 use Rattle.ipfix_datagrams.specs.Advances.{advances_of}
-use Rattle.ipfix_datagrams.specs.Datagrams.{Basis, Fits, IsRefused, IsTooMuch, barred_after, withdraws_only, withdrawn_in}
+use Rattle.ipfix_datagrams.specs.Datagrams.{AreOnce, Basis, Fits, IsRefused, IsTooMuch, barred_after, withdraws_only, withdrawn_in}
 use Rattle.recording_resumption.specs.declared.earlier.Earlier.{Earlier}
 use Rattle.recording_resumption.specs.declared.earlier_domain.EarlierDomain.{EarlierDomain}
 use Rattle.recording_peer.specs.declared.peer_answer.PeerAnswer.{PeerAnswer}
@@ -73,6 +73,10 @@ known_shown k = record { withdrawn = kept k.withdrawn.entries; barred = barred_l
 -- the ids of a domain that have none
 abbrev pub barred_shown : KnownShown → ℕ → List ℕ
 barred_shown k domain = unwrap_or (lookup (eq_by_cmp nat_cmp domain) k.barred) []
+
+-- each of them is listed once
+abbrev pub BarsOnce : KnownShown → Type 0
+BarsOnce k = AreOnce (barred_shown k)
 
 -- what contracts see of a recorder: what it keeps, what is left of an earlier run, what is known of templates beside the files, what
 -- it counted, and why it ended, if it has
@@ -206,6 +210,7 @@ pub record IsPeer (first after : FilesView) (s : PeerView) (filed : FiledDatagra
   pub withdrawn : KeepsListed s.known.withdrawn (known_after_all (taken_in filed))
   -- what is kept of the peer's templates counts no more than the budget
   pub fits : Fits s.known.budget s.known.weights (known_after_all (taken_in filed))
+  pub once : BarsOnce s.known
   pub left : KeepsLeft s.earlier filed.earlier (taken_in filed)
 
 -- ---- a call fails
@@ -282,6 +287,7 @@ pub record IsIgnored (m : List ℕ) (first before after : FilesView) (s t : Peer
 -- these ids of a domain have no template from now on, and nothing else has changed
 pub record BarsShown (s t : PeerView) (domain : ℕ) (ids : List ℕ) : Type 0 where
   pub others : t ≡ record s { known = record s.known { barred = t.known.barred } }
+  pub once : BarsOnce s.known → BarsOnce t.known
   pub barred : (q id : ℕ) → list_any (λ b. b == id) (barred_shown t.known q) ≡ (list_any (λ b. b == id) (barred_shown s.known q) || ((q == domain) && list_any (λ b. b == id) ids))
 
 -- a datagram was refused after these for what it defines: the ids for which it would have changed what is known have no template from

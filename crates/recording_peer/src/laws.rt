@@ -7,7 +7,9 @@ ghost use Rattle.recording_files.specs.declared.record_fault.RecordFault.{Record
 ghost use Rattle.recording_files.specs.FileReports.{AddUp};
 ghost use Rattle.recording_files.specs.Files.{Contents, FilesView, all_of};
 ghost use Rattle.recording_peer.specs.declared.peer_session.PeerSession.{PeerSession};
-ghost use Rattle.recording_peer.specs.Recording.{FiledDatagrams, FilesHold, StopsAt, TurnedUnknown, HasStopped, CameAfter, GiveRecordsOverUdp, KeepsWhole, PeerTold, IsPeerTold, Tells, ReportsAddUp, taken_in};
+ghost use Rattle.recording_peer.specs.Peers.{known_after_all};
+ghost use Rattle.recording_peer.specs.Places.{SaysInForce};
+ghost use Rattle.recording_peer.specs.Recording.{FiledDatagrams, FilesHold, IsPeer, PeerView, StopsAt, TurnedUnknown, HasStopped, CameAfter, GiveRecordsOverUdp, KeepsWhole, PeerTold, IsPeerTold, Tells, ReportsAddUp, taken_in};
 
 /// The files of a peer, with the one that isn't finished, are each read by itself as a session of a
 /// connection is, with no fault; and one after another they give the data records of the datagrams that
@@ -49,4 +51,11 @@ pub fn file_reports_add_up()
         (filed : FiledDatagrams) (r : PeerSession) → TurnedUnknown first after c filed
         → Tells c r → CameAfter first after since
         → AddUp since.reports r.session.report }
+{}
+
+/// Whether a peer has a template ([`PeerRecorder::has_template`](crate::PeerRecorder::has_template)) says whether one is in force
+/// over UDP: it is known in one of the domains, and its id isn't one of those that have none.
+pub fn has_template_in_force()
+    ensures { (first after : FilesView) (s : PeerView) (filed : FiledDatagrams)
+        → IsPeer first after s filed → SaysInForce s (known_after_all (taken_in filed)) }
 {}

@@ -11,6 +11,7 @@ pub mod laws;
 mod peer_answer;
 mod peer_recorder;
 mod peer_session;
+mod places;
 mod resumption;
 
 pub use beginning::begins_peer;

@@ -16,7 +16,7 @@ use Rattle.recording_order.specs.Releases.{Run, Says, answered}
 use Rattle.recording_peer.specs.declared.peer_answer.PeerAnswer.TheVariants.{Recorded, TooMuch, Refused, Ignored}
 use Rattle.recording_resumption.specs.declared.earlier_domain.EarlierDomain.{EarlierDomain}
 use Rattle.recording_peer.specs.Peers.{Taken, known_after_all}
-use Rattle.recording_peer.specs.Recording.{KnownShown, PeerView, FiledDatagrams, IsPeer, IsRecorded, HasStopped, TakesDatagram, barred_shown, basis_for, FinishesFile, filed_with, with_ignored, file_finished, taken_in, ignored_in}
+use Rattle.recording_peer.specs.Recording.{BarsOnce, KnownShown, PeerView, FiledDatagrams, IsPeer, IsRecorded, HasStopped, TakesDatagram, barred_shown, basis_for, FinishesFile, filed_with, with_ignored, file_finished, taken_in, ignored_in}
 use Rattle.recording_peer.proofs.PeerFiles.{taken_in-push, in-finished, ignored-finished}
 use Rattle.recording_peers.specs.declared.peer_state.PeerState.{PeerState}
 use Rattle.recording_peers.specs.Happenings.{datagrams_of}
@@ -147,8 +147,8 @@ module _ {F : Type 0} (seen : F → FilesView) where
       })
 
   -- it was refused for what it defines, and only the ids that have no template changed
-  peer-barred : (first v : FilesView) (s : PeerView) (filed : FiledDatagrams) (barred : List (ℕ × List ℕ)) → IsPeer first v s filed → IsPeer first v (record s { known = record s.known { barred = barred } }) filed
-  peer-barred first v s filed barred p = record {
+  peer-barred : (first v : FilesView) (s : PeerView) (filed : FiledDatagrams) (barred : List (ℕ × List ℕ)) → BarsOnce (record s.known { barred = barred }) → IsPeer first v s filed → IsPeer first v (record s { known = record s.known { barred = barred } }) filed
+  peer-barred first v s filed barred once p = record {
     holds = p.holds;
     not_failed = p.not_failed;
     goes_on = p.goes_on;
@@ -156,6 +156,7 @@ module _ {F : Type 0} (seen : F → FilesView) where
     keeps = p.keeps;
     withdrawn = p.withdrawn;
     fits = p.fits;
+    once = once;
     left = p.left;
   }
 
@@ -169,7 +170,7 @@ module _ {F : Type 0} (seen : F → FilesView) where
       let over = x.0 in
       let filed : FiledDatagrams = record p.filed { here = p.filed.here ++ [] } in
       let same : filed ≡ p.filed = λ i. record p.filed { here = append-nil p.filed.here i } in
-      let barred : IsPeer p.first (seen old.files) t p.filed = subst (λ (s : PeerView). IsPeer p.first (seen old.files) s p.filed) (sym over.bars.others) (peer-barred p.first (seen old.files) old.recorder p.filed t.known.barred is.recorded.is) in
+      let barred : IsPeer p.first (seen old.files) t p.filed = subst (λ (s : PeerView). IsPeer p.first (seen old.files) s p.filed) (sym over.bars.others) (peer-barred p.first (seen old.files) old.recorder p.filed t.known.barred (over.bars.once is.recorded.is.once) is.recorded.is) in
       let peer : IsPeer p.first (seen fs) t p.filed = subst (λ v. IsPeer p.first v t p.filed) (sym x.1) barred in
       record {
         more = [];

@@ -11,3 +11,4 @@ mod TakingTurns
 mod Recording
 pub mod Alone
 mod ScriptLemmas
+mod Evicting

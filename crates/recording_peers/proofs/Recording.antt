@@ -1,41 +1,44 @@
 -- What a call of the table does, by what it finds there.
-use Rattle.std.proofs.Common.{◌≡◌, ℕ, ◌-◌, Bool, cond, is_some, slice_get, List, Option, Some, None, Result, Ok, Err, refl, sym, ap, ◌∙◌, subst}
+use Rattle.std.proofs.Common.{◌≡◌, ℕ, Bool, cond, is_some, List, Option, Some, None, Result, Ok, Err, refl, sym, ap, ◌∙◌, subst}
+use Rattle.std.specs.Prelude.{IfOk, OnErr}
+use Rattle.std.specs.BTreeMap.{BTreeMap}
 use Rattle.std.specs.Map.{lookup, remove_entry, set_value}
 use Rattle.std.specs.declared.net.socket_addr.SocketAddr.{SocketAddr}
 use Rattle.lru.specs.LruCache.{promoted, last_entry}
 use Rattle.recording_files.specs.declared.record_fault.RecordFault.{RecordFault}
 use Rattle.recording_files.specs.Files.{FilesView}
+use Rattle.recording_resumption.specs.declared.earlier_domain.EarlierDomain.{EarlierDomain}
 use Rattle.recording_peers.specs.declared.session_limits.SessionLimits.{SessionLimits}
 use Rattle.recording_peers.specs.declared.peer_state.PeerState.{PeerState}
 use Rattle.recording_peers.specs.declared.turn.Turn.{Turn}
 use Rattle.recording_peers.specs.declared.outcome.Became.{Became}
 use Rattle.recording_peers.specs.declared.outcome.Became.TheVariants.{Taken, Ended, NoPlace, NoMemory}
 use Rattle.recording_peers.specs.Calls.{Takes, TakesTurn}
-use Rattle.recording_peers.specs.Table.{same_peer, of_peer, with_first, gone_for, others_than_last}
-use Rattle.recording_peers.specs.Steps.{Reception, ComesTo, BeginsBy, TakesKept, TakesIn, RecordsBy, Records, GoesOn, became_by, kept_by, ended_by, first_by}
+use Rattle.recording_peers.specs.Table.{same_peer, address_of, entry_of, of_peer, with_first, others_than_last}
+use Rattle.recording_peers.specs.Steps.{Reception, Begins, BeginsWith, ComesTo, BeginsBy, PutsIn, TakesKept, TakesIn, RecordsBy, Records, GoesOn, became_by, gone_for, kept_by, ended_by, first_by}
 use Rattle.recording_peers.proofs.Tables.{IsLast, written, taken_out, value_out, begun, begun_first, begun_others, last_first, last_out, last_there}
 
 module _ {F : Type 0} (seen : F → FilesView) where
   -- a peer that is kept took a datagram
-  pub took_in : (most : ℕ) (es : List (SocketAddr × PeerState F)) (r : Reception F) (old new : PeerState F) → of_peer r.peer es ≡ Some old → r.became ≡ Taken → Takes seen old new r.octets r.second (Ok tt)
-      → TakesKept seen most r es (set_value (same_peer r.peer) (promoted (same_peer r.peer) es) new)
-  took_in most es r old new h became takes = record {
+  pub took_in : (es : List (SocketAddr × PeerState F)) (r : Reception F) (old new : PeerState F) → of_peer r.peer es ≡ Some old → r.became ≡ Taken → Takes seen old new r.octets r.second (Ok tt)
+      → TakesKept seen r es (set_value (same_peer r.peer) (promoted (same_peer r.peer) es) new)
+  took_in es r old new h became takes = record {
     old = old;
     kept = h;
     new = new;
     answer = Ok tt;
     takes = takes;
     became = became;
-    others = written most r.peer es old new h;
+    others = written r.peer None es old new h;
   }
 
-  pub took_out : (most : ℕ) (es after : List (SocketAddr × PeerState F)) (r : Reception F) (old new ended : PeerState F) (fault : RecordFault) → of_peer r.peer es ≡ Some old → r.became ≡ Ended ended
+  pub took_out : (es after : List (SocketAddr × PeerState F)) (r : Reception F) (old new ended : PeerState F) (fault : RecordFault) → of_peer r.peer es ≡ Some old → r.became ≡ Ended ended
       → Takes seen old new r.octets r.second (Err fault)
       → Some ended ≡ lookup (same_peer r.peer) (set_value (same_peer r.peer) (promoted (same_peer r.peer) es) new)
       → after ≡ remove_entry (same_peer r.peer) (set_value (same_peer r.peer) (promoted (same_peer r.peer) es) new)
-      → TakesKept seen most r es after
-  took_out most es after r old new ended fault h became takes popped left =
-      let there = value_out most r.peer es old new h in
+      → TakesKept seen r es after
+  took_out es after r old new ended fault h became takes popped left =
+      let there = value_out r.peer es old new h in
       let same : ended ≡ new = cc (popped, there) in
       record {
         old = old;
@@ -44,10 +47,16 @@ module _ {F : Type 0} (seen : F → FilesView) where
         answer = Err fault;
         takes = takes;
         became = became ∙ ap (λ k. Ended k) same;
-        others = left ∙ taken_out most r.peer es old new h;
+        others = left ∙ taken_out r.peer None es old new h;
       }
 
   module _ (made_for : F → SocketAddr → Type 0) (limits : SessionLimits) (most : ℕ) where
+    -- a session begins, and one goes for it
+    pub begins_with : {E : Type 0} (peer : SocketAddr) (left : BTreeMap ℕ EarlierDomain) (answer : Result (Option (SocketAddr × PeerState F)) E) (es after : List (SocketAddr × PeerState F)) (k : PeerState F) → Begins seen made_for limits peer left k
+        → IfOk answer (λ gone. PutsIn most peer k gone es after) → OnErr answer (after ≡ es) → BeginsWith seen made_for limits most peer left answer es after
+    begins_with peer left (Ok went) es after k begins ok err = (k, begins, ok)
+    begins_with peer left (Err e) es after k begins ok err = err
+
     by_became : (b : Became F) (r : Reception F) (es after : List (SocketAddr × PeerState F)) → r.became ≡ b → TakesIn seen made_for limits most r es after → RecordsBy seen made_for limits b most r es after
     by_became Taken r es after is t = t
     by_became (Ended k) r es after is t = t
@@ -65,12 +74,12 @@ module _ {F : Type 0} (seen : F → FilesView) where
     recorded : (r : Reception F) (es after : List (SocketAddr × PeerState F)) → TakesIn seen made_for limits most r es after → Records seen made_for limits most r es after
     recorded r es after t = by_became r.became r es after refl t
 
-    -- none went for it
+    -- none goes for a peer that is kept
     none_gone : (o : Option (PeerState F)) (old : PeerState F) (e : Option (SocketAddr × PeerState F)) → o ≡ Some old → cond (is_some o) None e ≡ None
     none_gone None old e h = absurd cc
     none_gone (Some k) old e h = refl
 
-    pub recorded_kept : (r : Reception F) (es after : List (SocketAddr × PeerState F)) → TakesKept seen most (record r { gone = None }) es after → r.gone ≡ None → Records seen made_for limits most r es after
+    pub recorded_kept : (r : Reception F) (es after : List (SocketAddr × PeerState F)) → TakesKept seen (record r { gone = None }) es after → r.gone ≡ None → Records seen made_for limits most r es after
     recorded_kept r es after t none = recorded r es after (record {
       old = t.old;
       comes_to = subst (λ o. ComesTo seen made_for limits r.peer r.octets o t.old) (sym t.kept) refl;
@@ -78,21 +87,26 @@ module _ {F : Type 0} (seen : F → FilesView) where
       answer = t.answer;
       takes = t.takes;
       became = t.became;
-      others = t.others;
-      went = none ∙ sym (none_gone (of_peer r.peer es) t.old (slice_get es (most - 1)) t.kept);
+      went = none ∙ sym (none_gone (of_peer r.peer es) t.old (gone_for most es) t.kept);
+      was_kept = subst (λ g. g ≡ entry_of (address_of g) es) (sym none) refl;
+      others = subst (λ g. after ≡ kept_by t.answer (address_of g) r.peer t.new es) (sym none) t.others;
     })
 
     -- the session of a new peer
-    same_kept : (answer : Result (Unit {0}) RecordFault) (peer : SocketAddr) (k new : PeerState F) (es : List (SocketAddr × PeerState F)) → of_peer peer es ≡ None
-        → kept_by answer most peer new (with_first most peer k es) ≡ kept_by answer most peer new es
-    same_kept (Ok x) peer k new es h = begun_first most peer es k new h
-    same_kept (Err fault) peer k new es h = begun_others most peer es k h
+    same_kept : (answer : Result (Unit {0}) RecordFault) (gone : Option SocketAddr) (peer : SocketAddr) (k new : PeerState F) (es : List (SocketAddr × PeerState F)) → of_peer peer es ≡ None
+        → kept_by answer None peer new (with_first gone peer k es) ≡ kept_by answer gone peer new es
+    same_kept (Ok x) gone peer k new es h = begun_first peer gone es k new h
+    same_kept (Err fault) gone peer k new es h = begun_others peer gone es k h
 
-    pub recorded_new : (now_most : ℕ) (r : Reception F) (es begins after : List (SocketAddr × PeerState F)) (k : PeerState F) → of_peer r.peer es ≡ None → BeginsBy seen made_for limits r.peer r.octets k → begins ≡ with_first most r.peer k es → now_most ≡ most
-        → TakesKept seen now_most (record r { gone = None }) begins after → r.gone ≡ gone_for most r.peer es → Records seen made_for limits most r es after
-    recorded_new now_most r es begins after k none fresh is same_most taken gone =
-        let t : TakesKept seen most (record r { gone = None }) begins after = subst (λ n. TakesKept seen n (record r { gone = None }) begins after) same_most taken in
-        let there : of_peer r.peer begins ≡ Some k = ap (of_peer r.peer) is ∙ begun most r.peer es k none in
+    -- one goes for it
+    one_gone : (o : Option (PeerState F)) (e : Option (SocketAddr × PeerState F)) → o ≡ None → cond (is_some o) None e ≡ e
+    one_gone None e h = refl
+    one_gone (Some k) e h = absurd cc
+
+    pub recorded_new : (r : Reception F) (es begins after : List (SocketAddr × PeerState F)) (k : PeerState F) → of_peer r.peer es ≡ None → BeginsBy seen made_for limits r.peer r.octets k → PutsIn most r.peer k r.gone es begins
+        → TakesKept seen (record r { gone = None }) begins after → Records seen made_for limits most r es after
+    recorded_new r es begins after k none fresh puts t =
+        let there : of_peer r.peer begins ≡ Some k = ap (of_peer r.peer) puts.others ∙ begun r.peer (address_of r.gone) es k none in
         let kept = t.kept in
         let same : t.old ≡ k = cc (kept, there) in
         recorded r es after (record {
@@ -102,8 +116,9 @@ module _ {F : Type 0} (seen : F → FilesView) where
           answer = t.answer;
           takes = t.takes;
           became = t.became;
-          others = t.others ∙ ap (kept_by t.answer most r.peer t.new) is ∙ same_kept t.answer r.peer k t.new es none;
-          went = gone;
+          went = puts.went ∙ sym (one_gone (of_peer r.peer es) (gone_for most es) none);
+          was_kept = puts.was_kept;
+          others = t.others ∙ ap (kept_by t.answer None r.peer t.new) puts.others ∙ same_kept t.answer (address_of r.gone) r.peer k t.new es none;
         })
 
   -- ---- the last peer had its turn
@@ -145,6 +160,6 @@ module _ {F : Type 0} (seen : F → FilesView) where
         refused = refl;
         orders = refl;
         resumed = refl;
-        ended = popped ∙ value_out 0 e.0 es e.1 new there ∙ sym (ap (λ a. ended_by a new) failed);
+        ended = popped ∙ value_out e.0 es e.1 new there ∙ sym (ap (λ a. ended_by a new) failed);
         others = left ∙ last_out es e new l ∙ sym (ap (λ a. first_by a e.0 new (others_than_last es)) failed);
       }

@@ -1,15 +1,15 @@
 -- Entries of a table that are looked up, and that go first.
-use Rattle.std.proofs.Common.{◌≡◌, ℕ, ◌-◌, Bool, true, false, cond, List, [], ◌∷◌, ◌++◌, take, length, slice_get, is_some, option_map, Option, Some, None, refl, sym, ap, ◌∙◌, subst, arith}
+use Rattle.std.proofs.Common.{◌≡◌, ◌-◌, Bool, true, false, cond, List, [], ◌∷◌, ◌++◌, take, length, is_some, option_map, Option, Some, None, refl, sym, ap, ◌∙◌, subst, arith}
 use Rattle.std.specs.Prelude.{unwrap_or}
 use Rattle.std.specs.List.{AllByRecursion, IsDistinct}
 use Rattle.std.specs.Option.{option_map_or}
 use Rattle.std.specs.Map.{keys_of, lookup, lookup_entry, lookup_key, remove_entry, set_value}
 use Rattle.std.specs.declared.net.socket_addr.SocketAddr.{SocketAddr}
 use Rattle.std.specs.contracts.net.socket_addr.SocketAddrEq.TheImpl.Laws.{laws-law}
-use Rattle.lru.specs.LruCache.{lru_cache, put_entries, promoted, displaced, last_entry}
+use Rattle.lru.specs.LruCache.{promoted, last_entry}
 use Rattle.lru.proofs.Pairs.{cut_end, last_of_push, lookup-lookup_entry}
 use Rattle.lru.proofs.Splits.{distinct_differs}
-use Rattle.recording_peers.specs.Table.{same_peer, of_peer, others_for, with_first, gone_for}
+use Rattle.recording_peers.specs.Table.{same_peer, of_peer, others_for, with_first, without}
 
 module _ {K V : Type 0} (test : K → Bool) where
   -- an entry is found, under a key that passes
@@ -45,30 +45,30 @@ module _ {K V : Type 0} (test : K → Bool) where
 
 -- ---- a peer
 
-module _ {X : Type 0} (most : ℕ) (peer : SocketAddr) where
+module _ {X : Type 0} (peer : SocketAddr) where
   choose : (b : Bool) (x y : List (SocketAddr × X)) → b ≡ true → cond b x y ≡ x
   choose b x y h = rw h
 
   otherwise : (b : Bool) (x y : List (SocketAddr × X)) → b ≡ false → cond b x y ≡ y
   otherwise b x y h = rw h
 
-  pub others_known : (es : List (SocketAddr × X)) (v : X) → of_peer peer es ≡ Some v → others_for most peer es ≡ remove_entry (same_peer peer) es
-  others_known es v h = choose (is_some (of_peer peer es)) _ _ (ap is_some h)
+  pub others_known : (gone : Option SocketAddr) (es : List (SocketAddr × X)) (v : X) → of_peer peer es ≡ Some v → others_for gone peer es ≡ remove_entry (same_peer peer) es
+  others_known went es v h = choose (is_some (of_peer peer es)) _ _ (ap is_some h)
 
-  pub others_new : (es : List (SocketAddr × X)) → of_peer peer es ≡ None → others_for most peer es ≡ take (most - 1) es
-  others_new es h = otherwise (is_some (of_peer peer es)) _ _ (ap is_some h)
+  pub others_new : (gone : Option SocketAddr) (es : List (SocketAddr × X)) → of_peer peer es ≡ None → others_for gone peer es ≡ without gone es
+  others_new went es h = otherwise (is_some (of_peer peer es)) _ _ (ap is_some h)
 
   -- what is written at a peer's key, which goes first
-  pub written : (es : List (SocketAddr × X)) (v w : X) → of_peer peer es ≡ Some v → set_value (same_peer peer) (promoted (same_peer peer) es) w ≡ with_first most peer w es
-  written es v w h =
+  pub written : (gone : Option SocketAddr) (es : List (SocketAddr × X)) (v w : X) → of_peer peer es ≡ Some v → set_value (same_peer peer) (promoted (same_peer peer) es) w ≡ with_first gone peer w es
+  written gone es v w h =
       let at = found (same_peer peer) es v h in
-      set_first (same_peer peer) es at.0 v w at.1 ∙ (λ i. (unwrap_or (sym at.1.key i) peer, w) ∷ sym (others_known es v h) i)
+      set_first (same_peer peer) es at.0 v w at.1 ∙ (λ i. (unwrap_or (sym at.1.key i) peer, w) ∷ sym (others_known gone es v h) i)
 
   -- and taken out then
-  pub taken_out : (es : List (SocketAddr × X)) (v w : X) → of_peer peer es ≡ Some v → remove_entry (same_peer peer) (set_value (same_peer peer) (promoted (same_peer peer) es) w) ≡ others_for most peer es
-  taken_out es v w h =
+  pub taken_out : (gone : Option SocketAddr) (es : List (SocketAddr × X)) (v w : X) → of_peer peer es ≡ Some v → remove_entry (same_peer peer) (set_value (same_peer peer) (promoted (same_peer peer) es) w) ≡ others_for gone peer es
+  taken_out gone es v w h =
       let at = found (same_peer peer) es v h in
-      ap (remove_entry (same_peer peer)) (set_first (same_peer peer) es at.0 v w at.1) ∙ out at.0 at.1.passes ∙ sym (others_known es v h)
+      ap (remove_entry (same_peer peer)) (set_first (same_peer peer) es at.0 v w at.1) ∙ out at.0 at.1.passes ∙ sym (others_known gone es v h)
     where
       out : (k : SocketAddr) → same_peer peer k ≡ true → remove_entry (same_peer peer) ((k, w) ∷ remove_entry (same_peer peer) es) ≡ remove_entry (same_peer peer) es
       out k t = rw t
@@ -82,42 +82,30 @@ module _ {X : Type 0} (most : ℕ) (peer : SocketAddr) where
       out k t = rw t
 
   -- a new one goes first
-  pub with_new : (es : List (SocketAddr × X)) (w : X) → of_peer peer es ≡ None → with_first most peer w es ≡ (peer, w) ∷ take (most - 1) es
-  with_new es w h = λ i. (unwrap_or ((absent (same_peer peer) es h).key i) peer, w) ∷ others_new es h i
-
-  pub put_new : (es : List (SocketAddr × X)) (w : X) → of_peer peer es ≡ None → put_entries same_peer (lru_cache es most) peer w ≡ with_first most peer w es
-  put_new es w h = by (lookup_entry (same_peer peer) es) (absent (same_peer peer) es h).entry ∙ sym (with_new es w h)
-    where
-      by : (o : Option (SocketAddr × X)) → o ≡ None → option_map_or (λ e. (e.0, w) ∷ remove_entry (same_peer peer) es) o ((peer, w) ∷ take (most - 1) es) ≡ (peer, w) ∷ take (most - 1) es
-      by o e = rw e
-
-  pub gone_new : (es : List (SocketAddr × X)) (w : X) → of_peer peer es ≡ None → displaced same_peer (lru_cache es most) peer w ≡ gone_for most peer es
-  gone_new es w h = by (of_peer peer es) h
-    where
-      by : (o : Option X) → o ≡ None → option_map_or (λ old. Some (peer, old)) o (slice_get es (most - 1)) ≡ cond (is_some o) None (slice_get es (most - 1))
-      by o e = rw e
+  pub with_new : (gone : Option SocketAddr) (es : List (SocketAddr × X)) (w : X) → of_peer peer es ≡ None → with_first gone peer w es ≡ (peer, w) ∷ without gone es
+  with_new gone es w h = λ i. (unwrap_or ((absent (same_peer peer) es h).key i) peer, w) ∷ others_new gone es h i
 
   -- one that has just begun is there
-  pub begun : (es : List (SocketAddr × X)) (v : X) → of_peer peer es ≡ None → of_peer peer (with_first most peer v es) ≡ Some v
-  begun es v h = ap (of_peer peer) (with_new es v h) ∙ there (take (most - 1) es)
+  pub begun : (gone : Option SocketAddr) (es : List (SocketAddr × X)) (v : X) → of_peer peer es ≡ None → of_peer peer (with_first gone peer v es) ≡ Some v
+  begun gone es v h = ap (of_peer peer) (with_new gone es v h) ∙ there (without gone es)
     where
       there : (xs : List (SocketAddr × X)) → of_peer peer ((peer, v) ∷ xs) ≡ Some v
       there xs = rw (laws-law.refl peer)
 
   -- what is written there then is as if it had begun so
-  pub begun_others : (es : List (SocketAddr × X)) (v : X) → of_peer peer es ≡ None → others_for most peer (with_first most peer v es) ≡ others_for most peer es
-  begun_others es v h =
-      others_known (with_first most peer v es) v (begun es v h) ∙ ap (remove_entry (same_peer peer)) (with_new es v h) ∙ out (take (most - 1) es) ∙ sym (others_new es h)
+  pub begun_others : (gone : Option SocketAddr) (es : List (SocketAddr × X)) (v : X) → of_peer peer es ≡ None → others_for None peer (with_first gone peer v es) ≡ others_for gone peer es
+  begun_others gone es v h =
+      others_known None (with_first gone peer v es) v (begun gone es v h) ∙ ap (remove_entry (same_peer peer)) (with_new gone es v h) ∙ out (without gone es) ∙ sym (others_new gone es h)
     where
       out : (xs : List (SocketAddr × X)) → remove_entry (same_peer peer) ((peer, v) ∷ xs) ≡ xs
       out xs = rw (laws-law.refl peer)
 
-  pub begun_first : (es : List (SocketAddr × X)) (v w : X) → of_peer peer es ≡ None → with_first most peer w (with_first most peer v es) ≡ with_first most peer w es
-  begun_first es v w h =
-      (λ i. (unwrap_or (lookup_key (same_peer peer) (with_new es v h i)) peer, w) ∷ begun_others es v h i)
-      ∙ ap (λ k. (k, w) ∷ others_for most peer es) (there (take (most - 1) es))
-      ∙ ap (λ l. (peer, w) ∷ l) (others_new es h)
-      ∙ sym (with_new es w h)
+  pub begun_first : (gone : Option SocketAddr) (es : List (SocketAddr × X)) (v w : X) → of_peer peer es ≡ None → with_first None peer w (with_first gone peer v es) ≡ with_first gone peer w es
+  begun_first gone es v w h =
+      (λ i. (unwrap_or (lookup_key (same_peer peer) (with_new gone es v h i)) peer, w) ∷ begun_others gone es v h i)
+      ∙ ap (λ k. (k, w) ∷ others_for gone peer es) (there (without gone es))
+      ∙ ap (λ l. (peer, w) ∷ l) (others_new gone es h)
+      ∙ sym (with_new gone es w h)
     where
       there : (xs : List (SocketAddr × X)) → unwrap_or (lookup_key (same_peer peer) ((peer, v) ∷ xs)) peer ≡ peer
       there xs = rw (laws-law.refl peer)

@@ -4,7 +4,6 @@ use Rattle.std.specs.List.{list_any}
 use Rattle.std.specs.Option.{option_to_list}
 use Rattle.std.specs.BTreeMap.{BTreeMap}
 use Rattle.ipfix_message.specs.Domains.{Message, message_header}
-use Rattle.ipfix_message.specs.declared.fault.MessageFault.{MessageFault}
 use Rattle.ipfix_wire.specs.declared.header.Header.{Header}
 use Rattle.recording_peers.specs.declared.refusals.DatagramFault.{DatagramFault}
 use Rattle.recording_peers.specs.declared.refusals.DatagramFault.TheVariants.{Message as OfMessage, TooManyFields}

@@ -8,7 +8,7 @@ use Rattle.recording_peers.specs.declared.session_limits.SessionLimits.{SessionL
 use Rattle.recording_peers.specs.Happenings.{Happening}
 use Rattle.recording_peers.specs.Table.{same_peer, of_peer, others_for}
 use Rattle.recording_peers.specs.Steps.{PeerSessions, Reception, Records}
-use Rattle.recording_peers.specs.Sessions.{PeerHappenings, came_in, with_happening}
+use Rattle.recording_peers.specs.Sessions.{PeerHappenings, came_in, went_in, with_happening}
 
 -- they were recorded one after another
 abbrev pub AreRecorded : {F : Type 0} → (F → FilesView) → (F → SocketAddr → Type 0) → SessionLimits → ℕ → List (Reception F) → PeerSessions F → PeerSessions F → Type 0
@@ -17,18 +17,18 @@ AreRecorded {F} seen made_for limits most (r ∷ rs) es after =
     (between : PeerSessions F) × Records seen made_for limits most r es between × AreRecorded seen made_for limits most rs between after
 
 -- the peers that are kept then, each with what happened to it since its session began
-abbrev pub happened_by : {F : Type 0} → Became F → ℕ → Reception F → PeerHappenings → PeerHappenings
-happened_by Taken most r cs = with_happening most cs r.peer (came_in r)
-happened_by (Ended k) most r cs = others_for most r.peer cs
-happened_by NoPlace most r cs = cs
-happened_by NoMemory most r cs = cs
+abbrev pub happened_by : {F : Type 0} → Became F → Reception F → PeerHappenings → PeerHappenings
+happened_by Taken r cs = with_happening (went_in r) cs r.peer (came_in r)
+happened_by (Ended k) r cs = others_for (went_in r) r.peer cs
+happened_by NoPlace r cs = cs
+happened_by NoMemory r cs = cs
 
-abbrev pub happened_in : {F : Type 0} → ℕ → Reception F → PeerHappenings → PeerHappenings
-happened_in most r cs = happened_by r.became most r cs
+abbrev pub happened_in : {F : Type 0} → Reception F → PeerHappenings → PeerHappenings
+happened_in r cs = happened_by r.became r cs
 
-abbrev pub happened_after : {F : Type 0} → ℕ → List (Reception F) → PeerHappenings → PeerHappenings
-happened_after most [] cs = cs
-happened_after most (r ∷ rs) cs = happened_after most rs (happened_in most r cs)
+abbrev pub happened_after : {F : Type 0} → List (Reception F) → PeerHappenings → PeerHappenings
+happened_after [] cs = cs
+happened_after (r ∷ rs) cs = happened_after rs (happened_in r cs)
 
 -- ---- a peer among them
 
@@ -44,9 +44,9 @@ IsTaken NoPlace = ⊥
 IsTaken NoMemory = ⊥
 
 -- its own were taken, and its session didn't go out
-abbrev pub IsNeverEvicted : {F : Type 0} → SocketAddr → ℕ → List (Reception F) → PeerHappenings → Type 0
-IsNeverEvicted peer most [] cs = Unit {0}
-IsNeverEvicted peer most (r ∷ rs) cs =
+abbrev pub IsNeverEvicted : {F : Type 0} → SocketAddr → List (Reception F) → PeerHappenings → Type 0
+IsNeverEvicted peer [] cs = Unit {0}
+IsNeverEvicted peer (r ∷ rs) cs =
     (same_peer peer r.peer ≡ true → IsTaken r.became)
-    × (IsSome (of_peer peer cs) → IsSome (of_peer peer (happened_in most r cs)))
-    × IsNeverEvicted peer most rs (happened_in most r cs)
+    × (IsSome (of_peer peer cs) → IsSome (of_peer peer (happened_in r cs)))
+    × IsNeverEvicted peer rs (happened_in r cs)

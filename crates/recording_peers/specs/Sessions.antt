@@ -11,7 +11,7 @@ use Rattle.recording_peers.specs.declared.in_turn.InTurn.{InTurn}
 use Rattle.recording_peers.specs.Happenings.{Happening, DatagramCame, SecondBegan}
 use Rattle.recording_peers.specs.Kept.{IsSession, HasEnded}
 use Rattle.recording_peers.specs.Steps.{PeerSessions, Reception}
-use Rattle.recording_peers.specs.Table.{of_peer, others_for, with_first, gone_for, others_than_last, Beside, Paired, Both}
+use Rattle.recording_peers.specs.Table.{address_of, entry_of, of_peer, others_for, with_first, others_than_last, Beside, Paired, Both}
 
 -- peers, each with what happened to it since its session began, in order
 abbrev pub PeerHappenings : Type 0
@@ -24,9 +24,13 @@ happened_to peer cs = unwrap_or (of_peer peer cs) []
 abbrev pub happened_with : SocketAddr → PeerHappenings → Happening → List Happening
 happened_with peer cs h = happened_to peer cs ++ h ∷ []
 
--- one more happened to a peer, which is first now
-abbrev pub with_happening : ℕ → PeerHappenings → SocketAddr → Happening → PeerHappenings
-with_happening most cs peer h = with_first most peer (happened_with peer cs h) cs
+-- one more happened to a peer, which is first now, and for which this one went
+abbrev pub with_happening : Option SocketAddr → PeerHappenings → SocketAddr → Happening → PeerHappenings
+with_happening gone cs peer h = with_first gone peer (happened_with peer cs h) cs
+
+-- the one that went, if one did
+abbrev pub went_in : {F : Type 0} → Reception F → Option SocketAddr
+went_in r = address_of r.gone
 
 -- a datagram of it came
 abbrev pub came_in : {F : Type 0} → Reception F → Happening
@@ -42,15 +46,15 @@ module _ {F : Type 0} (seen : F → FilesView) (limits : SessionLimits) where
   EvictedStands gone c = Both (Beside (λ k hs. IsSession seen k limits hs)) gone c
 
   -- after a datagram of a peer
-  abbrev pub StandBy : Became F → ℕ → Reception F → PeerSessions F → PeerHappenings → Type 0
-  StandBy Taken most r after cs = StandFor after (with_happening most cs r.peer (came_in r)) × EvictedStands r.gone (gone_for most r.peer cs)
-  StandBy (Ended k) most r after cs = StandFor after (others_for most r.peer cs) × EvictedStands r.gone (gone_for most r.peer cs)
+  abbrev pub StandBy : Became F → Reception F → PeerSessions F → PeerHappenings → Type 0
+  StandBy Taken r after cs = StandFor after (with_happening (went_in r) cs r.peer (came_in r)) × EvictedStands r.gone (entry_of (went_in r) cs)
+  StandBy (Ended k) r after cs = StandFor after (others_for (went_in r) r.peer cs) × EvictedStands r.gone (entry_of (went_in r) cs)
       × HasEnded seen k limits (happened_with r.peer cs (came_in r))
-  StandBy NoPlace most r after cs = StandFor after cs × (r.gone ≡ None)
-  StandBy NoMemory most r after cs = StandFor after cs × (r.gone ≡ None)
+  StandBy NoPlace r after cs = StandFor after cs × (r.gone ≡ None)
+  StandBy NoMemory r after cs = StandFor after cs × (r.gone ≡ None)
 
-  abbrev pub StandAfter : ℕ → Reception F → PeerSessions F → PeerHappenings → Type 0
-  StandAfter most r after cs = StandBy r.became most r after cs
+  abbrev pub StandAfter : Reception F → PeerSessions F → PeerHappenings → Type 0
+  StandAfter r after cs = StandBy r.became r after cs
 
   -- after the turn of the last one, as a second began
   abbrev pub StandInTurn : ℕ → Option (PeerState F) → PeerSessions F → PeerHappenings → SocketAddr × List Happening → Type 0

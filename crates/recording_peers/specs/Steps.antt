@@ -1,5 +1,6 @@
 -- What becomes of a datagram, and of the peers that are kept.
-use Rattle.std.specs.Prelude.{◌≡◌, ◌≤◌, ◌⊎◌, ℕ, Bool, List, length, [], ◌∷◌, Option, Some, None, Result, Ok, Err}
+use Rattle.std.specs.Prelude.{◌≡◌, ◌≤◌, ◌⊎◌, ℕ, Bool, not, nat_lt, if◌then◌else◌, is_some, List, length, [], ◌∷◌, Option, Some, None, Result, Ok, Err}
+use Rattle.std.specs.Option.{option_or}
 use Rattle.std.specs.BTreeMap.{BTreeMap}
 use Rattle.std.specs.declared.net.socket_addr.SocketAddr.{SocketAddr}
 use Rattle.lru.specs.LruCache.{last_entry}
@@ -7,6 +8,7 @@ use Rattle.recording_files.specs.declared.record_fault.RecordFault.{RecordFault}
 use Rattle.recording_files.specs.Files.{FilesView}
 use Rattle.recording_resumption.specs.declared.earlier_domain.EarlierDomain.{EarlierDomain}
 use Rattle.recording_peer.specs.Beginnings.{BeginsPeer, WhyNone, resumed_first}
+use Rattle.recording_peer.specs.Places.{has_template, has_record}
 use Rattle.recording_peer.specs.Recording.{left_listed}
 use Rattle.recording_peers.specs.declared.peer_state.PeerState.{PeerState}
 use Rattle.recording_peers.specs.declared.outcome.Became.{Became}
@@ -17,7 +19,7 @@ use Rattle.recording_peers.specs.declared.in_turn.InTurn.{InTurn}
 use Rattle.recording_peers.specs.declared.turn.Turn.{Turn}
 use Rattle.recording_peers.specs.Kept.{IsSession}
 use Rattle.recording_peers.specs.Calls.{Takes, TakesTurn}
-use Rattle.recording_peers.specs.Table.{of_peer, others_for, with_first, gone_for, others_than_last}
+use Rattle.recording_peers.specs.Table.{address_of, entry_of, last_of, of_peer, others_for, with_first, others_than_last}
 
 -- peers that are kept, each with its session, in the order of their last datagrams, the latest first
 abbrev pub PeerSessions : Type 0 → Type 0
@@ -39,9 +41,31 @@ became_by (Ok x) k = Taken
 became_by (Err fault) k = Ended k
 
 -- the peer is first, with its session; one that ended is kept no more
-abbrev pub kept_by : {F : Type 0} → Result (Unit {0}) RecordFault → ℕ → SocketAddr → PeerState F → PeerSessions F → PeerSessions F
-kept_by (Ok x) most peer k es = with_first most peer k es
-kept_by (Err fault) most peer k es = others_for most peer es
+abbrev pub kept_by : {F : Type 0} → Result (Unit {0}) RecordFault → Option SocketAddr → SocketAddr → PeerState F → PeerSessions F → PeerSessions F
+kept_by (Ok x) gone peer k es = with_first gone peer k es
+kept_by (Err fault) gone peer k es = others_for gone peer es
+
+-- ---- who goes for a new peer
+
+-- first who has no template in force, then who had no record read, and then any: of these the one that was silent for longest
+abbrev pub goes_first : {F : Type 0} → PeerSessions F → Option (SocketAddr × PeerState F)
+goes_first es = option_or (last_of (λ k. not (has_template k.recorder)) es) (option_or (last_of (λ k. not (has_record k.recorder)) es) (last_entry es))
+
+-- where there is no room for one more
+abbrev pub gone_for : {F : Type 0} → ℕ → PeerSessions F → Option (SocketAddr × PeerState F)
+gone_for most es = if nat_lt (length es) most then None else goes_first es
+
+-- for a peer that isn't kept
+abbrev pub gone_beside : {F : Type 0} → ℕ → SocketAddr → PeerSessions F → Option (SocketAddr × PeerState F)
+gone_beside most peer es = if is_some (of_peer peer es) then None else gone_for most es
+
+-- a new peer is first then, with this session, and this one went for it
+pub record PutsIn {F : Type 0} (most : ℕ) (peer : SocketAddr) (k : PeerState F) (gone : Option (SocketAddr × PeerState F)) (es after : PeerSessions F) : Type 0 where
+  pub went : gone ≡ gone_for most es
+  pub was_kept : gone ≡ entry_of (address_of gone) es
+  pub others : after ≡ with_first (address_of gone) peer k es
+
+-- ---- what is done with a datagram
 
 -- no session of the peer begins, and nothing has changed
 pub record TakesNothing {F : Type 0} (r : Reception F) (es after : PeerSessions F) : Type 0 where
@@ -64,14 +88,14 @@ pub record KeepsLimits {F : Type 0} (old new : Peers F) : Type 0 where
   pub limits : new.limits ≡ old.limits
 
 -- the session of a peer that is kept took it; no other has changed
-pub record TakesKept {F : Type 0} (seen : F → FilesView) (most : ℕ) (r : Reception F) (es after : PeerSessions F) : Type 0 where
+pub record TakesKept {F : Type 0} (seen : F → FilesView) (r : Reception F) (es after : PeerSessions F) : Type 0 where
   pub old : PeerState F
   pub kept : of_peer r.peer es ≡ Some old
   pub new : PeerState F
   pub answer : Result (Unit {0}) RecordFault
   pub takes : Takes seen old new r.octets r.second answer
   pub became : r.became ≡ became_by answer new
-  pub others : after ≡ kept_by answer most r.peer new es
+  pub others : after ≡ kept_by answer None r.peer new es
 
 module _ {F : Type 0} (seen : F → FilesView) (made_for : F → SocketAddr → Type 0) (limits : SessionLimits) where
   -- a session that begins, with files that were made for its peer, and with what an earlier run left of the peer
@@ -89,7 +113,7 @@ module _ {F : Type 0} (seen : F → FilesView) (made_for : F → SocketAddr → 
 
   -- a peer that isn't kept is first then, with a session that begins, and this one went for it; or there is no memory
   abbrev pub BeginsWith : {E : Type 0} → ℕ → SocketAddr → BTreeMap ℕ EarlierDomain → Result (Option (SocketAddr × PeerState F)) E → PeerSessions F → PeerSessions F → Type 0
-  BeginsWith most peer left (Ok gone) es after = (gone ≡ gone_for most peer es) × ((k : PeerState F) × Begins peer left k × (after ≡ with_first most peer k es))
+  BeginsWith most peer left (Ok gone) es after = (k : PeerState F) × Begins peer left k × PutsIn most peer k gone es after
   BeginsWith most peer left (Err e) es after = after ≡ es
 
   -- the session that a datagram comes to: the peer's, or one that begins
@@ -105,8 +129,10 @@ module _ {F : Type 0} (seen : F → FilesView) (made_for : F → SocketAddr → 
     pub answer : Result (Unit {0}) RecordFault
     pub takes : Takes seen old new r.octets r.second answer
     pub became : r.became ≡ became_by answer new
-    pub others : after ≡ kept_by answer most r.peer new es
-    pub went : r.gone ≡ gone_for most r.peer es
+    -- the one that goes for it is taken out, and answered
+    pub went : r.gone ≡ gone_beside most r.peer es
+    pub was_kept : r.gone ≡ entry_of (address_of r.gone) es
+    pub others : after ≡ kept_by answer (address_of r.gone) r.peer new es
 
   abbrev pub RecordsBy : Became F → ℕ → Reception F → PeerSessions F → PeerSessions F → Type 0
   RecordsBy NoPlace most r es after = FindsNoPlace limits.templates most r es after

@@ -1,7 +1,8 @@
 -- Tables of peers, which have room for some of them (RFC 7011, section 10.3): in the order of their last datagrams, the latest
 -- first.
-use Rattle.std.specs.Prelude.{◌≡◌, ℕ, ◌-◌, Bool, List, [], ◌∷◌, length, take, Option, Some, None, is_some, unwrap_or, slice_get, if◌then◌else◌}
-use Rattle.std.specs.Map.{lookup, lookup_key, remove_entry}
+use Rattle.std.specs.Prelude.{◌≡◌, ◌-◌, Bool, not, List, [], ◌∷◌, filter, length, take, Option, Some, None, is_some, unwrap_or, if◌then◌else◌}
+use Rattle.std.specs.Map.{lookup, lookup_entry, lookup_key, remove_entry}
+use Rattle.std.specs.Option.{option_or}
 use Rattle.std.specs.declared.net.socket_addr.SocketAddr.{SocketAddr}
 use Rattle.std.specs.contracts.net.socket_addr.SocketAddrPartialEq.TheImpl as addresses
 
@@ -12,17 +13,31 @@ same_peer = addresses.eq-value.it
 abbrev pub of_peer : {X : Type 0} → SocketAddr → List (SocketAddr × X) → Option X
 of_peer peer es = lookup (same_peer peer) es
 
--- the others, beside a peer that is first; where a new one is one too many, the one that was silent for longest goes
-abbrev pub others_for : {X : Type 0} → ℕ → SocketAddr → List (SocketAddr × X) → List (SocketAddr × X)
-others_for most peer es = if is_some (of_peer peer es) then remove_entry (same_peer peer) es else take (most - 1) es
+-- a peer that goes, if one does, by its address: what is kept of it, and the others
+abbrev pub entry_of : {X : Type 0} → Option SocketAddr → List (SocketAddr × X) → Option (SocketAddr × X)
+entry_of None es = None
+entry_of (Some gone) es = lookup_entry (same_peer gone) es
 
--- that one
-abbrev pub gone_for : {X : Type 0} → ℕ → SocketAddr → List (SocketAddr × X) → Option (SocketAddr × X)
-gone_for most peer es = if is_some (of_peer peer es) then None else slice_get es (most - 1)
+abbrev pub without : {X : Type 0} → Option SocketAddr → List (SocketAddr × X) → List (SocketAddr × X)
+without None es = es
+without (Some gone) es = filter (λ e. not (same_peer gone e.0)) es
+
+abbrev pub address_of : {X : Type 0} → Option (SocketAddr × X) → Option SocketAddr
+address_of None = None
+address_of (Some e) = Some e.0
+
+-- the others, beside a peer that is first; where it is a new one, this one goes
+abbrev pub others_for : {X : Type 0} → Option SocketAddr → SocketAddr → List (SocketAddr × X) → List (SocketAddr × X)
+others_for gone peer es = if is_some (of_peer peer es) then remove_entry (same_peer peer) es else without gone es
 
 -- a peer is first, with this, under the address that it was kept under
-abbrev pub with_first : {X : Type 0} → ℕ → SocketAddr → X → List (SocketAddr × X) → List (SocketAddr × X)
-with_first most peer x es = (unwrap_or (lookup_key (same_peer peer) es) peer, x) ∷ others_for most peer es
+abbrev pub with_first : {X : Type 0} → Option SocketAddr → SocketAddr → X → List (SocketAddr × X) → List (SocketAddr × X)
+with_first gone peer x es = (unwrap_or (lookup_key (same_peer peer) es) peer, x) ∷ others_for gone peer es
+
+-- the last one of those of which this holds
+abbrev pub last_of : {X : Type 0} → (X → Bool) → List (SocketAddr × X) → Option (SocketAddr × X)
+last_of holds [] = None
+last_of holds (e ∷ es) = option_or (last_of holds es) (if holds e.1 then Some e else None)
 
 -- the others than the last one, which was silent for longest
 abbrev pub others_than_last : {X : Type 0} → List (SocketAddr × X) → List (SocketAddr × X)

@@ -32,7 +32,7 @@ use recording_order::laws::{
 pub fn sessions_stand_for_their_datagrams<F: FileSeries, P: PeerPlace<F>>()
     ensures { (s : Standing F.seen) (most : ℕ) (r : Reception F) (after : PeerSessions F)
         → Records F.seen P.made_for s.limits most r s.sessions after
-        → StandAfter F.seen s.limits most r after s.own }
+        → StandAfter F.seen s.limits r after s.own }
 {
     only_what_was_handed_on_is_asked();
     counts_change_nothing();
@@ -63,10 +63,10 @@ pub fn sessions_stand_without_the_last<F: FileSeries>()
 pub fn sessions_stand_for_their_own<F: FileSeries, P: PeerPlace<F>>()
     ensures stand { (s : Standing F.seen) (most : ℕ) (rs : List (Reception F)) (after : PeerSessions F)
         → AreRecorded F.seen P.made_for s.limits most rs s.sessions after
-        → StandFor F.seen s.limits after (happened_after most rs s.own) }
-    ensures own { (most : ℕ) (rs : List (Reception F)) (cs : PeerHappenings) (peer : SocketAddr)
-        → IsNeverEvicted peer most rs cs
-        → happened_to peer (happened_after most rs cs) ≡ happened_to peer cs ++ own_of peer rs }
+        → StandFor F.seen s.limits after (happened_after rs s.own) }
+    ensures own { (rs : List (Reception F)) (cs : PeerHappenings) (peer : SocketAddr)
+        → IsNeverEvicted peer rs cs
+        → happened_to peer (happened_after rs cs) ≡ happened_to peer cs ++ own_of peer rs }
 {
     only_what_was_handed_on_is_asked();
     counts_change_nothing();

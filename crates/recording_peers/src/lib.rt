@@ -13,6 +13,7 @@ mod peer_place;
 mod peer_state;
 mod peers;
 mod refusals;
+mod room;
 mod script_datagrams;
 mod session_limits;
 mod taking;

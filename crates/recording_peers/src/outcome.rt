@@ -23,6 +23,6 @@ pub enum Became<F> {
 pub struct Outcome<F> {
     /// What became of it.
     pub became: Became<F>,
-    /// The peer that was silent for longest, which went, since there was no room for one more.
+    /// The peer that went, since there was no room for one more ([`Peers::record`](crate::Peers::record)).
     pub gone: Option<(SocketAddr, PeerState<F>)>,
 }

@@ -58,9 +58,10 @@ impl<F: FileSeries + Drop> Peers<F> {
         self.kept.is_empty()
     }
 
-    /// Gives a datagram of a peer, which came at a time in seconds, to the peer's session; one that isn't kept
-    /// begins with a datagram that leaves a template in force, with files of a place. The peer is first now. Where there is no room for one more, the peer
-    /// that was silent for longest goes out. Any other stays as it is.
+    /// Gives a datagram of a peer, which came at a time in seconds, to the peer's session; one that isn't kept begins with a
+    /// datagram that leaves a template in force, with files of a place. The peer is first now. Where there is no room for one more,
+    /// one goes: first who has no template in force, then who had no data record read, then any, and of these the one that was silent
+    /// for longest. Any other stays as it is.
     pub fn record<P: PeerPlace<F>>(
         &mut self,
         alloc: Global,

@@ -125,10 +125,7 @@ impl<F: FileSeries + Drop> Peers<F> {
     {
         let files = place.files(alloc, peer)?;
         let session = PeerState::new(alloc, files, earlier, self.limits, second);
-        match self.kept.push(peer, session) {
-            Ok(gone) => Ok(gone),
-            Err(_) => Err(AllocError),
-        }
+        self.put_in(peer, session)
     }
 
     /// Takes a datagram of a peer, if it is kept.
@@ -141,14 +138,13 @@ impl<F: FileSeries + Drop> Peers<F> {
     ) -> Option<Became<F>>
         ensures unknown { result ≡ None
             → (of_peer peer self.old.kept.entries ≡ None) × (self.new ≡ self.old) }
-        ensures taken { IfSome result (λ became. TakesKept F.seen self.old.kept.cap
-            (record {
-              peer = peer;
-              octets = datagram.now;
-              second = second;
-              became = became;
-              gone = None;
-            }) self.old.kept.entries self.new.kept.entries) }
+        ensures taken { IfSome result (λ became. TakesKept F.seen (record {
+          peer = peer;
+          octets = datagram.now;
+          second = second;
+          became = became;
+          gone = None;
+        }) self.old.kept.entries self.new.kept.entries) }
         ensures limits { KeepsLimits self.old self.new }
     {
         match self.kept.get_mut(&peer)?.take(alloc, datagram, second) {

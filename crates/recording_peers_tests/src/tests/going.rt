@@ -18,6 +18,26 @@ fn longest_silent_goes(rt: HostRuntime) -> Result<(), Fail> {
     Ok(())
 }
 
+/// A message with a template alone.
+const TEMPLATE: &[u8] = &[
+    0, 10, 0, 28, 0, 0, 0, 0, 0, 0, 0, 0, 0, 0, 0, 1, 0, 2, 0, 12, 1, 0, 0, 1, 0, 1, 0, 4,
+];
+
+// One of which no record was read goes before the one that was silent for longest.
+#[test]
+fn one_without_a_record_goes_first(rt: HostRuntime) -> Result<(), Fail> {
+    let alloc = rt.alloc();
+    let mut peers = two_peers(&rt)?;
+    record(alloc, &mut peers, 1, FIRST_OF_1, 1000);
+    record(alloc, &mut peers, 2, TEMPLATE, 1000);
+    let third = record(alloc, &mut peers, 3, FIRST_OF_1, 1000);
+    assert_eq!(rt; third, (Answer::Taken, Some(peer(2))));
+    assert!(rt; has(&peers, 1, FIRST_OF_1));
+    let fourth = record(alloc, &mut peers, 4, TEMPLATE, 1000);
+    assert_eq!(rt; fourth, (Answer::Taken, Some(peer(1))));
+    Ok(())
+}
+
 /// A message without sets.
 const BARE: &[u8] = &[0, 10, 0, 16, 0, 0, 0, 0, 0, 0, 0, 0, 0, 0, 0, 1];
 

@@ -4,7 +4,7 @@ use Rattle.std.specs.Prelude.{◌||◌}
 use Rattle.std.specs.List.{list_any}
 use Rattle.ipfix_datagrams.proofs.known_templates.both.Goals as goal
 
-pub returns : goal.returns
-returns c = λ q.
+pub returns-clause-both : goal.returns-clause-both
+returns-clause-both c = λ q.
     let whole : take c.loop-id.id-index c.args.more.now ≡ c.args.more.now = take_all c.loop-id.id-index c.args.more.now (omega (arith, c.loop-id-test.false)) in
-    c.loop-id.invariant q ∙ ap (λ (xs : List ℕ). list_any (λ b. eqb b q) c.args.ids.now || list_any (λ b. eqb b q) xs) whole
+    c.loop-id.invariant.all q ∙ ap (λ (xs : List ℕ). list_any (λ b. eqb b q) c.args.ids.now || list_any (λ b. eqb b q) xs) whole

@@ -20,7 +20,7 @@ use Rattle.recording_peer.specs.declared.resumption.Resumption.{Resumption}
 use Rattle.recording_peer.specs.Recording.{KnownShown, PeerTold, PeerView, barred_before, barred_shown, basis_for, known_shown, filed_with, left_listed, resumed_for, taken_before, taken_in}
 use Rattle.recording_peer.proofs.Leaving.{keeps_left, left_as_kept, left_as_listed, resumed_with}
 use Rattle.recording_peer.specs.Fronts.{taken_as}
-use Rattle.recording_peer.proofs.Listed.{keeps_known, listed, shown_again}
+use Rattle.recording_peer.proofs.Listed.{once_again, keeps_known, listed, shown_again}
 use Rattle.recording_peer.proofs.PeerFiles.{files_here}
 use Rattle.recording_peer.proofs.Taking.{inside_of, represents, peer_with}
 use Rattle.recording_peer.proofs.Stopping.{stops_out, stops_cut}
@@ -93,6 +93,7 @@ returns-clause-recorded g c = λ first filed p.
     let counted = c.count_waiting.ensures before (givens filed.here) (x ∷ []) (subst (λ (t : Told). Counted t before (givens filed.here)) (sym told) now.counted.counted)
     (subst (λ (cs : List MessageCount). AreCountsOf cs (x ∷ [])) (sym waits) (k.counts, tt)) in
     let noted = c.note.ensures (givens (taken_in filed)) x (c.in_ok-make_room.ensures.same ∙ now.counted.noted) (ap (λ (h : Header). h.domain) k.counts.header) (ap (λ (h : Header). h.sequence) k.counts.header) k.counts.records in
+    let again = shown_again c.self.inside.known c.keep_known.new.known c.args.self.now.known x.header.domain b m shown is_barred kept.barred in
     let u = taken_as m (resumed_for filed m) b (preparation_of r) k.front x in
     let one_resumed : c.resumption-resumption.result ≡ resumption_in x.header.domain (length (resumed_for filed m).templates) =
     c.resumption-resumption.ensures first v filed p.is
@@ -104,10 +105,10 @@ returns-clause-recorded g c = λ first filed p.
       datagram = refl;
       counts = k.counts;
       is = peer_with first v (g.F.FileSeries.seen c.append.new.self) _ (record { recorder = c.take_datagram.new.recorder; earlier = left_listed c.go_on.new.earlier.entries; known = known_shown c.keep_known.new.known; told = counts_as c.count_waiting.new.self.told c.saturating_add-self-inside.result c.note.new.self.reaches c.note_resumed.new.resumed.items; ended = c.self.inside.ended }) filed m (resumed_for filed m) b r x c.take_datagram.new.out.items c.in_ok-count.count
-          now p.read.taken k (c.in_ok-append.ensures ∙ ap (with_more v) c.deref.ensures.value) counted c.saturating_add-self-inside.ensures p.read.withdrawals noted went_on now.goes_on withdrawn kept.keeps.fits (resumed_with filed m h c.requires.header ∙ ap (resumed_after filed.earlier (taken_in filed)) (sym header))
+          now p.read.taken k (c.in_ok-append.ensures ∙ ap (with_more v) c.deref.ensures.value) counted c.saturating_add-self-inside.ensures p.read.withdrawals noted went_on now.goes_on withdrawn kept.keeps.fits (once_again c.args.self.now.known (known_shown c.keep_known.new.known) x.header.domain b m is_barred again p.is.once) (resumed_with filed m h c.requires.header ∙ ap (resumed_after filed.earlier (taken_in filed)) (sym header))
           (left_as_listed c.go_on.new.earlier filed.earlier (taken_in (filed_with filed u)) (keeps_left c.self.inside.earlier c.go_on.new.earlier filed u (left_as_kept c.self.inside.earlier filed.earlier (taken_in filed) now.left)
           (λ q. c.in_ok-go_on.ensures q ∙ ap₂ (λ (k : Header) (b : Bool). cond (eqb q k.domain) (left_after (get nat_cmp c.self.inside.earlier q) k b) (get nat_cmp c.self.inside.earlier q)) (sym header) defines)));
       barred = is_barred;
-      has_again = shown_again c.self.inside.known c.keep_known.new.known c.args.self.now.known x.header.domain b m shown is_barred kept.barred;
+      has_again = again;
       budget = kept.budget ∙ ap (λ (k : KnownShown). k.budget) shown;
     }
