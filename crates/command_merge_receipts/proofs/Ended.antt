@@ -1,8 +1,6 @@
 -- How a merge of parts ended.
-use Rattle.std.proofs.Common.{◌≡◌, ◌∙◌, ℕ, List, [], ◌∷◌, ◌++◌, length, map, Option, Result, refl, sym, ap, subst, inl, inr}
-use Rattle.std.specs.Prelude.{◌⊎◌, OnErr, OnOk}
-use Rattle.std.specs.Io.KnownBytes.{Appends}
-use Rattle.std.proofs.lemmas.List.{length-map}
+use Rattle.std.proofs.Common.{◌≡◌, ℕ, List, [], ◌∷◌, ◌++◌, map, Option, refl, ap, inl, inr}
+use Rattle.std.specs.Prelude.{◌⊎◌}
 use Rattle.report_writing.specs.Told.{AreTold}
 use Rattle.report_writing.specs.declared.verbosity.Verbosity.{Verbosity}
 use Rattle.report_writing.proofs.LinesTold.{both_told}

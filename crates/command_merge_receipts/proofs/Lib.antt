@@ -2,3 +2,4 @@ pub mod TextsAdded
 pub mod TablesMerged
 pub mod Ended
 pub mod Taken
+pub mod Steps

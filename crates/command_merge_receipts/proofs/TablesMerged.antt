@@ -1,9 +1,8 @@
 -- Tables that are merged one after another.
-use Rattle.std.proofs.Common.{◌≡◌, ℕ, ◌+◌, ◌<◌, ◌≤◌, List, [], ◌∷◌, ◌++◌, append_assoc, length, take, drop, get_or, map, Option, Result, Ok, Err, refl, sym, ap, ◌∙◌, subst, arith, take-append-drop}
+use Rattle.std.proofs.Common.{◌≡◌, ℕ, ◌+◌, ◌<◌, ◌≤◌, List, [], ◌∷◌, ◌++◌, append_assoc, length, take, drop, get_or, map, Option, Result, Ok, Err, sym, ap, ◌∙◌, subst, arith, take-append-drop}
 use Rattle.std.specs.Prelude.{IfErr}
 use Rattle.std.specs.Result.{IsErrAnd}
-use Rattle.std.specs.List.{AllZip}
-use Rattle.std.proofs.lemmas.List.{flat_map_more, length-map, length-take-le, map-append, take_all, take_more}
+use Rattle.std.proofs.lemmas.List.{flat_map_more, length-take-le, take_all, take_more}
 use Rattle.std.proofs.lemmas.Slice.Zip.{all_zipped_more}
 use Rattle.ipfix_session.specs.Sources.{SourceView}
 use Rattle.flow_table.specs.AddedUp.{rows_in, AreAddedUp}

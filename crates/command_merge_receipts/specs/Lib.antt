@@ -2,4 +2,6 @@
 pub mod Tables
 pub mod Lines
 pub mod Stops
+pub mod Receipts
 pub mod Runs
+pub mod Steps

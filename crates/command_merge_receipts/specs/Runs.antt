@@ -1,21 +1,21 @@
 -- How a merge of parts by their receipts ended.
-use Rattle.std.specs.Prelude.{◌≡◌, ◌⊎◌, ℕ, Bool, true, false, List, [], ◌++◌, Option, length, map}
+use Rattle.std.specs.Prelude.{◌≡◌, ◌⊎◌, ℕ, Bool, true, false, List, ◌++◌, Option, map}
 use Rattle.ipfix_session.specs.Sources.{SourceView}
-use Rattle.flow_table.specs.AddedUp.{rows_in}
 use Rattle.flow_table.specs.declared.table.Table.{Table}
-use Rattle.flow_export.specs.declared.fault.ExportFault.{ExportFault}
-use Rattle.output_tables.specs.ExportFaultLines.{export_fault_line}
-use Rattle.output_tables.specs.TableTexts.{IsNotWritten, WritesIn}
 use Rattle.receipt_merging.specs.declared.merging.MergedParts.{MergedParts}
 use Rattle.report_writing.specs.declared.reason.Reason.{Reason}
 use Rattle.report_writing.specs.declared.status.Status.{Status}
 use Rattle.report_writing.specs.declared.status.Status.TheVariants.{Well, SessionFault, Failed}
 use Rattle.command_merge.specs.MergeLines.{files_opened_lines}
 use Rattle.command_merge.specs.MergesTold.{merge_lines}
+use Rattle.command_receipt.specs.Faults.{run_fault_line}
+use Rattle.command_receipt.specs.declared.fault.RunFault.{RunFault}
 use Rattle.command_merge_receipts.specs.Lines.{not_merged_parts_lines, parts_status_of}
+use Rattle.command_merge_receipts.specs.Receipts.{IsReceipted, IsUnfinished, IsWritten}
 use Rattle.command_merge_receipts.specs.Stops.{AreRefused, AreTaken, StopsAmong}
 use Rattle.command_merge_receipts.specs.Tables.{AreMergedInto}
 use Rattle.table_parts.specs.declared.files.PartFiles.{PartFiles}
+use Rattle.command_merge_receipts.specs.declared.job.MergedTo.{MergedTo}
 use Rattle.command_merge_receipts.specs.declared.job.PartsJob.{PartsJob}
 use Rattle.command_merge_receipts.specs.declared.not_merged.NotMergedParts.{NotMergedParts}
 use Rattle.table_parts.specs.declared.tables.PartTable.{PartTable}
@@ -26,49 +26,50 @@ ended_by true strict = Well
 ended_by false true = SessionFault
 ended_by false false = Well
 
-module _ {S W : Type 0} (seen : S → SourceView) (Has : List ℕ → List ℕ → Type 0) (Refuses : List ℕ → Reason → Type 0) (job : PartsJob) (contents : W → Option (List ℕ)) (old new : W) (AreTold : List ℕ → Type 0) (status : Status) where
+module _ {S W P : Type 0} (seen : S → SourceView) (Has : List ℕ → List ℕ → Type 0) (Refuses : List ℕ → Reason → Type 0) (job : PartsJob) (contents : W → Option (List ℕ)) (holds : P → List ℕ → Type 0) (to after : MergedTo W P) (AreTold : List ℕ → Type 0) (status : Status) where
   -- all receipts and tables were had; no input comes twice; each table is the one of its receipt
   pub record HasMerged (merged : MergedParts) (table : Table) : Type 0 where
     pub tables : List PartTable
     pub taken : AreTaken Has job merged tables
     pub into : AreMergedInto Has job.merge.intervals job.merge.plan.now tables table
 
-  -- the merged table was written, and how many files and rows there are was told
+  -- the merged table was written, then its receipt was put, if one was asked for, and how many files and rows there are was told
   pub record EndsMerged : Type 0 where
     pub merged : MergedParts
     pub table : Table
     pub has_merged : HasMerged merged table
-    pub written : WritesIn job.merge.intervals job.merge.elements.now job.merge.plan.now job.merge.output (contents old) (contents new) table
+    pub written : IsWritten contents holds job table to after
+    pub receipted : IsReceipted contents holds job table to after has_merged.taken.parts
     pub told : AreTold (merge_lines job.merge.verbosity (map (λ (files : PartFiles). files.table.now) job.parts.now) table)
     pub status_is : status ≡ ended_by merged.complete job.merge.verbosity.strict
 
-  -- the receipts don't let the parts be merged: no table was read, nothing was written, and only that was told
+  -- the receipts don't let the parts be merged: no table was read, nothing was written or put, and only that was told
   pub record EndsRefused : Type 0 where
     pub not_merged : NotMergedParts
     pub refused : AreRefused Has Refuses job not_merged
     pub told : AreTold (not_merged_parts_lines job.merge.verbosity not_merged)
-    pub untouched : new ≡ old
+    pub untouched : after ≡ to
     pub status_is : status ≡ parts_status_of not_merged
 
-  -- the receipts do, and a table doesn't, or there was no memory: nothing was written, and it was told after the files that were opened
+  -- the receipts do, and a table doesn't, or there was no memory: nothing was written or put, and it was told after the files that were opened
   pub record EndsStopped : Type 0 where
     pub merged : MergedParts
     pub tables : List PartTable
     pub taken : AreTaken Has job merged tables
     pub not_merged : NotMergedParts
     pub stops : StopsAmong seen Has Refuses job.merge.intervals job.merge.plan.now tables job.merge.verbosity (λ lines. AreTold (lines ++ not_merged_parts_lines job.merge.verbosity not_merged)) not_merged
-    pub untouched : new ≡ old
+    pub untouched : after ≡ to
     pub status_is : status ≡ parts_status_of not_merged
 
-  -- all were merged, and the table wasn't written for the reason that was told
-  pub record EndsUnwritten : Type 0 where
+  -- all were merged, and the table wasn't written, or then its receipt wasn't put, for the reason that was told
+  pub record EndsUnfinished : Type 0 where
     pub merged : MergedParts
     pub table : Table
     pub has_merged : HasMerged merged table
-    pub fault : ExportFault
-    pub not_written : IsNotWritten job.merge.output (length (rows_in table)) (new ≡ old) fault
-    pub told : AreTold (files_opened_lines job.merge.verbosity (map (λ (files : PartFiles). files.table.now) job.parts.now) ++ export_fault_line fault)
+    pub fault : RunFault
+    pub unfinished : IsUnfinished contents holds job table to after fault
+    pub told : AreTold (files_opened_lines job.merge.verbosity (map (λ (files : PartFiles). files.table.now) job.parts.now) ++ run_fault_line fault)
     pub status_is : status ≡ Failed
 
   abbrev pub MergesParts : Type 0
-  MergesParts = EndsMerged ⊎ EndsRefused ⊎ EndsStopped ⊎ EndsUnwritten
+  MergesParts = EndsMerged ⊎ EndsRefused ⊎ EndsStopped ⊎ EndsUnfinished

@@ -1,6 +1,7 @@
 //! What a run of merging by receipts is to do.
 
 use command_merge::MergeJob;
+use report_writing::Status;
 use table_parts::{PartFiles, PlanAtHand};
 
 /// What a run of merging is to do with tables and their receipts.
@@ -14,4 +15,20 @@ pub struct PartsJob<'a> {
     pub parts: &'a [PartFiles<'a>],
     /// Whether parts are merged that aren't complete, too.
     pub incomplete: bool,
+    /// The version of collectd, as `1.2.3`, which the receipt of the merged table tells.
+    pub collectd: &'a str,
+}
+
+/// Where the merged table is written, and where its receipt is put, if there is to be one.
+#[derive(Drop)]
+pub struct MergedTo<W, P> {
+    pub out: W,
+    pub place: Option<P>,
+}
+
+/// How a run ended, and where it wrote.
+#[derive(Drop)]
+pub struct MergedEnd<W, P> {
+    pub status: Status,
+    pub to: MergedTo<W, P>,
 }

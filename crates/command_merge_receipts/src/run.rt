@@ -6,61 +6,67 @@ ghost use Rattle.report_writing.specs.Told.{AreToldTo};
 ghost use Rattle.command_merge_receipts.specs.Lines.{not_merged_parts_lines, parts_status_of};
 ghost use Rattle.command_merge_receipts.specs.Runs.{MergesParts, ended_by};
 
-use crate::job::PartsJob;
+use crate::job::{MergedEnd, MergedTo, PartsJob};
 use crate::merging::merge_tables;
 use crate::not_merged::NotMergedParts;
 use crate::reports::write_not_merged_parts;
-use crate::taking::take_parts;
+use crate::taking::{TakenParts, take_parts};
+use crate::writing::{WrittenMerge, write_merge};
 use command_merge::write_merged;
-use flow_export::AnyTable;
+use command_receipt::{ReceiptPlace, write_run_fault};
 use input_files::ReadText;
 use ipfix_session::{FromReader, Source};
-use output_tables::{export, write_export_fault};
 use report_writing::{Status, Verbosity, WriteLines};
 use std::alloc::Global;
 use std::io::Write;
 
-/// Reads all receipts, and then the tables one after another, and writes the table of all of them to `out`. Answers how it
-/// ended: `Well`; `SessionFault` if a strict run merged a part that isn't complete; `NotOpened` if a table can't be
-/// opened; `Failed` if the receipts don't let the parts be merged, or a table is another than its receipt says, or as
-/// [`run_merge_with`](command_merge::run_merge_with) ends so.
+/// Reads all receipts, and then the tables one after another, writes the table of all of them to
+/// `to.out`, and then puts its receipt, if there is a place for one. Answers how it ended: `Well`;
+/// `SessionFault` if a strict run merged a part that isn't complete; `NotOpened` if a table can't
+/// be opened; `Failed` if the receipts don't let the parts be merged, or a table is another than
+/// its receipt says, or as [`run_merge_with`](command_merge::run_merge_with) ends so, or if there
+/// is no memory for the receipt or it can't be put.
 ///
-/// At the first two each input of each part with data records is in the table once: no two have the same digest.
-pub fn run_merge_parts<T: ReadText, W: Write, E: WriteLines>(
+/// At the first two each input of each part with data records is in the table once: no two have the
+/// same digest; and the receipt lists the inputs of all parts.
+pub fn run_merge_parts<T: ReadText, W: Write + Drop, P: ReceiptPlace + Drop, E: WriteLines>(
     texts: &T,
     alloc: Global,
     job: &PartsJob,
-    out: &mut W,
+    to: MergedTo<W, P>,
     err: &mut E,
-) -> Status
+) -> MergedEnd<W, P>
     requires { CanTakeRows job.now.merge.intervals }
     ensures runs { MergesParts ⟦<FromReader<&'static [u8]> as Source>⟧.seen (T.has texts.now) (T.refuses texts.now)
-        job.now W.contents out.old out.new (AreToldTo E.contents E.failed err.old err.new) result }
+        job.now W.contents P.holds to result.to (AreToldTo E.contents E.failed err.old err.new) result.status }
     ensures kept { E.failed err.old → E.failed err.new }
 {
+    let verbosity = job.merge.verbosity;
     let taken = match take_parts(texts, alloc, job) {
         Ok(taken) => taken,
-        Err(not_merged) => return tell_not_merged(job.merge.verbosity, &not_merged, err),
+        Err(not_merged) => {
+            let status = tell_not_merged(verbosity, &not_merged, err);
+            return MergedEnd { status, to };
+        }
     };
     let table = match merge_tables(texts, alloc, &taken.tables, &job.merge, err) {
         Ok(table) => table,
-        Err(not_merged) => return tell_not_merged(job.merge.verbosity, &not_merged, err),
+        Err(not_merged) => {
+            let status = tell_not_merged(verbosity, &not_merged, err);
+            return MergedEnd { status, to };
+        }
     };
-    let rows = AnyTable::Flat(&table, job.merge.intervals);
-    let exported = export(
-        alloc,
-        job.merge.elements,
-        job.merge.plan,
-        &rows,
-        job.merge.output,
-        out,
-    );
-    if let Err(fault) = exported {
-        let _ = write_export_fault(fault, err);
-        return Status::Failed;
+    let TakenParts { merged, .. } = taken;
+    let complete = merged.complete;
+    let WrittenMerge { to, answer } = write_merge(alloc, job, merged, &table, to);
+    if let Err(fault) = answer {
+        let _ = write_run_fault(fault, err);
+        let status = Status::Failed;
+        return MergedEnd { status, to };
     }
     let _ = write_merged(job.parts.len(), table.len(), err);
-    ended_with(taken.merged.complete, job.merge.verbosity)
+    let status = ended_with(complete, verbosity);
+    MergedEnd { status, to }
 }
 
 // Tells why parts were not merged.

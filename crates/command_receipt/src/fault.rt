@@ -1,6 +1,6 @@
 //! Why there is no receipt, and its line.
 
-ghost use Rattle.command_receipt.specs.Faults.{receipt_fault_line, run_fault_line, twice_line};
+ghost use Rattle.command_receipt.specs.Faults.{name_of, number_of, receipt_fault_line, run_fault_line, twice_line};
 ghost use Rattle.report_writing.specs.Writing.{Tells};
 ghost use Rattle.std.specs.Prelude.{◌≡◌, ◌+◌, ◌^◌, ◌<◌};
 
@@ -18,6 +18,30 @@ pub enum ReceiptFault {
     WriteFailed,
     /// The inputs at these places, counted from 0, are the same, and have data records: they would be counted twice.
     InputTwice(usize, usize),
+}
+
+impl ReceiptFault {
+    /// The number that reports give for the fault.
+    pub fn number(&self) -> u8
+        ensures { result ≡ number_of self.now }
+    {
+        match self {
+            ReceiptFault::OutOfMemory => 1,
+            ReceiptFault::WriteFailed => 2,
+            ReceiptFault::InputTwice(_, _) => 3,
+        }
+    }
+
+    /// The name that reports give for the fault.
+    pub fn name(&self) -> &'static str
+        ensures { result.now ≡ name_of self.now }
+    {
+        match self {
+            ReceiptFault::OutOfMemory => "OutOfMemory",
+            ReceiptFault::WriteFailed => "WriteFailed",
+            ReceiptFault::InputTwice(_, _) => "InputTwice",
+        }
+    }
 }
 
 /// Why a run wrote no receipt.

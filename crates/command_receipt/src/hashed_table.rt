@@ -1,16 +1,16 @@
 //! Writing a table whose text is hashed.
 
 ghost use Rattle.std.specs.Prelude.{◌≡◌, ◌↔◌, List, ℕ, Option, None, Some, IfOk, IsErrOf, length};
-ghost use Rattle.flow_table.specs.AddedUp.{rows_in};
+ghost use Rattle.flow_export.specs.AnyTables.{intervals_of, rows_of, table_in};
 ghost use Rattle.flow_table.specs.Fitting.{FitsPlan};
-ghost use Rattle.output_tables.specs.TableTexts.{IsTooMany, Writes, export_text};
+ghost use Rattle.output_tables.specs.TableTexts.{IsTooMany, WritesAny, export_text_in};
 ghost use Rattle.command_receipt.specs.Digests.{IsDigestOfAppended};
 ghost use Rattle.command_receipt.specs.Hashing.{HasWritten};
 
-use command_collect::CollectJob;
-use flow_export::{AnyTable, ExportFault, Intervals};
-use flow_table::FlatTable;
-use output_tables::export;
+use element_registry::Elements;
+use flow_export::{AnyTable, ExportFault};
+use flow_table::Plan;
+use output_tables::{Output, export};
 use sha2::{Digest, Sha256};
 use std::alloc::Global;
 use std::io::{self, Write};
@@ -67,37 +67,41 @@ impl<W: Write, T: Held> Write for HashedWriter<W, T> {
 /// Does what [`export`] does, and answers the digest of what was written.
 pub fn export_hashed<W: Write + Drop>(
     alloc: Global,
-    job: &CollectJob,
-    table: &FlatTable,
+    elements: &Elements,
+    plan: &Plan,
+    table: &AnyTable,
+    output: Output,
     out: W,
 ) -> WrittenTable<W>
-    requires { FitsPlan job.now.plan.now table.now }
-    ensures ok { IfOk result.answer (λ text. Writes job.now.elements.now job.now.plan.now job.now.output
+    requires { FitsPlan plan.now (table_in table.now) }
+    ensures ok { IfOk result.answer (λ text. WritesAny elements.now plan.now output
         (W.contents out) (W.contents result.out) table.now) }
     ensures digest { IfOk result.answer (λ text. IsDigestOfAppended (W.contents out) text
-        (export_text job.now.elements.now job.now.output job.now.plan.now table.now)) }
+        (export_text_in (intervals_of table.now) elements.now output plan.now (table_in table.now))) }
     ensures many { IsErrOf result.answer ExportFault.TooManyRows
-        ↔ IsTooMany job.now.output.format (length (rows_in table.now)) }
+        ↔ IsTooMany output.format (length (rows_of table.now)) }
     ensures untouched { IsErrOf result.answer ExportFault.TooManyRows → result.out ≡ out }
 {
-    export_from::<W, Brand>(alloc, job, table, out)
+    export_from::<W, Brand>(alloc, elements, plan, table, output, out)
 }
 
 // The same of a writer that holds what there is at the start.
 fn export_from<W: Write + Drop, T: Held>(
     alloc: Global,
-    job: &CollectJob,
-    table: &FlatTable,
+    elements: &Elements,
+    plan: &Plan,
+    table: &AnyTable,
+    output: Output,
     out: W,
 ) -> WrittenTable<W>
-    requires fits { FitsPlan job.now.plan.now table.now }
+    requires fits { FitsPlan plan.now (table_in table.now) }
     requires held { W.contents out ≡ T.contents }
-    ensures ok { IfOk result.answer (λ text. Writes job.now.elements.now job.now.plan.now job.now.output
+    ensures ok { IfOk result.answer (λ text. WritesAny elements.now plan.now output
         (W.contents out) (W.contents result.out) table.now) }
     ensures digest { IfOk result.answer (λ text. IsDigestOfAppended (W.contents out) text
-        (export_text job.now.elements.now job.now.output job.now.plan.now table.now)) }
+        (export_text_in (intervals_of table.now) elements.now output plan.now (table_in table.now))) }
     ensures many { IsErrOf result.answer ExportFault.TooManyRows
-        ↔ IsTooMany job.now.output.format (length (rows_in table.now)) }
+        ↔ IsTooMany output.format (length (rows_of table.now)) }
     ensures untouched { IsErrOf result.answer ExportFault.TooManyRows → result.out ≡ out }
 {
     let mut hashed: HashedWriter<W, T> = HashedWriter {
@@ -106,15 +110,7 @@ fn export_from<W: Write + Drop, T: Held>(
         octets: 0,
         held: PhantomData,
     };
-    let rows = AnyTable::Flat(table, Intervals::OfPlan);
-    let exported = export(
-        alloc,
-        job.elements,
-        job.plan,
-        &rows,
-        job.output,
-        &mut hashed,
-    );
+    let exported = export(alloc, elements, plan, table, output, &mut hashed);
     let HashedWriter {
         writer,
         hasher,

@@ -27,13 +27,13 @@ pub fn hash_each<S: Source + Drop, T: Start>(
     let mut all = Vec::with_capacity(alloc, waiting.len())?;
     while let Some(source) = waiting.pop_front() {
         let place = all.len();
-        all.push(HashedSource::new(alloc, source, place)?)?;
+        all.push(HashedSource::new(alloc, source, place))?;
     }
     Ok(all)
 }
 
 /// The sources after their sessions, of which these are the reports, and the digests of the messages that count. It has
-/// none if a source isn't in its place.
+/// none if a source isn't in its place, or [`HashedSource::finish`] has none.
 pub fn finish_each<S: Source + Drop, T: Start>(
     alloc: Global,
     sources: Vec<HashedSource<S, T>>,
@@ -54,7 +54,8 @@ pub fn finish_each<S: Source + Drop, T: Start>(
         if hashed.place != finished.len() {
             return Err(AllocError);
         }
-        let FinishedSource { source, sha256 } = hashed.finish(full);
+        let ended = hashed.finish(full)?;
+        let FinishedSource { source, sha256 } = ended;
         finished.push(source)?;
         digests.push(sha256)?;
     }

@@ -14,6 +14,7 @@ use crate::inputs::inputs_of;
 use crate::making::{MadeWith, make_receipt};
 use command_collect::CollectJob;
 use flow_collect::Serial;
+use flow_export::{AnyTable, Intervals};
 use flow_table::FlatTable;
 use ipfix_session::FullReport;
 use receipt_merging::first_twice;
@@ -60,7 +61,15 @@ pub fn make_run<S: Drop, W: Write + Drop>(
         }
         Err(AllocError) => return without_receipt(out, ReceiptFault::OutOfMemory),
     }
-    let WrittenTable { out, answer } = export_hashed(alloc, job, &collected.table, out);
+    let rows = AnyTable::Flat(&collected.table, Intervals::OfPlan);
+    let WrittenTable { out, answer } = export_hashed(
+        alloc,
+        job.elements,
+        job.plan,
+        &rows,
+        job.output,
+        out,
+    );
     match answer {
         Ok(text) => {
             let contents = Contents { made, inputs, text };

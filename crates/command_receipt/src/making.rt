@@ -41,7 +41,7 @@ pub fn make_receipt(
     ensures { IfOk result (λ r. IsReceiptOf made job.now (map input_value inputs.items) reports.now
         text table.now (receipt_value r)) }
 {
-    let table_part = table_of(alloc, job, text, table)?;
+    let table_part = table_of(alloc, job.elements, job.plan, job.output, text, table)?;
     let MadeWith {
         collectd,
         plan,

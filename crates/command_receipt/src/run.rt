@@ -125,8 +125,8 @@ fn write_run<S: Drop, W: Write + Drop, P: ReceiptPlace + Drop>(
     WrittenRun { out, place, answer }
 }
 
-// Puts the text of a receipt.
-fn put_text<P: ReceiptPlace>(
+/// Puts the text of a receipt.
+pub fn put_text<P: ReceiptPlace>(
     alloc: Global,
     receipt: &Receipt,
     place: &mut P,

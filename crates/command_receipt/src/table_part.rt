@@ -8,32 +8,34 @@ ghost use Rattle.table_receipts.specs.Values.{sum_value, table_value};
 ghost use Rattle.command_receipt.specs.Tables.{counts_of as counts, format_of as format, sum_at as sum_in, sums_from, table_of as table_in};
 
 use crate::hashed_table::TextDigest;
-use command_collect::CollectJob;
 use element_registry::Elements;
 use flow_export::Format;
-use flow_table::{FlatTable, Row, Tally};
+use flow_table::{FlatTable, Plan, Row, Tally};
 use ipfix_wire::ElementId;
+use output_tables::Output;
 use std::alloc::{AllocError, Global};
 use table_receipts::{CounterSum, RecordCounts, TableFormat, TableReceipt};
 
-/// The table, by the digest of its text.
+/// The table of a plan, by the digest of its text, with the names that `elements` gives counters.
 pub fn table_of(
     alloc: Global,
-    job: &CollectJob,
+    elements: &Elements,
+    plan: &Plan,
+    output: Output,
     text: TextDigest,
     table: &FlatTable,
 ) -> Result<TableReceipt, AllocError>
-    requires { FitsPlan job.now.plan.now table.now }
-    ensures { IfOk result (λ t. table_value t ≡ table_in job.now.elements.now
-        job.now.plan.now.counters job.now.output text table.now) }
+    requires { FitsPlan plan.now table.now }
+    ensures { IfOk result (λ t. table_value t
+        ≡ table_in elements.now plan.now.counters output text table.now) }
 {
     Ok(TableReceipt {
-        format: format_of(job.output.format),
-        time: job.output.time,
+        format: format_of(output.format),
+        time: output.time,
         octets: text.octets,
         sha256: text.sha256,
         rows: table.len() as u64,
-        sums: sums_of(alloc, job.elements, job.plan.counters(), table)?,
+        sums: sums_of(alloc, elements, plan.counters(), table)?,
         flows: total_of(alloc, table, &Flows)?,
     })
 }

@@ -1,4 +1,4 @@
-use Rattle.std.proofs.Common.{ℕ, List, map, take}
+use Rattle.std.proofs.Common.{take}
 use Rattle.report_writing.specs.Told.{AreTold}
 use Rattle.command_merge.specs.MergeLines.{files_opened_lines}
 use Rattle.command_merge_receipts.specs.Stops.{names_in}

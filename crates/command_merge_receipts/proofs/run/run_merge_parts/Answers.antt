@@ -1,5 +1,4 @@
 use Rattle.std.proofs.Common.{ℕ, List, ◌∙◌, ap, inl, inr, refl, rules, subst}
-use Rattle.output_tables.proofs.NotWritten.{not_written}
 use Rattle.report_writing.proofs.LinesTold.{told_then}
 use Rattle.report_writing.specs.Told.{AreToldTo}
 use Rattle.command_merge.proofs.FilesTold.{merged_told}
@@ -15,14 +14,14 @@ returns-in-Err-merge_tables-clause-runs g c =
       tables = c.in-Ok.taken.tables.items;
       taken = c.in-Ok.ensures.taken;
       not_merged = c.in-Err-merge_tables.not_merged;
-      stops = tells_stopped _ c.args.job.now.merge.verbosity _ _ _ _ _ _ c.tell_not_merged-in-Err-merge_tables.ensures.told c.tell_not_merged-in-Err-merge_tables.ensures.kept c.in-Ok.taken.tables.items c.in-Err-merge_tables.not_merged
+      stops = tells_stopped _ c.args.job.now.merge.verbosity _ _ _ _ _ _ c.tell_not_merged-status-in-Err-merge_tables.ensures.told c.tell_not_merged-status-in-Err-merge_tables.ensures.kept c.in-Ok.taken.tables.items c.in-Err-merge_tables.not_merged
           (rw c.deref.ensures.value at c.in-Err-merge_tables.ensures.stops);
       untouched = refl;
-      status_is = c.tell_not_merged-in-Err-merge_tables.ensures.status;
+      status_is = c.tell_not_merged-status-in-Err-merge_tables.ensures.status;
     })))
 
-pub returns-in-Err-exported-clause-runs : goal.returns-in-Err-exported-clause-runs
-returns-in-Err-exported-clause-runs g c =
+pub returns-in-Err-answer-clause-runs : goal.returns-in-Err-answer-clause-runs
+returns-in-Err-answer-clause-runs g c =
     let taken = c.in-Ok.ensures.taken in
     let names = ap names_in (c.deref.ensures.value ∙ taken.tables_are) ∙ names_said (g.T.ReadText.has c.args.texts.now) c.args.job.now.plan c.args.job.now.parts.now taken.parts taken.read in
     let told = subst (λ (n : List (List ℕ)). AreToldTo g.E.WriteLines.contents g.E.WriteLines.failed c.args.err.now c.merge_tables.new.err (files_opened_lines c.args.job.now.merge.verbosity n)) names c.in-Ok-merge_tables.ensures.told in
@@ -30,9 +29,9 @@ returns-in-Err-exported-clause-runs g c =
       merged = c.in-Ok.taken.merged;
       table = c.in-Ok-merge_tables.table;
       has_merged = record { tables = c.in-Ok.taken.tables.items; taken = taken; into = rw c.deref.ensures.value at c.in-Ok-merge_tables.ensures.merged };
-      fault = c.in-Err-exported.fault;
-      not_written = not_written _ _ _ c.in-Err-exported.fault c.in-Err-exported.ensures.many (λ many. c.in-Err-exported.ensures.untouched many);
-      told = told_then _ _ _ _ _ c.write_export_fault.result _ _ told c.write_export_fault.ensures.told c.write_export_fault.ensures.failed c.write_export_fault.ensures.kept;
+      fault = c.in-Err-answer.fault;
+      unfinished = search rules;
+      told = told_then _ _ _ _ _ c.write_run_fault.result _ _ told c.write_run_fault.ensures.told c.write_run_fault.ensures.failed c.write_run_fault.ensures.kept;
       status_is = refl;
     })))
 
@@ -46,6 +45,7 @@ returns-clause-runs g c =
       table = c.in-Ok-merge_tables.table;
       has_merged = record { tables = c.in-Ok.taken.tables.items; taken = taken; into = rw c.deref.ensures.value at c.in-Ok-merge_tables.ensures.merged };
       written = search rules;
+      receipted = search rules;
       told = told_then _ _ _ _ _ c.write_merged.result _ _ told (merged_told c.write_merged.result _ _ table_path c.args.job.now.parts.now c.in-Ok-merge_tables.table _ _ (search rules) (search rules) c.write_merged.ensures.told) c.write_merged.ensures.failed c.write_merged.ensures.kept;
-      status_is = c.ended_with.ensures;
+      status_is = c.ended_with-status.ensures;
     })

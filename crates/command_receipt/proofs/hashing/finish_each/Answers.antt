@@ -12,11 +12,11 @@ loop-full-preserved g c =
     let place : c.in-Some.hashed.place ≡ length c.loop-full.finished.items = omega (arith, c.if-hashed-len.false, c.len.ensures, c.loop-full.finished.ok.0) in
     let pushed = c.in_ok-push.ensures.items in
     let more =
-    finished_more g.S.Source.seen g.T.Start.texts c.loop-full.finished.items c.args.reports.now c.loop-full.digests.items c.loop-full.full-index c.in-Some.hashed.place c.finish-source.result.source c.in-Some.hashed.source c.full-item.result c.finish-source.result.sha256
-    inv.digests inv.count c.loop-full-test.true c.full-item.is place c.finish-source.ensures.source c.finish-source.ensures.digest in
+    finished_more g.S.Source.seen g.T.Start.texts c.loop-full.finished.items c.args.reports.now c.loop-full.digests.items c.loop-full.full-index c.in-Some.hashed.place c.in_ok-ended.ended.source c.in-Some.hashed.source c.full-item.result c.in_ok-ended.ended.sha256
+    inv.digests inv.count c.loop-full-test.true c.full-item.is place c.in_ok-ended.ensures.source c.in_ok-ended.ensures.digest in
     record {
-      same = ap (λ xs. xs ++ map part c.pop_front.new.self.items) pushed ∙ moved_part part c.loop-full.finished.items c.finish-source.result.source _ _ c.in-Some.hashed split c.finish-source.ensures.source ∙ inv.same;
-      count = omega (arith, ap length pushed, length-append c.loop-full.finished.items (c.finish-source.result.source ∷ []), inv.count);
+      same = ap (λ xs. xs ++ map part c.pop_front.new.self.items) pushed ∙ moved_part part c.loop-full.finished.items c.in_ok-ended.ended.source _ _ c.in-Some.hashed split c.in_ok-ended.ensures.source ∙ inv.same;
+      count = omega (arith, ap length pushed, length-append c.loop-full.finished.items (c.in_ok-ended.ended.source ∷ []), inv.count);
       digests = rw (pushed, c.in_ok-push-2.ensures.items) more;
     }
 

@@ -1,0 +1,55 @@
+-- The receipt of a merged table.
+use Rattle.std.specs.Prelude.{◌≡◌, ℕ, List, Option, Some, None, IsSome, length, map}
+use Rattle.flow_table.specs.AddedUp.{rows_in}
+use Rattle.flow_table.specs.declared.table.Table.{Table}
+use Rattle.output_tables.specs.TableTexts.{IsNotWritten, WritesIn, export_text_in}
+use Rattle.receipt_merging.specs.Parts.{PartValue, all_complete, counts_from, inputs_in, no_counts}
+use Rattle.table_receipts.specs.Texts.{receipt_text}
+use Rattle.table_receipts.specs.Values.{ReceiptValue, file_value}
+use Rattle.command_receipt.specs.Digests.{IsDigestOfAppended}
+use Rattle.command_receipt.specs.Runs.{IsOfReceipt}
+use Rattle.command_receipt.specs.Tables.{table_of}
+use Rattle.command_receipt.specs.declared.fault.RunFault.{RunFault}
+use Rattle.command_receipt.specs.declared.fault.RunFault.TheVariants.{Export, Receipt}
+use Rattle.command_receipt.specs.declared.hashed_table.TextDigest.{TextDigest}
+use Rattle.command_merge_receipts.specs.declared.job.MergedTo.{MergedTo}
+use Rattle.command_merge_receipts.specs.declared.job.PartsJob.{PartsJob}
+
+-- under which plan the parts were merged; what their receipts say together; and the merged table, by the digest of its text
+abbrev pub merged_receipt_of : PartsJob → List PartValue → TextDigest → Table → ReceiptValue
+merged_receipt_of job parts text table = record {
+  collectd = job.collectd.now;
+  plan = job.plan.text.now;
+  elements = map file_value job.plan.elements.now;
+  maps = map file_value job.plan.maps.now;
+  inputs = inputs_in parts;
+  records = counts_from no_counts parts;
+  table = table_of job.merge.elements.now job.merge.plan.now.counters job.merge.output text table;
+  complete = all_complete parts;
+}
+
+-- and the digest is that of the text that was written
+pub record IsMergedReceipt (job : PartsJob) (parts : List PartValue) (old : Option (List ℕ)) (table : Table) (receipt : ReceiptValue) : Type 0 where
+  pub text : TextDigest
+  pub text_is : IsDigestOfAppended old text (export_text_in job.merge.intervals job.merge.elements.now job.merge.output job.merge.plan.now table)
+  pub is : receipt ≡ merged_receipt_of job parts text table
+
+-- such a receipt was put, if there is a place for one
+abbrev pub IsPutIn : {P : Type 0} → (P → List ℕ → Type 0) → (ReceiptValue → Type 0) → Option P → Option P → Type 0
+IsPutIn holds IsReceipt None None = Unit {0}
+IsPutIn holds IsReceipt (Some before) (Some after) = (receipt : ReceiptValue) × IsReceipt receipt × holds after (receipt_text receipt)
+IsPutIn holds IsReceipt before after = ⊥
+
+module _ {W P : Type 0} (contents : W → Option (List ℕ)) (holds : P → List ℕ → Type 0) (job : PartsJob) (table : Table) (to after : MergedTo W P) where
+  -- the merged table was written
+  abbrev pub IsWritten : Type 0
+  IsWritten = WritesIn job.merge.intervals job.merge.elements.now job.merge.plan.now job.merge.output (contents to.out) (contents after.out) table
+
+  -- and its receipt was put, if there is a place for one
+  abbrev pub IsReceipted : List PartValue → Type 0
+  IsReceipted parts = IsPutIn holds (IsMergedReceipt job parts (contents to.out) table) to.place after.place
+
+  -- the table wasn't written, and no receipt was put; or it was, and the receipt that there is a place for wasn't put
+  abbrev pub IsUnfinished : RunFault → Type 0
+  IsUnfinished (Export fault) = IsNotWritten job.merge.output (length (rows_in table)) (after.out ≡ to.out) fault × (after.place ≡ to.place)
+  IsUnfinished (Receipt fault) = IsOfReceipt (Receipt fault) × IsWritten × IsSome to.place

@@ -1,0 +1,24 @@
+-- Tables that are merged in steps, each with its receipt.
+use Rattle.std.specs.Prelude.{◌≡◌, List}
+use Rattle.std.specs.List.{AllZip, flat_map}
+use Rattle.receipt_merging.specs.Parts.{PartValue, all_complete, counts_from, inputs_in, no_counts}
+
+-- a receipt says what those of its parts say together
+pub record IsMergedOf (parts : List PartValue) (one : PartValue) : Type 0 where
+  pub inputs : one.receipt.inputs ≡ inputs_in parts
+  pub records : one.receipt.records ≡ counts_from no_counts parts
+  pub complete : one.receipt.complete ≡ all_complete parts
+
+-- the parts of all steps, in their order
+abbrev pub all_parts : List (List PartValue) → List PartValue
+all_parts steps = flat_map (λ (parts : List PartValue). parts) steps
+
+-- receipts say together what others do
+pub record SayTheSame (ones others : List PartValue) : Type 0 where
+  pub inputs : inputs_in ones ≡ inputs_in others
+  pub records : counts_from no_counts ones ≡ counts_from no_counts others
+  pub complete : all_complete ones ≡ all_complete others
+
+-- so what was merged of parts says together what all the parts do
+abbrev pub StepsSayTheSame : Type 0
+StepsSayTheSame = (steps : List (List PartValue)) (ones : List PartValue) → AllZip IsMergedOf steps ones → SayTheSame ones (all_parts steps)
