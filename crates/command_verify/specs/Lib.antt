@@ -1,2 +1,3 @@
 -- What public contracts cite.
 pub mod Verified
+pub mod Again

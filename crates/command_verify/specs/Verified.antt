@@ -10,16 +10,18 @@ use Rattle.table_receipts.specs.Texts.{receipt_text}
 use Rattle.table_receipts.specs.Values.{FitsReceipt, ReceiptValue}
 use Rattle.table_receipts.specs.declared.fault.ReceiptFault.{ReceiptFault}
 use Rattle.table_receipts.specs.declared.fault.ReceiptFault.TheVariants.{OutOfMemory, NotAReceipt}
-use Rattle.receipt_differences.specs.Differences.{table_differs}
 use Rattle.command_verify.specs.declared.verify.VerifyJob.{VerifyJob}
 
 -- nothing differs
 unfoldable pub verified_line : ℕ → ℕ → List ℕ
 verified_line inputs rows = codes "collectd: verified: inputs " ++ (decimal inputs ++ (codes " rows " ++ (decimal rows ++ codes "\n")))
 
+abbrev pub memory_line : List ℕ
+memory_line = codes "collectd: " ++ (codes "verify" ++ fault_text 1 (codes "OutOfMemory"))
+
 -- why a text isn't read as a receipt
 abbrev pub fault_line : ReceiptFault → List ℕ
-fault_line OutOfMemory = codes "collectd: " ++ (codes "verify" ++ fault_text 1 (codes "OutOfMemory"))
+fault_line OutOfMemory = memory_line
 fault_line NotAReceipt = codes "collectd: " ++ (codes "verify" ++ fault_text 2 (codes "NotAReceipt"))
 
 -- want of memory is no fault of the text
@@ -61,13 +63,14 @@ module _ (Has : List ℕ → List ℕ → Type 0) (Refuses : List ℕ → Reason
     pub has : Has job.receipt.now (receipt_text receipt)
     pub lacks : LacksText job.table.now
 
-  -- the receipt was read, and the table compared with it
-  pub record Compares : Type 0 where
+  -- the receipt was read, and then the table; which were compared so
+  pub record ReadsBoth (Compares : ReceiptValue → List ℕ → Type 0) : Type 0 where
     pub receipt : ReceiptValue
     pub has : Has job.receipt.now (receipt_text receipt)
     pub table : List ℕ
     pub has_table : Has job.table.now table
-    pub tells : TellsDifferences receipt (table_differs receipt.table table) status AreTold
+    pub compares : Compares receipt table
 
-  abbrev pub Verifies : Type 0
-  Verifies = LacksText job.receipt.now ⊎ LacksReceipt ⊎ LacksTable ⊎ Compares
+  -- the status says how it ended
+  abbrev pub Verifies : (ReceiptValue → List ℕ → Type 0) → Type 0
+  Verifies Compares = LacksText job.receipt.now ⊎ LacksReceipt ⊎ LacksTable ⊎ ReadsBoth Compares

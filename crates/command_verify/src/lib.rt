@@ -1,6 +1,7 @@
 //! The command that compares a table with its receipt.
 #![tactic(auto)]
 
+mod comparing;
 mod names;
 mod telling;
 mod verify;

@@ -3,16 +3,24 @@
 ghost use Rattle.std.specs.Prelude.{◌≡◌, IfErr, IfOk};
 ghost use Rattle.report_writing.specs.Told.{AreToldTo};
 ghost use Rattle.table_receipts.specs.Texts.{receipt_text};
-ghost use Rattle.table_receipts.specs.Values.{receipt_value, table_value};
-ghost use Rattle.receipt_differences.specs.Differences.{table_differs};
-ghost use Rattle.command_verify.specs.Verified.{IsFaultOf, TellsDifferences, Verifies};
+ghost use Rattle.table_receipts.specs.Values.{receipt_value};
+ghost use Rattle.command_verify.specs.Again.{RunsVerify};
+ghost use Rattle.command_verify.specs.Verified.{IsFaultOf};
 
-use crate::telling::{tell_differences, tell_fault};
+use crate::comparing::compare_files;
+use crate::telling::tell_fault;
+use element_registry::Elements;
 use input_files::ReadText;
-use receipt_differences::write_table_differences;
+use input_sources::OpenSource;
+use ipfix_session::Source;
 use report_writing::{Status, Verbosity, WriteLines, write_not_had_because};
-use std::alloc::{AllocError, Global};
-use table_receipts::{Receipt, ReceiptFault, TableReceipt, read_receipt};
+use std::alloc::Global;
+use std::io::Write;
+use std::rt::Clock;
+use std::sync::Wait;
+use std::thread::Threads;
+use table_receipts::{FileReceipt, Receipt, ReceiptFault, read_receipt};
+use table_remaking::TableThere;
 
 /// What is to be compared.
 #[derive(Clone, Copy)]
@@ -20,23 +28,46 @@ pub struct VerifyJob<'a> {
     /// The path of the receipt, and that of the table.
     pub receipt: &'a str,
     pub table: &'a str,
+    /// The files that the table is made again of: without any it isn't.
+    pub again: &'a [&'a str],
+    /// The files of elements that are given, as a receipt tells them.
+    pub element_files: &'a [FileReceipt],
     pub verbosity: Verbosity,
 }
 
-/// Compares a table with its receipt, by its octets and their SHA-256. The status is `Well` if nothing differs, and
-/// `SessionFault` if anything does; `NotOpened` if the text of one of them can't be had, or that of the receipt isn't
-/// one; `Failed` if memory runs out. `err` has the lines that say so.
-pub fn run_verify<T: ReadText, E: WriteLines>(
-    files: &T,
+/// Compares a table with its receipt, by its octets and their SHA-256. With files it makes the table again of these, by the
+/// plan, the format and the export time in the receipt and by `elements`, those of the files that are given, and compares
+/// what they give with it: the files with the inputs by their octets, whatever their names or order, and the tables octet
+/// for octet. It isn't made again by files of elements that haven't the octets of those in the receipt, nor if its plan
+/// names maps or exporters: then a line says so.
+///
+/// The receipt is read first, then the table, then the plan, and the files are opened last. The status is `Well` if nothing
+/// differs, and `SessionFault` if anything does; `NotOpened` if a text or a file can't be had, the text of the receipt
+/// isn't one, or that of its plan; `Failed` if memory runs out, or the table can't be made of the files. `err` has the
+/// lines that say so.
+pub fn run_verify<
+    T: ReadText,
+    S: Source + Send + Drop,
+    O: OpenSource<S>,
+    P: Write + Copy + Drop + Send,
+    E: WriteLines,
+    R: Clock + Threads + Wait + Sync,
+>(
+    rt: &R,
     alloc: Global,
+    texts: &T,
+    files: &mut O,
+    elements: Elements,
     job: &VerifyJob,
+    progress: Option<P>,
     err: &mut E,
 ) -> Status
-    ensures verifies { Verifies (T.has files.now) (T.refuses files.now) job.now result
-        (AreToldTo E.contents E.failed err.old err.new) }
+    ensures verifies { RunsVerify S.seen job.now result O.opens O.sizes O.refuses O.coming
+        files.old files.new (AreToldTo E.contents E.failed err.old err.new)
+        (T.has texts.now) (T.refuses texts.now) elements }
     ensures kept { E.failed err.old → E.failed err.new }
 {
-    let text = match files.read_text(alloc, job.receipt) {
+    let text = match texts.read_text(alloc, job.receipt) {
         Ok(text) => text,
         Err(reason) => {
             let _ = write_not_had_because(job.verbosity, "open", job.receipt, reason, err);
@@ -47,17 +78,18 @@ pub fn run_verify<T: ReadText, E: WriteLines>(
         Ok(receipt) => receipt,
         Err(fault) => return tell_fault(fault, err),
     };
-    let table = match files.read_text(alloc, job.table) {
+    let table = match texts.read_text(alloc, job.table) {
         Ok(table) => table,
         Err(reason) => {
             let _ = write_not_had_because(job.verbosity, "open", job.table, reason, err);
             return Status::NotOpened;
         }
     };
-    match differences_of(alloc, &receipt.table, &table) {
-        Ok(lines) => tell_differences(&receipt, &lines, err),
-        Err(AllocError) => tell_fault(ReceiptFault::OutOfMemory, err),
-    }
+    let there = TableThere {
+        receipt: &receipt,
+        table: &table,
+    };
+    compare_files(rt, alloc, files, elements, job, &there, progress, err)
 }
 
 // The receipt that octets are the text of.
@@ -68,16 +100,5 @@ fn receipt_in(alloc: Global, octets: &[u8]) -> Result<Receipt, ReceiptFault>
     match str::from_utf8(octets) {
         Ok(text) => read_receipt(alloc, text),
         Err(_) => Err(ReceiptFault::NotAReceipt),
-    }
-}
-
-// The lines of what differs in a table.
-fn differences_of(alloc: Global, said: &TableReceipt, table: &[u8]) -> Result<Vec<u8>, AllocError>
-    ensures { IfOk result (λ lines. lines.items ≡ table_differs (table_value said.now) table.now) }
-{
-    let mut lines = Vec::new(alloc);
-    match write_table_differences(said, table, &mut lines) {
-        Ok(()) => Ok(lines),
-        Err(_) => Err(AllocError),
     }
 }

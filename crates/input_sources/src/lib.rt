@@ -24,7 +24,7 @@ pub use files_in_turn::{FileInTurn, FilesInTurn};
 pub use maps::{LoadedMap, load_maps};
 pub use opening::{OpenSource, Opened, SystemFiles};
 pub use opening_all::{NotOpened, OpenedAll, open_all};
-pub use plan::{LoadedPlan, load_plan};
+pub use plan::{LoadedPlan, load_plan, load_plan_text};
 pub use plan_fault::{write_filtered_fault, write_plan_fault};
 pub use progress::Progress;
 pub use system_listener::SystemListener;

@@ -60,11 +60,12 @@ pub fn load_plan<T: ReadText, E: WriteLines>(
             return None;
         }
     };
-    load_text(alloc, elements, &octets, err)
+    load_plan_text(alloc, elements, &octets, err)
 }
 
-// Reads the plan in a text.
-fn load_text<E: WriteLines>(
+/// Reads the plan in a text, which may name these elements. If it is no plan, the answer is `None`, and `err` has the lines
+/// that say why and where.
+pub fn load_plan_text<E: WriteLines>(
     alloc: Global,
     elements: Elements,
     octets: &[u8],

@@ -11,5 +11,5 @@ pub returns-clause-text : goal.returns-clause-text
 returns-clause-text g c = λ loaded is. (
   c.in-Ok.octets.items,
   c.in-Ok.ensures.text,
-  subst (λ (octets : List ℕ). IsLoaded c.args.elements octets loaded.maps loaded.elements loaded.read) c.deref.ensures.value (c.load_text.ensures.text loaded is),
+  subst (λ (octets : List ℕ). IsLoaded c.args.elements octets loaded.maps loaded.elements loaded.read) c.deref.ensures.value (c.load_plan_text.ensures.text loaded is),
 )

@@ -1,6 +1,6 @@
 use Rattle.std.proofs.Common.{inl, inr}
 use Rattle.report_writing.proofs.LinesTold.{is_told}
-use Rattle.input_sources.proofs.plan.load_text.Goals as goal
+use Rattle.input_sources.proofs.plan.load_plan_text.Goals as goal
 
 pub returns-in-Err-clause-told : goal.returns-in-Err-clause-told
 returns-in-Err-clause-told g c =

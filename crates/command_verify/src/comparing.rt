@@ -1,0 +1,251 @@
+//! Comparing a table with its receipt, and with the one that files give.
+
+ghost use Rattle.std.specs.Prelude.{◌≡◌, ◌++◌, IfOk};
+ghost use Rattle.std.specs.Option.{option_map};
+ghost use Rattle.report_writing.specs.Told.{AreToldTo};
+ghost use Rattle.report_writing.specs.Writing.{Tells};
+ghost use Rattle.table_receipts.specs.Values.{receipt_value, table_value};
+ghost use Rattle.receipt_differences.specs.Differences.{table_differs};
+ghost use Rattle.command_verify.specs.Again.{ComparesAlone, ComparesFiles, ComparesGiven, ComparesLoaded, OpensOrLacks, TellsAgain, again_fault_line, given_differ, why_not as reason_of};
+
+use crate::telling::{tell_differences, tell_fault};
+use crate::verify::VerifyJob;
+use command_collect::write_collect_fault;
+use command_receipt::{RemakeFault, write_run_fault};
+use element_registry::Elements;
+use input_sources::{LoadedPlan, NotOpened, OpenSource, OpenedAll, load_plan_text, open_all};
+use ipfix_session::Source;
+use receipt_differences::{write_element_differences, write_table_differences};
+use report_writing::{Origin, Status, WriteLines, write_fault, write_not_had_because};
+use std::alloc::{AllocError, Global};
+use std::io::{self, Write};
+use std::rt::Clock;
+use std::sync::Wait;
+use std::thread::Threads;
+use table_receipts::{FileReceipt, ReceiptFault, TableReceipt};
+use table_remaking::{AgainFault, TableThere, compare_again, names_exporter};
+
+/// Compares a table with its receipt; and with files with the one that these give.
+pub fn compare_files<
+    S: Source + Send + Drop,
+    O: OpenSource<S>,
+    P: Write + Copy + Drop + Send,
+    E: WriteLines,
+    R: Clock + Threads + Wait + Sync,
+>(
+    rt: &R,
+    alloc: Global,
+    files: &mut O,
+    elements: Elements,
+    job: &VerifyJob,
+    there: &TableThere,
+    progress: Option<P>,
+    err: &mut E,
+) -> Status
+    ensures compares { ComparesFiles S.seen job.now (receipt_value there.now.receipt.now) there.now.table.now result
+        O.opens O.sizes O.refuses O.coming files.old files.new
+        (AreToldTo E.contents E.failed err.old err.new) elements }
+    ensures kept { E.failed err.old → E.failed err.new }
+{
+    if job.again.is_empty() {
+        compare_alone(alloc, there, b"", err)
+    } else {
+        compare_given(rt, alloc, files, elements, job, there, progress, err)
+    }
+}
+
+// Compares a table with its receipt, and tells this behind what differs.
+fn compare_alone<E: WriteLines>(
+    alloc: Global,
+    there: &TableThere,
+    behind: &[u8],
+    err: &mut E,
+) -> Status
+    ensures compares { ComparesAlone (receipt_value there.now.receipt.now) there.now.table.now result
+        behind.now (AreToldTo E.contents E.failed err.old err.new) }
+    ensures kept { E.failed err.old → E.failed err.new }
+{
+    match differences_of(alloc, &there.receipt.table, there.table, behind) {
+        Ok(lines) => tell_differences(there.receipt, &lines, err),
+        Err(AllocError) => tell_fault(ReceiptFault::OutOfMemory, err),
+    }
+}
+
+// Makes the table again, if the files of elements are those of the receipt, by its plan.
+fn compare_given<
+    S: Source + Send + Drop,
+    O: OpenSource<S>,
+    P: Write + Copy + Drop + Send,
+    E: WriteLines,
+    R: Clock + Threads + Wait + Sync,
+>(
+    rt: &R,
+    alloc: Global,
+    files: &mut O,
+    elements: Elements,
+    job: &VerifyJob,
+    there: &TableThere,
+    progress: Option<P>,
+    err: &mut E,
+) -> Status
+    ensures compares { ComparesGiven S.seen job.now (receipt_value there.now.receipt.now) there.now.table.now result
+        O.opens O.sizes O.refuses O.coming files.old files.new
+        (AreToldTo E.contents E.failed err.old err.new) elements }
+    ensures kept { E.failed err.old → E.failed err.new }
+{
+    let Ok(lines) = given_differences(alloc, job, there) else {
+        return tell_fault(ReceiptFault::OutOfMemory, err);
+    };
+    if !lines.is_empty() {
+        return compare_alone(alloc, there, &lines, err);
+    }
+    match load_plan_text(alloc, elements, there.receipt.plan.as_bytes(), err) {
+        Some(loaded) => compare_loaded(rt, alloc, files, job, &loaded, there, progress, err),
+        None => Status::NotOpened,
+    }
+}
+
+// Makes the table again by this plan, unless none of it is.
+fn compare_loaded<
+    S: Source + Send + Drop,
+    O: OpenSource<S>,
+    P: Write + Copy + Drop + Send,
+    E: WriteLines,
+    R: Clock + Threads + Wait + Sync,
+>(
+    rt: &R,
+    alloc: Global,
+    files: &mut O,
+    job: &VerifyJob,
+    loaded: &LoadedPlan,
+    there: &TableThere,
+    progress: Option<P>,
+    err: &mut E,
+) -> Status
+    ensures compares { ComparesLoaded S.seen job.now (receipt_value there.now.receipt.now) there.now.table.now result
+        O.opens O.sizes O.refuses O.coming files.old files.new
+        (AreToldTo E.contents E.failed err.old err.new) loaded.now }
+    ensures kept { E.failed err.old → E.failed err.new }
+{
+    match why_not(loaded) {
+        Some(line) => compare_alone(alloc, there, line.as_bytes(), err),
+        None => open_files(rt, alloc, files, job, loaded, there, progress, err),
+    }
+}
+
+// Opens the files, and makes the table again of them.
+fn open_files<
+    S: Source + Send + Drop,
+    O: OpenSource<S>,
+    P: Write + Copy + Drop + Send,
+    E: WriteLines,
+    R: Clock + Threads + Wait + Sync,
+>(
+    rt: &R,
+    alloc: Global,
+    files: &mut O,
+    job: &VerifyJob,
+    loaded: &LoadedPlan,
+    there: &TableThere,
+    progress: Option<P>,
+    err: &mut E,
+) -> Status
+    ensures opens { OpensOrLacks S.seen job.now (receipt_value there.now.receipt.now) there.now.table.now result
+        O.opens O.sizes O.refuses O.coming files.old files.new
+        (AreToldTo E.contents E.failed err.old err.new) loaded.now }
+    ensures kept { E.failed err.old → E.failed err.new }
+{
+    match open_all(rt, alloc, files, job.again, progress, job.verbosity, err) {
+        Ok(OpenedAll { sources, origins }) => {
+            let sources = sources.into_sources();
+            tell_again(rt, alloc, sources, &origins, loaded, there, err)
+        }
+        Err(NotOpened { path, reason }) => {
+            let _ = write_not_had_because(job.verbosity, "open", path, reason, err);
+            Status::NotOpened
+        }
+    }
+}
+
+// Makes the table again of these sources, and tells what differs.
+fn tell_again<S: Source + Send + Drop, E: WriteLines, R: Threads + Wait + Sync>(
+    rt: &R,
+    alloc: Global,
+    sources: Vec<S>,
+    origins: &[Origin],
+    loaded: &LoadedPlan,
+    there: &TableThere,
+    err: &mut E,
+) -> Status
+    ensures tells { TellsAgain S.seen (receipt_value there.now.receipt.now) there.now.table.now result
+        loaded.now sources.items origins.now (AreToldTo E.contents E.failed err.old err.new) }
+    ensures kept { E.failed err.old → E.failed err.new }
+{
+    match compare_again(rt, alloc, sources, origins, loaded, there) {
+        Ok(lines) => tell_differences(there.receipt, &lines, err),
+        Err(fault) => {
+            let _ = write_again_fault(fault, err);
+            Status::Failed
+        }
+    }
+}
+
+// The lines of what differs in a table, and these behind them.
+fn differences_of(
+    alloc: Global,
+    said: &TableReceipt,
+    table: &[u8],
+    behind: &[u8],
+) -> Result<Vec<u8>, AllocError>
+    ensures { IfOk result
+        (λ lines. lines.items ≡ table_differs (table_value said.now) table.now ++ behind.now) }
+{
+    let mut lines = Vec::new(alloc);
+    let Ok(()) = write_table_differences(said, table, &mut lines) else {
+        return Err(AllocError);
+    };
+    lines.extend_from_slice(behind)?;
+    Ok(lines)
+}
+
+// The line of files of elements that a table wasn't made with.
+fn given_differences(
+    alloc: Global,
+    job: &VerifyJob,
+    there: &TableThere,
+) -> Result<Vec<u8>, AllocError>
+    ensures { IfOk result
+        (λ lines. lines.items ≡ given_differ job.now (receipt_value there.now.receipt.now)) }
+{
+    let mut lines = Vec::new(alloc);
+    let said: &[FileReceipt] = &there.receipt.elements;
+    match write_element_differences(job.element_files, said, &mut lines) {
+        Ok(()) => Ok(lines),
+        Err(_) => Err(AllocError),
+    }
+}
+
+// Why a table of this plan isn't made again, if it isn't.
+fn why_not(loaded: &LoadedPlan) -> Option<&'static str>
+    ensures { option_map (λ line. line.now) result ≡ reason_of loaded.now }
+{
+    if !loaded.maps.maps.is_empty() {
+        return Some(
+            "collectd: verify: plan: it names maps, and no table with maps is made again\n",
+        );
+    }
+    if names_exporter(loaded.read.context()) {
+        return Some("collectd: verify: plan: it names exporters, which no receipt tells\n");
+    }
+    None
+}
+
+fn write_again_fault<E: WriteLines>(fault: AgainFault, err: &mut E) -> io::Result<()>
+    ensures { Tells E.contents E.failed err.old err.new result (again_fault_line fault) }
+{
+    match fault {
+        AgainFault::NotMade(RemakeFault::Collect(fault)) => write_collect_fault(fault, err),
+        AgainFault::NotMade(RemakeFault::Run(fault)) => write_run_fault(fault, err),
+        AgainFault::OutOfMemory => write_fault("verify", 1, "OutOfMemory", err),
+    }
+}

@@ -1,0 +1,146 @@
+//! Making the table of a receipt again.
+
+ghost use Rattle.std.specs.Prelude.{◌≡◌, IfErr, IfOk};
+ghost use Rattle.report_writing.specs.Writing.{Tells};
+ghost use Rattle.table_receipts.specs.Values.{receipt_value, table_value};
+ghost use Rattle.receipt_differences.specs.Orders.{IsOrderOf};
+ghost use Rattle.table_remaking.specs.Again.{IsCompared, IsJobOf, IsNotMade, again_differs, format_of as format, names_exporter as names};
+ghost use Rattle.table_remaking.specs.Faults.{IsFaultOf};
+
+use command_collect::{CollectJob, Engine};
+use command_receipt::{MadeWith, Remade, RemakeFault, remake};
+use flow_export::Format;
+use flow_table::Context;
+use input_sources::LoadedPlan;
+use ipfix_session::Source;
+use output_tables::Output;
+use receipt_differences::{
+    in_order, write_remade_differences, write_table_differences, write_text_difference,
+};
+use report_writing::{NOTHING_MORE, Origin, WriteLines};
+use std::alloc::{AllocError, Global};
+use std::io;
+use std::sync::Wait;
+use std::thread::Threads;
+use table_receipts::{InputReceipt, Receipt, TableFormat, TableReceipt};
+
+/// A table that is there, and its receipt.
+#[derive(Clone, Copy)]
+pub struct TableThere<'a> {
+    pub receipt: &'a Receipt,
+    pub table: &'a [u8],
+}
+
+/// Why a table wasn't compared with the one that is made again.
+#[derive(Clone, Copy, Debug, PartialEq, Eq)]
+pub enum AgainFault {
+    /// It can't be made again.
+    NotMade(RemakeFault),
+    /// Memory was refused for the lines.
+    OutOfMemory,
+}
+
+/// Makes the table of a receipt again of these sources, by the plan that was loaded from the receipt, which has no maps,
+/// and answers a line for each thing that differs: none if nothing does.
+pub fn compare_again<S: Source + Send + Drop, R: Threads + Wait + Sync>(
+    rt: &R,
+    alloc: Global,
+    sources: Vec<S>,
+    origins: &[Origin],
+    loaded: &LoadedPlan,
+    there: &TableThere,
+) -> Result<Vec<u8>, AgainFault>
+    ensures compared { IfOk result (λ lines. IsCompared S.seen loaded.now.elements loaded.now.read
+        (receipt_value there.now.receipt.now) sources.items origins.now there.now.table.now lines.items) }
+    ensures fault { IfErr result (IsFaultOf S.seen loaded.now.elements loaded.now.read
+        (receipt_value there.now.receipt.now) sources.items origins.now) }
+{
+    let job = collect_job(loaded, &there.receipt.table);
+    match remake(rt, alloc, sources, origins, &job, made_with_nothing(alloc)) {
+        Ok(remade) => match lines_of(alloc, there, &remade) {
+            Ok(lines) => Ok(lines),
+            Err(AllocError) => Err(AgainFault::OutOfMemory),
+        },
+        Err(fault) => Err(AgainFault::NotMade(fault)),
+    }
+}
+
+// (these aren't compared with what a receipt says)
+fn made_with_nothing(alloc: Global) -> MadeWith {
+    MadeWith {
+        collectd: String::new(alloc),
+        plan: String::new(alloc),
+        elements: Vec::new(alloc),
+        maps: Vec::new(alloc),
+    }
+}
+
+// What a run is to do that makes the table again.
+fn collect_job<'a>(loaded: &'a LoadedPlan, said: &TableReceipt) -> CollectJob<'a>
+    ensures { IsJobOf loaded.now.elements loaded.now.read (table_value said.now) result }
+{
+    CollectJob {
+        elements: &loaded.elements,
+        plan: &loaded.read.plan,
+        engine: Engine::Lots(1),
+        output: Output {
+            format: format_of(said.format),
+            time: said.time,
+        },
+        verbosity: NOTHING_MORE,
+        wanted: loaded.read.context(),
+        maps: None,
+        filter: loaded.read.conditions(),
+        exporters: &[],
+    }
+}
+
+fn format_of(said: TableFormat) -> Format
+    ensures { result ≡ format said }
+{
+    match said {
+        TableFormat::Csv => Format::Csv,
+        TableFormat::Json => Format::Json,
+        TableFormat::Ipfix => Format::Ipfix,
+    }
+}
+
+/// Whether the keys or the conditions of a plan name who exported: no receipt tells that, so its table can't be made again.
+pub fn names_exporter(context: Context) -> bool
+    ensures { result ≡ names context }
+{
+    context.exporter || context.exporter_ipv4_address || context.exporter_ipv6_address
+}
+
+// The lines of what differs.
+fn lines_of(alloc: Global, there: &TableThere, remade: &Remade) -> Result<Vec<u8>, AllocError>
+    ensures { IfOk result (λ lines. lines.items ≡ again_differs (receipt_value there.now.receipt.now)
+        there.now.table.now (receipt_value remade.now.receipt) remade.now.text.items) }
+{
+    let inputs = in_order(alloc, &there.receipt.inputs)?;
+    let files = in_order(alloc, &remade.receipt.inputs)?;
+    let mut lines = Vec::new(alloc);
+    match write_differences(there, remade, &inputs, &files, &mut lines) {
+        Ok(()) => Ok(lines),
+        Err(_) => Err(AllocError),
+    }
+}
+
+fn write_differences<E: WriteLines>(
+    there: &TableThere,
+    remade: &Remade,
+    inputs: &[&InputReceipt],
+    files: &[&InputReceipt],
+    err: &mut E,
+) -> io::Result<()>
+    requires of_inputs { IsOrderOf there.now.receipt.now.inputs.items inputs.now }
+    requires of_files { IsOrderOf remade.now.receipt.inputs.items files.now }
+    ensures { Tells E.contents E.failed err.old err.new result (again_differs
+        (receipt_value there.now.receipt.now) there.now.table.now (receipt_value remade.now.receipt)
+        remade.now.text.items) }
+{
+    let said = there.receipt;
+    write_table_differences(&said.table, there.table, err)?;
+    write_remade_differences(&remade.receipt, said, inputs, files, err)?;
+    write_text_difference(remade.text.as_slice(), there.table, err)
+}
