@@ -9,8 +9,10 @@ use Rattle.flow_merge.specs.declared.merge_fault.MergeFault.TheVariants as merge
 use Rattle.flow_merge.specs.declared.row_fault.RowFault.TheVariants as rows
 use Rattle.flow_export.specs.declared.fault.ExportFault.TheVariants as exports
 use Rattle.ipfix_dump.specs.declared.fault.DumpFault.TheVariants as dumps
+use Rattle.receipt_merging.specs.declared.part_fault.PartFault.TheVariants as parts
+use Rattle.command_receipt.specs.declared.fault.ReceiptFault.TheVariants as receipts
 use Rattle.command_explain.specs.declared.run_faults.RunFault.{RunFault}
-use Rattle.command_explain.specs.declared.run_faults.RunFault.TheVariants.{PlanText, Plan, Elements, Collect, Merge, Row, Export, Dump}
+use Rattle.command_explain.specs.declared.run_faults.RunFault.TheVariants.{PlanText, Plan, Elements, Collect, Merge, Row, Part, Export, Dump, Receipt}
 use Rattle.command_explain.specs.declared.run_faults.TheConstants.{RUN_FAULTS}
 use Rattle.command_explain.specs.Explained.{IsSameWord}
 use Rattle.command_explain.specs.RunFaults.{IsListed, listed_of, name_of, run_fault_of}
@@ -19,6 +21,7 @@ use Rattle.command_explain.specs.RunFaults.{IsListed, listed_of, name_of, run_fa
 found : List ℕ → Option RunFault
 found lower = find (λ fault. bytes_eq lower (str_to_ascii_lowercase (name_of fault))) RUN_FAULTS
 
+-- (the line of a part lets each of these faults be a case of its own)
 by_name : (fault : RunFault) → IsListed fault → found (str_to_ascii_lowercase (name_of fault)) ≡ Some (listed_of fault)
 unfolding found
 by_name (PlanText texts.OutOfMemory) listed = absurd (listed refl)
@@ -29,6 +32,8 @@ by_name (Merge merges.OutOfMemory) listed = absurd (listed refl)
 by_name (Row rows.OutOfMemory) listed = absurd (listed refl)
 by_name (Export exports.OutOfMemory) listed = absurd (listed refl)
 by_name (Dump dumps.OutOfMemory) listed = absurd (listed refl)
+by_name (Receipt receipts.OutOfMemory) listed = absurd (listed refl)
+by_name (Part parts.Receipt) listed = refl
 by_name fault listed = refl
 
 pub each : (word : List ℕ) (fault : RunFault) → IsListed fault → IsSameWord word (name_of fault) → run_fault_of word ≡ Some (listed_of fault)

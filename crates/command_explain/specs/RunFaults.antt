@@ -1,5 +1,6 @@
 -- The faults that end a run: which of them a word names, and its explanation.
-use Rattle.std.specs.Prelude.{◌≢◌, ℕ, List, [], ◌++◌, Bool, Option, None, Some, codes, decimal, find}
+use Rattle.std.specs.Prelude.{◌≢◌, ℕ, List, [], ◌∷◌, ◌++◌, Bool, Option, codes, decimal, find}
+use Rattle.std.specs.List.{flat_map}
 use Rattle.std.specs.Str.{str_eq_ignore_ascii_case}
 use Rattle.ipfix_message.specs.declared.fault.MessageFault.TheVariants.{OutOfMemory}
 use Rattle.flow_plan.specs.Faults as of_texts
@@ -18,10 +19,14 @@ use Rattle.flow_export.specs.Faults as of_exports
 use Rattle.flow_export.specs.declared.fault.ExportFault.TheVariants as exports
 use Rattle.ipfix_dump.specs.Faults as of_dumps
 use Rattle.ipfix_dump.specs.declared.fault.DumpFault.TheVariants as dumps
+use Rattle.receipt_merging.specs.PartFaults as of_parts
+use Rattle.receipt_merging.specs.declared.part_fault.PartFault.TheVariants as parts
+use Rattle.command_receipt.specs.Faults as of_receipts
+use Rattle.command_receipt.specs.declared.fault.ReceiptFault.TheVariants as receipts
 use Rattle.element_registry.specs.declared.fault.Heading.TheVariants as headings
 use Rattle.ipfix_session.specs.declared.fault.SessionFault.TheVariants as sessions
 use Rattle.command_explain.specs.declared.run_faults.RunFault.{RunFault}
-use Rattle.command_explain.specs.declared.run_faults.RunFault.TheVariants.{PlanText, Plan, Filter, Map, Elements, Collect, Merge, Row, Export, Dump}
+use Rattle.command_explain.specs.declared.run_faults.RunFault.TheVariants.{PlanText, Plan, Filter, Map, Elements, Collect, Merge, Row, Part, Export, Dump, Receipt, NotAReceipt}
 use Rattle.command_explain.specs.declared.run_faults.TheConstants.{RUN_FAULTS}
 use Rattle.command_explain.specs.Guide.{texts_of_message}
 
@@ -35,8 +40,11 @@ name_of (Elements fault) = of_elements.name_of fault
 name_of (Collect fault) = of_collects.name_of fault
 name_of (Merge fault) = of_merges.name_of fault
 name_of (Row fault) = of_rows.name_of fault
+name_of (Part fault) = of_parts.name_of fault
 name_of (Export fault) = of_exports.name_of fault
 name_of (Dump fault) = of_dumps.name_of fault
+name_of (Receipt fault) = of_receipts.name_of fault
+name_of NotAReceipt = codes "NotAReceipt"
 
 -- how the lines of a family begin that have a fault of this number
 unfoldable pub place : List ℕ → ℕ → List ℕ
@@ -52,19 +60,22 @@ place_of (Elements fault) = place (codes "elements") (of_elements.number_of faul
 place_of (Collect fault) = place (codes "collect") (of_collects.number_of fault)
 place_of (Merge fault) = place (codes "merge") (of_merges.number_of fault)
 place_of (Row fault) = place (codes "merge") (of_merges.number_of (merges.Row fault)) ++ (codes " " ++ place (of_merges.name_of (merges.Row fault)) (of_rows.number_of fault))
+place_of (Part fault) = place (codes "merge") (of_parts.number_of fault)
 place_of (Export fault) = place (codes "export") (of_exports.number_of fault)
 place_of (Dump fault) = place (codes "dump") (of_dumps.number_of fault) ++ (codes "; " ++ place (codes "explain") (of_dumps.number_of fault))
+place_of (Receipt fault) = place (codes "receipt") (of_receipts.number_of fault)
+place_of NotAReceipt = place (codes "verify") 2
 
--- the fault of another family that has its name, and is explained with it
-abbrev pub namesake : RunFault → Option RunFault
-namesake (Plan plans.Prefix) = Some (Row rows.Prefix)
-namesake (Collect collects.SumTooLarge) = Some (Merge merges.SumTooLarge)
-namesake (Export exports.WriteFailed) = Some (Dump dumps.WriteFailed)
-namesake fault = None
+-- the faults of other families that have its name, and are explained with it
+abbrev pub namesakes : RunFault → List RunFault
+namesakes (Plan plans.Prefix) = Row rows.Prefix ∷ []
+namesakes (Collect collects.SumTooLarge) = Merge merges.SumTooLarge ∷ []
+namesakes (Part parts.InputTwice) = Receipt (receipts.InputTwice 0 1) ∷ []
+namesakes (Export exports.WriteFailed) = Dump dumps.WriteFailed ∷ Receipt receipts.WriteFailed ∷ []
+namesakes fault = []
 
-abbrev pub further_places : Option RunFault → List ℕ
-further_places None = []
-further_places (Some fault) = codes "; " ++ place_of fault
+abbrev pub further_place : RunFault → List ℕ
+further_place fault = codes "; " ++ place_of fault
 
 -- the fault of the list with which it is explained
 abbrev pub listed_of : RunFault → RunFault
@@ -77,6 +88,8 @@ listed_of (Row rows.Prefix) = Plan plans.Prefix
 listed_of (Merge (merges.Border _)) = Merge (merges.Border 1)
 listed_of (Row rows.Border) = Merge (merges.Border 1)
 listed_of (Dump dumps.WriteFailed) = Export exports.WriteFailed
+listed_of (Receipt receipts.WriteFailed) = Export exports.WriteFailed
+listed_of (Receipt (receipts.InputTwice _ _)) = Part parts.InputTwice
 listed_of fault = fault
 
 -- all are but that memory was refused, which is explained as a session's fault
@@ -130,9 +143,15 @@ words_of (Row rows.Template) = words (codes "a record has another template than 
 words_of (Row rows.Fields) = words (codes "a row has other keys or counters than the plan") (codes "Give all runs, and the merge, the same plan.")
 words_of (Row rows.Interval) = words (codes "a row has another interval than the plan") (codes "Give all runs, and the merge, the same plan.")
 words_of (Row rows.Flows) = words (codes "a row has no flow") (codes "Merge files that were written with --format ipfix, and not changed since.")
+words_of (Part parts.Receipt) = words (codes "a receipt is missing, damaged, or none") (codes "A receipt is FILE.receipt, or the one of --receipt-of. Copy it again, or make the table again\nwith --receipt.")
+words_of (Part parts.NotItsTable) = words (codes "a table is not the one of its receipt") (codes "One of the two was changed or cut since, or is of another run. Copy both again, or make them\nagain.")
+words_of (Part parts.OtherPlan) = words (codes "a receipt has another plan than the merge, or other files of elements or maps") (codes "Give the merge the plan and the files that the table was made with; or make it again with\nthose of the merge.")
+words_of (Part parts.InputTwice) = words (codes "an input that has data records comes twice, and would be counted twice") (codes "The same line says which ones. Leave one of the two out.")
+words_of (Part parts.Incomplete) = words (codes "a table is not complete: something was lost or passed over when it was made") (codes "Its receipt says what. Make it again of whole inputs, or merge it with --incomplete.")
 words_of (Merge (merges.Border _)) = words (codes "a row's interval crosses the border of a day or month") (codes "Take intervals of which days are made in the zone, as minutes, or another --zone.")
-words_of (Export exports.WriteFailed) = words (codes "standard output could not be written") (codes "Look for a full disk, or for a pipe whose reader has ended. What was written is not whole.")
+words_of (Export exports.WriteFailed) = words (codes "standard output, or a receipt, could not be written") (codes "Look for a full disk, or for a pipe whose reader has ended. What was written is not whole.\nIf it is a receipt, its table is whole, and has none.")
 words_of (Export exports.TooManyRows) = words (codes "2^32 rows or more, too many for IPFIX") (codes "Write the table as CSV or JSON, or take longer intervals or fewer keys.")
+words_of NotAReceipt = words (codes "the file is no receipt, or an octet of it was changed") (codes "Give verify the FILE of --receipt, as it was written: another program's JSON is another text.")
 words_of fault = words (texts_of_message OutOfMemory).found (texts_of_message OutOfMemory).advice
 
 -- those of each fault
@@ -149,7 +168,7 @@ run_fault_of word = find (names_run_fault word) RUN_FAULTS
 
 -- a fault's name, the lines that have it, and what was found
 unfoldable pub run_fault_line : RunFault → List ℕ
-run_fault_line fault = name_of fault ++ (codes " (" ++ (place_of fault ++ (further_places (namesake fault) ++ (codes "): " ++ ((guide_of fault).found ++ codes "\n")))))
+run_fault_line fault = name_of fault ++ (codes " (" ++ (place_of fault ++ (flat_map further_place (namesakes fault) ++ (codes "): " ++ ((guide_of fault).found ++ codes "\n")))))
 
 -- then what to do about it
 unfoldable pub advice_lines : RunFault → List ℕ

@@ -5,7 +5,7 @@ ghost use Rattle.std.specs.List.{flat_map};
 ghost use Rattle.std.specs.Io.KnownBytes.{Appends};
 ghost use Rattle.command_explain.specs.declared.run_faults.RunFault.{RunFault};
 ghost use Rattle.command_explain.specs.Explained.{IsSameWord};
-ghost use Rattle.command_explain.specs.RunFaults.{IsListed, advice_lines, further_places, listed_of, name_of, names_run_fault, namesake, place, place_of, run_fault_line, run_fault_of, run_fault_text};
+ghost use Rattle.command_explain.specs.RunFaults.{IsListed, advice_lines, further_place, listed_of, name_of, names_run_fault, namesakes, place, place_of, run_fault_line, run_fault_of, run_fault_text};
 
 use crate::run_faults::{RUN_FAULTS, RunFault};
 use flow_merge::MergeFault;
@@ -71,14 +71,27 @@ fn write_run_fault_line<W: Write>(fault: RunFault, out: &mut W) -> io::Result<()
 
 fn write_places<W: Write>(fault: RunFault, out: &mut W) -> io::Result<()>
     ensures { OnOk result (Appends (W.contents out.old) (W.contents out.new)
-        (place_of fault ++ further_places (namesake fault))) }
+        (place_of fault ++ flat_map further_place (namesakes fault))) }
 {
     write_place(fault, out)?;
-    if let Some(fault) = fault.namesake() {
-        write!(out, "; ")?;
-        write_place(fault, out)?;
+    write_further_places(fault.namesakes(), out)
+}
+
+fn write_further_places<W: Write>(faults: &[RunFault], out: &mut W) -> io::Result<()>
+    ensures { OnOk result (Appends (W.contents out.old) (W.contents out.new)
+        (flat_map further_place faults.now)) }
+{
+    for fault in faults {
+        write_further_place(*fault, out)?;
     }
     Ok(())
+}
+
+fn write_further_place<W: Write>(fault: RunFault, out: &mut W) -> io::Result<()>
+    ensures { OnOk result (Appends (W.contents out.old) (W.contents out.new) (further_place fault)) }
+{
+    write!(out, "; ")?;
+    write_place(fault, out)
 }
 
 // Writes how the lines on standard error begin that have the fault, with its number there.
@@ -104,12 +117,15 @@ fn write_place<W: Write>(fault: RunFault, out: &mut W) -> io::Result<()>
             write!(out, " ")?;
             write_number(outer.name(), fault.number(), out)
         }
+        RunFault::Part(fault) => write_number("merge", fault.number(), out),
         RunFault::Export(fault) => write_number("export", fault.number(), out),
         RunFault::Dump(fault) => {
             write_number("dump", fault.number(), out)?;
             write!(out, "; ")?;
             write_number("explain", fault.number(), out)
         }
+        RunFault::Receipt(fault) => write_number("receipt", fault.number(), out),
+        RunFault::NotAReceipt => write_number("verify", 2, out),
     }
 }
 

@@ -1,8 +1,9 @@
 //! The faults that end a run.
 
 ghost use Rattle.std.specs.Prelude.{◌≡◌};
-ghost use Rattle.command_explain.specs.RunFaults.{name_of, namesake as namesake_of};
+ghost use Rattle.command_explain.specs.RunFaults.{name_of, namesakes as namesakes_of};
 
+use command_receipt::ReceiptFault;
 use element_registry::{ElementsFault, Heading};
 use flow_collect::CollectFault;
 use flow_export::ExportFault;
@@ -11,9 +12,10 @@ use flow_plan::PlanTextFault;
 use flow_table::PlanFault;
 use ipfix_dump::DumpFault;
 use ipfix_session::SessionFault;
+use receipt_merging::PartFault;
 
-/// A fault of a plan, of a file of elements, of collecting, of merging or of writing, none of which is a
-/// session's.
+/// A fault of a plan, of a file of elements, of collecting, of merging, of a receipt or of writing, none of which is
+/// a session's.
 #[derive(Clone, Copy, Debug)]
 pub enum RunFault {
     /// A text is no plan.
@@ -32,11 +34,29 @@ pub enum RunFault {
     Merge(MergeFault),
     /// A record of such a file is no row.
     Row(RowFault),
+    /// A part was not merged by its receipt.
+    Part(PartFault),
     /// A table was not written.
     Export(ExportFault),
     /// A dump or an explanation was not written.
     Dump(DumpFault),
+    /// There is no receipt of a run.
+    Receipt(ReceiptFault),
+    /// What a table was to be compared with is no receipt.
+    NotAReceipt,
 }
+
+// The faults that are explained with another family's, whose name they have.
+const OF_PREFIX: [RunFault; 1] = [RunFault::Row(RowFault::Prefix)];
+
+const OF_SUM_TOO_LARGE: [RunFault; 1] = [RunFault::Merge(MergeFault::SumTooLarge)];
+
+const OF_INPUT_TWICE: [RunFault; 1] = [RunFault::Receipt(ReceiptFault::InputTwice(0, 1))];
+
+const OF_WRITE_FAILED: [RunFault; 2] = [
+    RunFault::Dump(DumpFault::WriteFailed),
+    RunFault::Receipt(ReceiptFault::WriteFailed),
+];
 
 impl RunFault {
     /// Its name, which faults of several families may have.
@@ -52,31 +72,31 @@ impl RunFault {
             RunFault::Collect(fault) => fault.name(),
             RunFault::Merge(fault) => fault.name(),
             RunFault::Row(fault) => fault.name(),
+            RunFault::Part(fault) => fault.name(),
             RunFault::Export(fault) => fault.name(),
             RunFault::Dump(fault) => fault.name(),
+            RunFault::Receipt(fault) => fault.name(),
+            RunFault::NotAReceipt => "NotAReceipt",
         }
     }
 
-    /// The fault of another family that has its name, and is explained with it.
-    pub fn namesake(&self) -> Option<RunFault>
-        ensures { result ≡ namesake_of self.now }
+    /// The faults of other families that have its name, and are explained with it.
+    pub fn namesakes(&self) -> &'static [RunFault]
+        ensures { result.now ≡ namesakes_of self.now }
     {
         match self {
-            RunFault::Plan(PlanFault::Prefix) => Some(RunFault::Row(RowFault::Prefix)),
-            RunFault::Collect(CollectFault::SumTooLarge) => {
-                Some(RunFault::Merge(MergeFault::SumTooLarge))
-            }
-            RunFault::Export(ExportFault::WriteFailed) => {
-                Some(RunFault::Dump(DumpFault::WriteFailed))
-            }
-            _ => None,
+            RunFault::Plan(PlanFault::Prefix) => &OF_PREFIX,
+            RunFault::Collect(CollectFault::SumTooLarge) => &OF_SUM_TOO_LARGE,
+            RunFault::Part(PartFault::InputTwice) => &OF_INPUT_TWICE,
+            RunFault::Export(ExportFault::WriteFailed) => &OF_WRITE_FAILED,
+            _ => &[],
         }
     }
 }
 
 /// Each of them that is explained, in the order of the lines that have them. A fault within which there are
 /// others stands here with the first of them. OutOfMemory is a session's fault, too, and so is not among them.
-pub const RUN_FAULTS: [RunFault; 40] = [
+pub const RUN_FAULTS: [RunFault; 46] = [
     RunFault::PlanText(PlanTextFault::NotToml),
     RunFault::PlanText(PlanTextFault::UnknownField),
     RunFault::PlanText(PlanTextFault::Missing),
@@ -114,7 +134,13 @@ pub const RUN_FAULTS: [RunFault; 40] = [
     RunFault::Row(RowFault::Fields),
     RunFault::Row(RowFault::Interval),
     RunFault::Row(RowFault::Flows),
+    RunFault::Part(PartFault::Receipt),
+    RunFault::Part(PartFault::NotItsTable),
+    RunFault::Part(PartFault::OtherPlan),
+    RunFault::Part(PartFault::InputTwice),
+    RunFault::Part(PartFault::Incomplete),
     RunFault::Merge(MergeFault::Border(1)),
     RunFault::Export(ExportFault::WriteFailed),
     RunFault::Export(ExportFault::TooManyRows),
+    RunFault::NotAReceipt,
 ];

@@ -5,8 +5,10 @@ ghost use Rattle.command_explain.specs.RunFaults.{guide_of};
 
 use crate::guide::explanation_of_message;
 use crate::run_faults::RunFault::{
-    self, Collect, Dump, Elements, Export, Filter, Map, Merge, Plan, PlanText, Row,
+    self, Collect, Dump, Elements, Export, Filter, Map, Merge, NotAReceipt, Part, Plan, PlanText,
+    Receipt, Row,
 };
+use command_receipt::ReceiptFault;
 use element_registry::ElementsFault;
 use flow_collect::CollectFault;
 use flow_export::ExportFault;
@@ -15,6 +17,7 @@ use flow_plan::PlanTextFault;
 use flow_table::PlanFault;
 use ipfix_dump::DumpFault;
 use ipfix_message::MessageFault;
+use receipt_merging::PartFault;
 
 impl RunFault {
     /// What was found, without a capital letter and a full stop.
@@ -64,11 +67,22 @@ impl RunFault {
             Row(RowFault::Fields) => "a row has other keys or counters than the plan",
             Row(RowFault::Interval) => "a row has another interval than the plan",
             Row(RowFault::Flows) => "a row has no flow",
+            Part(PartFault::Receipt) => "a receipt is missing, damaged, or none",
+            Part(PartFault::NotItsTable) => "a table is not the one of its receipt",
+            Part(PartFault::OtherPlan) =>
+                "a receipt has another plan than the merge, or other files of elements or maps",
+            Part(PartFault::InputTwice) | Receipt(ReceiptFault::InputTwice(_, _)) =>
+                "an input that has data records comes twice, and would be counted twice",
+            Part(PartFault::Incomplete) =>
+                "a table is not complete: something was lost or passed over when it was made",
             Merge(MergeFault::Border(_)) | Row(RowFault::Border) =>
                 "a row's interval crosses the border of a day or month",
-            Export(ExportFault::WriteFailed) | Dump(DumpFault::WriteFailed) =>
-                "standard output could not be written",
+            Export(ExportFault::WriteFailed)
+            | Dump(DumpFault::WriteFailed)
+            | Receipt(ReceiptFault::WriteFailed) =>
+                "standard output, or a receipt, could not be written",
             Export(ExportFault::TooManyRows) => "2^32 rows or more, too many for IPFIX",
+            NotAReceipt => "the file is no receipt, or an octet of it was changed",
             PlanText(PlanTextFault::OutOfMemory)
             | Plan(PlanFault::OutOfMemory)
             | Elements(ElementsFault::OutOfMemory)
@@ -76,7 +90,8 @@ impl RunFault {
             | Merge(MergeFault::OutOfMemory)
             | Row(RowFault::OutOfMemory)
             | Export(ExportFault::OutOfMemory)
-            | Dump(DumpFault::OutOfMemory) => explanation_of_message(
+            | Dump(DumpFault::OutOfMemory)
+            | Receipt(ReceiptFault::OutOfMemory) => explanation_of_message(
                 MessageFault::OutOfMemory,
             ).found,
         }
@@ -161,12 +176,30 @@ impl RunFault {
             Row(RowFault::Interval) => "Give all runs, and the merge, the same plan.",
             Row(RowFault::Flows) =>
                 "Merge files that were written with --format ipfix, and not changed since.",
+            Part(PartFault::Receipt) =>
+                "A receipt is FILE.receipt, or the one of --receipt-of. Copy it again, or make the table again\n\
+                with --receipt.",
+            Part(PartFault::NotItsTable) =>
+                "One of the two was changed or cut since, or is of another run. Copy both again, or make them\n\
+                again.",
+            Part(PartFault::OtherPlan) =>
+                "Give the merge the plan and the files that the table was made with; or make it again with\n\
+                those of the merge.",
+            Part(PartFault::InputTwice) | Receipt(ReceiptFault::InputTwice(_, _)) =>
+                "The same line says which ones. Leave one of the two out.",
+            Part(PartFault::Incomplete) =>
+                "Its receipt says what. Make it again of whole inputs, or merge it with --incomplete.",
             Merge(MergeFault::Border(_)) | Row(RowFault::Border) =>
                 "Take intervals of which days are made in the zone, as minutes, or another --zone.",
-            Export(ExportFault::WriteFailed) | Dump(DumpFault::WriteFailed) =>
-                "Look for a full disk, or for a pipe whose reader has ended. What was written is not whole.",
+            Export(ExportFault::WriteFailed)
+            | Dump(DumpFault::WriteFailed)
+            | Receipt(ReceiptFault::WriteFailed) =>
+                "Look for a full disk, or for a pipe whose reader has ended. What was written is not whole.\n\
+                If it is a receipt, its table is whole, and has none.",
             Export(ExportFault::TooManyRows) =>
                 "Write the table as CSV or JSON, or take longer intervals or fewer keys.",
+            NotAReceipt =>
+                "Give verify the FILE of --receipt, as it was written: another program's JSON is another text.",
             PlanText(PlanTextFault::OutOfMemory)
             | Plan(PlanFault::OutOfMemory)
             | Elements(ElementsFault::OutOfMemory)
@@ -174,7 +207,8 @@ impl RunFault {
             | Merge(MergeFault::OutOfMemory)
             | Row(RowFault::OutOfMemory)
             | Export(ExportFault::OutOfMemory)
-            | Dump(DumpFault::OutOfMemory) => explanation_of_message(
+            | Dump(DumpFault::OutOfMemory)
+            | Receipt(ReceiptFault::OutOfMemory) => explanation_of_message(
                 MessageFault::OutOfMemory,
             ).advice,
         }
