@@ -96,11 +96,14 @@ module _ (chosen : Chosen) where
     pub zone : option_map (λ zone. zone.now) told.zone ≡ text_given chosen (codes "zone")
     pub receipts : IsFlagGiven chosen (codes "receipts") told.receipts
     pub receipts_of : map (λ word. word.now) told.receipts_of.now ≡ texts_given chosen (codes "receipt-of")
+    pub receipt : option_map (λ path. path.now) told.receipt ≡ text_given chosen (codes "receipt")
     pub incomplete : IsFlagGiven chosen (codes "incomplete") told.incomplete
 
   pub record IsVerify (told : VerifyArguments) : Type 0 where
     pub receipt : text_given chosen (codes "receipt") ≡ Some told.receipt.now
     pub table : option_map (λ path. path.now) told.table ≡ text_given chosen (codes "table")
+    pub again : map (λ path. path.now) told.again.now ≡ texts_given chosen (codes "again")
+    pub elements : map (λ path. path.now) told.element_files.now ≡ texts_given chosen (codes "elements")
     pub verbose : IsFlagGiven chosen (codes "verbose") told.verbosity.verbose
     pub strict : told.verbosity.strict ≡ false
 

@@ -2,4 +2,5 @@
 pub mod Formats
 pub mod Given
 pub mod MapFiles
+pub mod ReceiptPlaces
 pub mod Zones

@@ -6,11 +6,11 @@ ghost use Rattle.cli_words.specs.Arguments.{OneNumber, reading_of};
 
 use crate::formats::{dump_form, merge_interval, table_format};
 use cli_words::{
-    Argument, BUFFER, Chosen, DIRECT, DUMP_FORMAT, ELEMENTS, EVERY, EXPORTER, FAULT, FILES_FROM,
-    FLOW_FILES, FOLDER, FROM, IDLE, INCOMPLETE, INTO, LISTEN, MERGE_INTO, PEERS, PLAN, PROGRESS,
-    RECEIPT, RECEIPT_FILE, RECEIPT_OF, RECEIPTS, RECORD_IDLE, RECORD_LISTEN, RECORD_SESSIONS,
-    RECORD_VERBOSE, REORDER, RING, SESSIONS, STRICT, Subcommand, TABLE, TABLE_FILES, TABLE_FORMAT,
-    TEMPLATES, TIME, UDP, VERBOSE, WORD, WORKERS, ZONE,
+    AGAIN, Argument, BUFFER, Chosen, DIRECT, DUMP_FORMAT, ELEMENTS, EVERY, EXPORTER, FAULT,
+    FILES_FROM, FLOW_FILES, FOLDER, FROM, IDLE, INCOMPLETE, INTO, LISTEN, MERGE_INTO, PEERS, PLAN,
+    PROGRESS, RECEIPT, RECEIPT_FILE, RECEIPT_OF, RECEIPTS, RECORD_IDLE, RECORD_LISTEN,
+    RECORD_SESSIONS, RECORD_VERBOSE, REORDER, RING, SESSIONS, STRICT, Subcommand, TABLE,
+    TABLE_FILES, TABLE_FORMAT, TEMPLATES, TIME, UDP, VERBOSE, WORD, WORKERS, ZONE,
 };
 use flow_collect::Pool;
 use ipfix_dump::Form;
@@ -29,7 +29,7 @@ pub enum Arguments<'m, 'w> {
     Record(RecordArguments<'m, 'w>),
     Finish(FinishArguments<'w>),
     Merge(MergeArguments<'m, 'w>),
-    Verify(VerifyArguments<'w>),
+    Verify(VerifyArguments<'m, 'w>),
     Elements(ElementsArguments<'m, 'w>),
     Explain(ExplainArguments<'w>),
 }
@@ -140,18 +140,24 @@ pub struct MergeArguments<'m, 'w> {
     pub into: Option<LocalInterval>,
     pub zone: Option<&'w str>,
     /// Whether the files are merged by their receipts; words of those receipts that have other names than FILE.receipt;
-    /// and whether files are merged whose receipts aren't complete, too.
+    /// the path of the receipt of the merged table, if there is to be one; and whether files are merged whose receipts
+    /// aren't complete, too.
     pub receipts: bool,
     pub receipts_of: &'m [&'w str],
+    pub receipt: Option<&'w str>,
     pub incomplete: bool,
 }
 
 /// What `verify` is told.
 #[derive(Clone, Copy)]
-pub struct VerifyArguments<'w> {
+pub struct VerifyArguments<'m, 'w> {
     /// The path of the receipt, and that of the table, if it was given.
     pub receipt: &'w str,
     pub table: Option<&'w str>,
+    /// The paths of the files that the table is made again of.
+    pub again: &'m [&'w str],
+    /// The paths of files of elements, in the order in which they are read.
+    pub element_files: &'m [&'w str],
     pub verbosity: Verbosity,
 }
 
@@ -326,17 +332,20 @@ fn read_merge<'m, 'w>(chosen: Chosen<'m, 'w>) -> Option<MergeArguments<'m, 'w>>
         zone: chosen.text(ZONE),
         receipts: chosen.is_given(RECEIPTS),
         receipts_of: chosen.texts(RECEIPT_OF),
+        receipt: chosen.text(RECEIPT),
         incomplete: chosen.is_given(INCOMPLETE),
     })
 }
 
-fn read_verify<'m, 'w>(chosen: Chosen<'m, 'w>) -> Option<VerifyArguments<'w>>
+fn read_verify<'m, 'w>(chosen: Chosen<'m, 'w>) -> Option<VerifyArguments<'m, 'w>>
     ensures told { IfSome result (IsVerify chosen.entry) }
     ensures each { (told : VerifyArguments) → IsVerify chosen.entry told → IsSome result }
 {
     Some(VerifyArguments {
         receipt: chosen.text(RECEIPT_FILE)?,
         table: chosen.text(TABLE),
+        again: chosen.texts(AGAIN),
+        element_files: chosen.texts(ELEMENTS),
         verbosity: Verbosity {
             verbose: chosen.is_given(VERBOSE),
             strict: false,

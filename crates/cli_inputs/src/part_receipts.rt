@@ -5,11 +5,16 @@ use report_writing::Status;
 use std::alloc::{AllocError, Global};
 use std::io::{Stderr, Write};
 
-/// Sees to it that receipts are asked for if anything is said of them, that no file is standard input then, and that each
-/// word is FILE=RECEIPT, each FILE one of the paths, which stands in one word. If not, `err` has a line.
+/// Sees to it that receipts are asked for if anything is said of them, that no file is standard input then, that the rows of
+/// a table with a receipt have the intervals of the plan, and that each word is FILE=RECEIPT, each FILE one of the paths,
+/// which stands in one word. If not, `err` has a line.
 pub fn check_receipts(arguments: &MergeArguments, err: &mut Stderr) -> Result<(), Status> {
     if let Some(what) = wrong_without_receipts(arguments) {
         let _ = writeln!(err, "error: {what} is of no use without --receipts");
+        return Err(Status::NotOpened);
+    }
+    if arguments.receipt.is_some() && arguments.into.is_some() {
+        let _ = writeln!(err, "error: --receipt can't be given with --into");
         return Err(Status::NotOpened);
     }
     if arguments.receipts && arguments.paths.contains(&"-") {
@@ -35,6 +40,8 @@ fn wrong_without_receipts(arguments: &MergeArguments) -> Option<&'static str> {
         None
     } else if !arguments.receipts_of.is_empty() {
         Some("--receipt-of")
+    } else if arguments.receipt.is_some() {
+        Some("--receipt")
     } else if arguments.incomplete {
         Some("--incomplete")
     } else {

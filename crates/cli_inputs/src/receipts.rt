@@ -5,15 +5,18 @@ ghost use Rattle.std.specs.Prelude.{⊤};
 use crate::arguments::{CollectArguments, TableArguments};
 use crate::inputs::{load_from, load_table_plan};
 use crate::plan_maps::{MapsOfPlan, load_plan_maps};
+use crate::receipt_place::is_of_part;
 use cli_words::VERSION;
 use command_receipt::{MadeWith, ReceiptFault, RunFault, SystemPlace, write_run_fault};
+use element_registry::Elements;
 use flow_maps::Maps;
-use input_files::ReadText;
+use input_files::{ReadText, load_elements};
 use input_sources::LoadedPlan;
-use report_writing::{CheckedWriter, Reason, Status, write_not_had_because};
+use report_writing::{CheckedWriter, Reason, Status, Verbosity, write_not_had_because};
 use sha2::{Digest, Sha256};
 use std::alloc::{AllocError, Global};
 use std::io::Stderr;
+use table_parts::PartFiles;
 use table_receipts::FileReceipt;
 
 /// Where a receipt is put, and what it says beside the run.
@@ -32,6 +35,34 @@ pub struct PlanAndReceipt<'r> {
     pub receipt: Option<ReceiptTo<'r>>,
 }
 
+/// What names elements, and what a receipt says of the files of elements among it.
+#[derive(Drop)]
+pub struct KnownElements {
+    pub elements: Elements,
+    pub files: Vec<FileReceipt>,
+}
+
+/// Loads files of elements. `err` has a line if one can't be had or has a fault.
+pub fn load_known(
+    rt: &HostRuntime,
+    paths: &[&str],
+    verbosity: Verbosity,
+    err: &mut Stderr,
+) -> Result<KnownElements, Status> {
+    let alloc = rt.alloc();
+    let Ok(texts) = KeptTexts::of(rt, paths, None) else {
+        return Err(without_memory(err));
+    };
+    let mut told = CheckedWriter::new(rt.stderr());
+    let elements = load_elements(&texts, alloc, paths, verbosity, &mut told).ok_or(
+        Status::NotOpened,
+    )?;
+    match texts.files(alloc) {
+        Ok(files) => Ok(KnownElements { elements, files }),
+        Err(AllocError) => Err(without_memory(err)),
+    }
+}
+
 /// Loads the plan and its maps, and makes the place of its receipt. `err` has a line if it can't be made.
 pub fn load_with_receipt<'r>(
     rt: &'r HostRuntime,
@@ -48,7 +79,7 @@ pub fn load_with_receipt<'r>(
             receipt: None,
         });
     };
-    let Ok(texts) = KeptTexts::of(rt, table) else {
+    let Ok(texts) = KeptTexts::of(rt, table.element_files, Some(table.plan)) else {
         return Err(without_memory(err));
     };
     let loaded = load_from(rt, &texts, table).ok_or(Status::NotOpened)?;
@@ -56,17 +87,48 @@ pub fn load_with_receipt<'r>(
     let Ok(made) = texts.made(rt.alloc(), files) else {
         return Err(without_memory(err));
     };
+    let place = make_place(rt, path, table.verbosity, err)?;
+    Ok(PlanAndReceipt {
+        loaded,
+        maps,
+        receipt: Some(ReceiptTo { place, made }),
+    })
+}
+
+// Makes the place of a receipt. `err` has a line if it can't be made.
+fn make_place<'r>(
+    rt: &'r HostRuntime,
+    path: &str,
+    verbosity: Verbosity,
+    err: &mut Stderr,
+) -> Result<SystemPlace<'r>, Status> {
     match SystemPlace::make(rt, rt.alloc(), path) {
-        Ok(place) => Ok(PlanAndReceipt {
-            loaded,
-            maps,
-            receipt: Some(ReceiptTo { place, made }),
-        }),
+        Ok(place) => Ok(place),
         Err(reason) => {
-            let _ = write_not_had_because(table.verbosity, "open", path, reason, err);
+            let _ = write_not_had_because(verbosity, "open", path, reason, err);
             Err(Status::NotOpened)
         }
     }
+}
+
+/// The place of the receipt of the table of these parts, if there is to be one. `err` has a line if it can't be made, or is
+/// a file of a part.
+pub fn merged_place<'r>(
+    rt: &'r HostRuntime,
+    receipt: Option<&str>,
+    parts: &[PartFiles],
+    verbosity: Verbosity,
+    err: &mut Stderr,
+) -> Result<Option<SystemPlace<'r>>, Status> {
+    let Some(path) = receipt else {
+        return Ok(None);
+    };
+    if is_of_part(rt, path, parts) {
+        let _ = write_not_had_because(verbosity, "open", path, Reason::NotValid, err);
+        return Err(Status::NotOpened);
+    }
+    let place = make_place(rt, path, verbosity, err)?;
+    Ok(Some(place))
 }
 
 /// A plan, and what a receipt says of it.
@@ -82,7 +144,7 @@ pub fn load_plan_made(
     table: &TableArguments,
     err: &mut Stderr,
 ) -> Result<PlanMade, Status> {
-    let Ok(texts) = KeptTexts::of(rt, table) else {
+    let Ok(texts) = KeptTexts::of(rt, table.element_files, Some(table.plan)) else {
         return Err(without_memory(err));
     };
     let loaded = load_from(rt, &texts, table).ok_or(Status::NotOpened)?;
@@ -132,49 +194,64 @@ impl KeptText {
     }
 }
 
-// The texts of a plan and of the files of elements that it is read with.
+// The texts of files of elements, and of a plan that is read with them, if there is one.
 #[derive(Drop)]
 struct KeptTexts {
-    plan: KeptText,
+    plan: Option<KeptText>,
     elements: Vec<KeptText>,
 }
 
 impl KeptTexts {
-    fn of(rt: &HostRuntime, arguments: &TableArguments) -> Result<KeptTexts, AllocError> {
+    fn of(
+        rt: &HostRuntime,
+        element_files: &[&str],
+        plan: Option<&str>,
+    ) -> Result<KeptTexts, AllocError> {
         let mut elements = Vec::new(rt.alloc());
-        for path in arguments.element_files {
+        for path in element_files {
             elements.push(KeptText::of(rt, path)?)?;
         }
-        Ok(KeptTexts {
-            plan: KeptText::of(rt, arguments.plan)?,
-            elements,
-        })
+        let plan = match plan {
+            Some(path) => Some(KeptText::of(rt, path)?),
+            None => None,
+        };
+        Ok(KeptTexts { plan, elements })
     }
 
-    // The text of a path.
-    fn find(&self, path: &str) -> &Result<Vec<u8>, Reason> {
+    // The text of a path, which is that of the plan if no file of elements has it.
+    fn find(&self, path: &str) -> Option<&KeptText> {
         for kept in &self.elements {
             if kept.path.as_str() == path {
-                return &kept.text;
+                return Some(kept);
             }
         }
-        &self.plan.text
+        self.plan.as_ref()
+    }
+
+    // What a receipt says of the files of elements.
+    fn files(&self, alloc: Global) -> Result<Vec<FileReceipt>, AllocError> {
+        let mut files = Vec::with_capacity(alloc, self.elements.len())?;
+        for kept in &self.elements {
+            files.push(file_of(alloc, kept)?)?;
+        }
+        Ok(files)
     }
 
     // What a receipt says of them, and of these files of maps.
     fn made(self, alloc: Global, maps: Vec<FileReceipt>) -> Result<MadeWith, AllocError> {
-        let mut elements = Vec::with_capacity(alloc, self.elements.len())?;
-        for kept in &self.elements {
-            elements.push(file_of(alloc, kept)?)?;
-        }
-        let plan = match &self.plan.text {
-            Ok(octets) => String::from_utf8_lossy(alloc, octets)?,
-            Err(_) => String::new(alloc),
+        let plan = match &self.plan {
+            Some(
+                KeptText {
+                    text: Ok(octets),
+                    ..
+                },
+            ) => String::from_utf8_lossy(alloc, octets)?,
+            _ => String::new(alloc),
         };
         Ok(MadeWith {
             collectd: String::from_str(alloc, VERSION)?,
             plan,
-            elements,
+            elements: self.files(alloc)?,
             maps,
         })
     }
@@ -199,7 +276,10 @@ impl ReadText for KeptTexts {
     ghost refuses = { λ _ _ _. ⊤ };
 
     fn read_text(&self, alloc: Global, path: &str) -> Result<Vec<u8>, Reason> {
-        match self.find(path) {
+        let Some(kept) = self.find(path) else {
+            return Err(Reason::NoSuchFile);
+        };
+        match &kept.text {
             Ok(octets) => match Vec::from_slice(alloc, octets) {
                 Ok(copy) => Ok(copy),
                 Err(AllocError) => Err(Reason::OutOfMemory),

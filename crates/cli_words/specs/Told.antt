@@ -5,7 +5,7 @@ use Rattle.clap.specs.declared.builder.action.ArgAction.{ArgAction}
 use Rattle.clap.specs.declared.builder.action.ArgAction.TheVariants.{Append, Count, SetTrue}
 use Rattle.cli_words.specs.declared.arguments.Argument.{Argument}
 use Rattle.cli_words.specs.declared.arguments.Takes.{Takes}
-use Rattle.cli_words.specs.declared.arguments.Takes.TheVariants.{Nothing, Nothings, Text, Texts, Word, Number, Bare, Bares}
+use Rattle.cli_words.specs.declared.arguments.Takes.TheVariants.{Nothing, Nothings, Text, Texts, Listed, Word, Number, Bare, Bares}
 use Rattle.cli_words.specs.declared.arguments.Due.{Due}
 use Rattle.cli_words.specs.declared.arguments.Due.TheVariants.{Never, Always, Without, Default}
 
@@ -15,6 +15,7 @@ long_word (Nothing letter) word = Some word
 long_word Nothings word = Some word
 long_word (Text value) word = Some word
 long_word (Texts value) word = Some word
+long_word (Listed value) word = Some word
 long_word (Word value words) word = Some word
 long_word (Number value least most) word = Some word
 long_word (Bare value) word = None
@@ -26,6 +27,7 @@ action_of (Nothing letter) = Some SetTrue
 action_of Nothings = Some Count
 action_of (Text value) = None
 action_of (Texts value) = Some Append
+action_of (Listed value) = Some Append
 action_of (Word value words) = None
 action_of (Number value least most) = None
 action_of (Bare value) = None

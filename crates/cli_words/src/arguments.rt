@@ -33,6 +33,8 @@ pub enum Takes {
     Text(&'static str),
     /// A text, each time that it is given.
     Texts(&'static str),
+    /// Texts, at least one behind each other, each time that it is given.
+    Listed(&'static str),
     /// One of these words.
     Word(&'static str, &'static [&'static str]),
     /// A whole number, from the first to the last.
@@ -89,6 +91,10 @@ fn after_word<'a>(arg: Arg<'a>, takes: Takes) -> Arg<'a>
         Takes::Nothings => arg.action(ArgAction::Count),
         Takes::Text(value) | Takes::Bare(value) | Takes::Bares(value) => arg.value_name(value),
         Takes::Texts(value) => arg.value_name(value).action(ArgAction::Append),
+        Takes::Listed(value) => arg
+            .value_name(value)
+            .action(ArgAction::Append)
+            .num_args(1..),
         Takes::Word(value, words) => arg.value_name(value).value_parser(words),
         Takes::Number(value, least, most) => arg
             .value_name(value)

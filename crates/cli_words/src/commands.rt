@@ -7,9 +7,9 @@ use crate::listen_options::{
     RECORD_VERBOSE, REORDER, SESSIONS, TEMPLATES, UDP,
 };
 use crate::options::{
-    DIRECT, DUMP_FORMAT, ELEMENTS, EXPORTER, FILES_FROM, INCOMPLETE, MERGE_INTO, MERGE_STRICT,
-    PLAN, PROGRESS, RECEIPT, RECEIPT_OF, RECEIPTS, RING, STRICT, TABLE, TABLE_FORMAT, TIME,
-    VERBOSE, WORKERS, ZONE,
+    AGAIN, DIRECT, DUMP_FORMAT, ELEMENTS, EXPORTER, FILES_FROM, INCOMPLETE, MERGE_INTO,
+    MERGE_RECEIPT, MERGE_STRICT, PLAN, PROGRESS, RECEIPT, RECEIPT_OF, RECEIPTS, RING, STRICT,
+    TABLE, TABLE_FORMAT, TIME, VERBOSE, WORKERS, ZONE,
 };
 
 /// A command.
@@ -107,6 +107,7 @@ pub const MERGE: CommandWords = CommandWords {
         ZONE,
         RECEIPTS,
         RECEIPT_OF,
+        MERGE_RECEIPT,
         INCOMPLETE,
         VERBOSE,
         MERGE_STRICT,
@@ -115,10 +116,10 @@ pub const MERGE: CommandWords = CommandWords {
 };
 
 pub const VERIFY: CommandWords = CommandWords {
-    about: "Compares a table with its receipt",
-    example: "Example:\n  collectd verify table.csv.receipt",
+    about: "Compares a table with its receipt, and with the one that files give",
+    example: "Example:\n  collectd verify table.csv.receipt --again one.ipfix two.ipfix",
     shared: &[],
-    own: &[TABLE, VERBOSE, RECEIPT_FILE],
+    own: &[TABLE, AGAIN, ELEMENTS, VERBOSE, RECEIPT_FILE],
 };
 
 pub const LIST_ELEMENTS: CommandWords = CommandWords {

@@ -73,7 +73,7 @@ pub const PEERS: Argument = Argument {
     word: "peers",
     takes: Takes::Number("N", 1, 65536),
     due: Due::Default("1024"),
-    help: "How many peers that send datagrams are kept at once, 1 to 65536; when one more appears, the one silent longest is dropped",
+    help: "How many peers that send datagrams are kept at once, 1 to 65536; when one more begins, one is dropped, first one without a template",
 };
 
 /// For how long a datagram may wait for those before it.

@@ -80,8 +80,11 @@ pub const TIME: Argument = Argument {
     help: "The export time in the messages of --format ipfix, in seconds since 1970-01-01 UTC",
 };
 
+// The word of an option that says more for `merge`.
+const RECEIPT_WORD: &str = "receipt";
+
 pub const RECEIPT: Argument = Argument {
-    word: "receipt",
+    word: RECEIPT_WORD,
     takes: Takes::Text("FILE"),
     due: Due::Never,
     help: "Write to FILE, when the table is written, what it was made of; a receipt that FILE has is replaced",
@@ -93,6 +96,14 @@ pub const TABLE: Argument = Argument {
     takes: Takes::Text("FILE"),
     due: Due::Never,
     help: "The table, if it isn't the receipt's path without '.receipt' at its end",
+};
+
+/// The files that the table of a receipt is made again of.
+pub const AGAIN: Argument = Argument {
+    word: "again",
+    takes: Takes::Listed("FILE"),
+    due: Due::Never,
+    help: "Make the table again of these files, in any order, and compare what they give with the receipt",
 };
 
 pub const PROGRESS: Argument = Argument {
@@ -152,6 +163,14 @@ pub const RECEIPT_OF: Argument = Argument {
     takes: Takes::Texts("FILE=RECEIPT"),
     due: Due::Never,
     help: "With --receipts: the receipt that FILE has; may be repeated",
+};
+
+/// The receipt of a merged table.
+pub const MERGE_RECEIPT: Argument = Argument {
+    word: RECEIPT_WORD,
+    takes: Takes::Text("FILE"),
+    due: Due::Never,
+    help: "With --receipts: write to FILE, when the table is written, what all its files were made of",
 };
 
 /// Whether `merge` takes parts that aren't complete.

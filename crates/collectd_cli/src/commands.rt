@@ -7,18 +7,18 @@ ghost use Rattle.flow_plan_maps.specs.Wants.{wanted_context as context_wanted};
 ghost use Rattle.flow_merge.specs.RowRecords.{AreOrdered, CanTakeRows};
 
 use cli_inputs::{
-    CollectArguments, Collecting, DumpArguments, FilesArguments, MergeArguments, PlanMade,
-    ProgressOutput, ReceiptTo, TableArguments, TcpArguments, VerifyArguments, all_paths,
-    buffered_output, check_exporters, check_paths, check_receipts, listen_on, load_plan_made,
-    load_table_plan, place_exporters, prepare_collecting, progress_writer, read_list,
-    receipt_paths, table_output, write_refused_output, zone_borders,
+    CollectArguments, Collecting, DumpArguments, FilesArguments, KnownElements, MergeArguments,
+    PlanMade, ProgressOutput, ReceiptTo, TableArguments, TcpArguments, VerifyArguments, all_paths,
+    buffered_output, check_exporters, check_paths, check_receipts, listen_on, load_known,
+    load_plan_made, load_table_plan, merged_place, place_exporters, prepare_collecting,
+    progress_writer, read_list, receipt_paths, table_output, write_refused_output, zone_borders,
 };
 use command_collect::{
     CollectJob, Connections, Engine, run_files_with, run_tcp_with, write_collect_fault, write_limit,
 };
 use command_dump::{DumpJob, run_dump_with, write_dump_fault};
 use command_merge::{MergeJob, run_merge_with};
-use command_merge_receipts::{PartsJob, run_merge_parts};
+use command_merge_receipts::{MergedEnd, MergedTo, PartsJob, run_merge_parts};
 use command_receipt::{Ended, Receipted, SystemPlace, run_files_receipted, run_tcp_receipted};
 use command_verify::{VerifyJob, run_verify, table_of_receipt};
 use flow_collect::{CollectFault, Pool};
@@ -327,7 +327,8 @@ fn merge_parts(
     let Ok(parts) = part_files(alloc, arguments.paths, &receipts) else {
         return Err(without_memory(err));
     };
-    let mut out = table_output(rt, err)?;
+    let out = table_output(rt, err)?;
+    let place = merged_place(rt, arguments.receipt, &parts, table.verbosity, err)?;
     let job = PartsJob {
         merge: merge_job(&loaded, table, intervals_of(borders)),
         plan: PlanAtHand {
@@ -337,11 +338,23 @@ fn merge_parts(
         },
         parts: &parts,
         incomplete: arguments.incomplete,
+        collectd: made.collectd.as_str(),
     };
     let told = &mut CheckedWriter::new(rt.stderr());
-    let status = run_merge_parts(rt, alloc, &job, &mut out, told);
+    let ended = run_merge_parts(rt, alloc, &job, MergedTo { out, place }, told);
+    let TableWritten { status, out } = merge_settled(ended);
     write_refused_output(table.verbosity, &out, err);
     Ok(status)
+}
+
+// Leaves nothing of a receipt that there was to be, and that wasn't put.
+fn merge_settled(ended: MergedEnd<BufWriter<WithReason<Stdout>>, SystemPlace>) -> TableWritten {
+    let MergedEnd { status, to } = ended;
+    let MergedTo { out, place } = to;
+    match place {
+        Some(place) => settled(Ended { status, out, place }),
+        None => TableWritten { status, out },
+    }
 }
 
 // The files of parts, by their places.
@@ -361,10 +374,16 @@ fn part_files<'a>(
 }
 
 /// `collectd verify`: a table compared with its receipt.
-pub fn verify(rt: &HostRuntime, arguments: &VerifyArguments) -> Result<Status, Status> {
+pub fn verify<R: Clock + Threads + Wait + Sync>(
+    threads: &R,
+    rt: &HostRuntime,
+    arguments: &VerifyArguments,
+) -> Result<Status, Status> {
     let VerifyArguments {
         receipt,
         table,
+        again,
+        element_files,
         verbosity,
     } = *arguments;
     let Some(table) = table.or(table_of_receipt(receipt)) else {
@@ -373,13 +392,26 @@ pub fn verify(rt: &HostRuntime, arguments: &VerifyArguments) -> Result<Status, S
         );
         return Err(Status::NotOpened);
     };
+    let mut err = rt.stderr();
+    check_paths(again, None, &mut err)?;
+    let KnownElements { elements, files } = load_known(rt, element_files, verbosity, &mut err)?;
     let job = VerifyJob {
         receipt,
         table,
+        again,
+        element_files: &files,
         verbosity,
     };
-    let mut err = CheckedWriter::new(rt.stderr());
-    Ok(run_verify(rt, rt.alloc(), &job, &mut err))
+    Ok(run_verify(
+        threads,
+        rt.alloc(),
+        rt,
+        &mut FilesInTurn::new(rt, rt.alloc()),
+        elements,
+        &job,
+        None::<ProgressOutput>,
+        &mut CheckedWriter::new(rt.stderr()),
+    ))
 }
 
 // The intervals that rows are put in: those between borders, if there are some.

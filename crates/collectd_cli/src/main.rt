@@ -64,7 +64,7 @@ fn run_command<R: Clock + Threads + Wait + Sync>(
         Some(Arguments::Record(arguments)) => record(threads, rt, &arguments),
         Some(Arguments::Finish(arguments)) => finish(rt, &arguments),
         Some(Arguments::Merge(arguments)) => commands::merge(rt, &arguments),
-        Some(Arguments::Verify(arguments)) => commands::verify(rt, &arguments),
+        Some(Arguments::Verify(arguments)) => commands::verify(threads, rt, &arguments),
         Some(Arguments::Elements(arguments)) => guides::elements(rt, &arguments),
         Some(Arguments::Explain(arguments)) => Ok(guides::explain(rt, &arguments)),
         // (the parser lets no other words through)

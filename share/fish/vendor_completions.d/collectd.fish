@@ -16,7 +16,7 @@ complete -c collectd -l help -d 'Print help'
 complete -c collectd -n '__fish_seen_subcommand_from help' -a 'dump files tcp record finish merge verify elements explain'
 # (the names of the faults, as the program lists them)
 complete -c collectd -n '__fish_seen_subcommand_from explain' -a "(command -q collectd; and collectd explain 2> /dev/null | string replace -r '^(?:\d+ )?(\w+):? ' '\$1\t')"
-complete -c collectd -n '__fish_seen_subcommand_from dump files tcp merge elements' -l elements -r -F -d 'A file of elements'
+complete -c collectd -n '__fish_seen_subcommand_from dump files tcp merge verify elements' -l elements -r -F -d 'A file of elements'
 complete -c collectd -n '__fish_seen_subcommand_from dump' -l format -x -a 'text json' -d 'How a data record is written'
 complete -c collectd -n '__fish_seen_subcommand_from files merge verify' -F
 complete -c collectd -n '__fish_seen_subcommand_from files tcp merge' -l plan -r -F -d 'The plan of the aggregation'
@@ -28,10 +28,11 @@ complete -c collectd -n '__fish_seen_subcommand_from files' -l exporter -x -d 'F
 complete -c collectd -n '__fish_seen_subcommand_from files tcp merge' -l format -x -a 'csv ipfix json' -d 'How the table is written'
 complete -c collectd -n '__fish_seen_subcommand_from files tcp merge' -l time -x -d 'The export time in the messages of ipfix'
 complete -c collectd -n '__fish_seen_subcommand_from files tcp' -l progress -d 'Show how much each session has read'
-complete -c collectd -n '__fish_seen_subcommand_from files tcp' -l receipt -r -F -d 'Write to FILE what the table was made of'
+complete -c collectd -n '__fish_seen_subcommand_from files tcp merge' -l receipt -r -F -d 'Write to FILE what the table was made of'
 complete -c collectd -n '__fish_seen_subcommand_from dump files tcp record merge verify' -s v -l verbose -d 'Print more on standard error'
 complete -c collectd -n '__fish_seen_subcommand_from dump files tcp merge' -l strict -d 'End with status 1 if anything was lost'
 complete -c collectd -n '__fish_seen_subcommand_from verify' -l table -r -F -d 'The table'
+complete -c collectd -n '__fish_seen_subcommand_from verify' -l again -r -F -d 'Make the table again of these files'
 complete -c collectd -n '__fish_seen_subcommand_from tcp record' -l listen -x -d 'The TCP address and port to listen on'
 complete -c collectd -n '__fish_seen_subcommand_from tcp record' -l sessions -x -d 'How many connections'
 complete -c collectd -n '__fish_seen_subcommand_from tcp record' -l idle -x -d 'How many seconds a peer may send nothing'
