@@ -33,7 +33,7 @@ pub enum Takes {
     Text(&'static str),
     /// A text, each time that it is given.
     Texts(&'static str),
-    /// Texts, at least one behind each other, each time that it is given.
+    /// Texts, one or more of them after it, each time that it is given.
     Listed(&'static str),
     /// One of these words.
     Word(&'static str, &'static [&'static str]),

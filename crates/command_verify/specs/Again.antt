@@ -51,7 +51,7 @@ given_differ job said = elements_differ (map file_value job.element_files.now) s
 -- ---- how it ended
 
 module _ (said : ReceiptValue) (table : List ℕ) (status : Status) where
-  -- the table alone is compared, and this is told behind what differs, unless memory runs out
+  -- the table alone is compared, and this is told after what differs, unless memory runs out
   abbrev pub ComparesAlone : List ℕ → (List ℕ → Type 0) → Type 0
   ComparesAlone behind AreTold =
       TellsDifferences said (table_differs said.table table ++ behind) status AreTold

@@ -54,7 +54,7 @@ pub fn compare_files<
     }
 }
 
-// Compares a table with its receipt, and tells this behind what differs.
+// Compares a table with its receipt, and tells this after what differs.
 fn compare_alone<E: WriteLines>(
     alloc: Global,
     there: &TableThere,
@@ -190,7 +190,7 @@ fn tell_again<S: Source + Send + Drop, E: WriteLines, R: Threads + Wait + Sync>(
     }
 }
 
-// The lines of what differs in a table, and these behind them.
+// The lines of what differs in a table, and these after them.
 fn differences_of(
     alloc: Global,
     said: &TableReceipt,
