@@ -15,13 +15,17 @@ mod text;
 
 use element::{Element, Kind};
 use session::{Fault, Session};
-use std::collections::BTreeMap;
+use std::collections::{BTreeMap, HashMap};
 use std::fs;
 use std::path::Path;
 use std::process::ExitCode;
 
 const HEADER: usize = 16;
 const LATEST: u64 = 1 << 50;
+/// After so many milliseconds an uptime begins anew.
+const ROUND: u64 = 1 << 32;
+/// From 1900 to 1970, in seconds.
+const TO_1970: u32 = 2_208_988_800;
 
 struct Key {
     element: Element,
@@ -50,6 +54,8 @@ struct Plan {
     length: u64,
     method: String,
     max_spread: u64,
+    /// Whether times of every kind are read.
+    all_times: bool,
     keys: Vec<Key>,
     counters: Vec<Element>,
     conditions: Vec<Condition>,
@@ -168,6 +174,7 @@ fn read_plan(file: &Path) -> Result<Plan, PlanFault> {
         length: value_of(text, "interval_ms").parse().expect("a number"),
         method: value_of(text, "method").trim_matches('"').to_string(),
         max_spread: value_of(text, "max_spread").parse().expect("a number"),
+        all_times: text.lines().any(|line| line == "times = \"all\""),
         keys,
         counters: counters.collect::<Result<_, _>>()?,
         conditions: tables.split("[[where]]").skip(1).map(|condition| condition_of(condition, &map_keys)).collect(),
@@ -223,7 +230,14 @@ fn fault_of(plan: &Plan, has_map: bool, keys: &[&str], counters: &[&str]) -> Opt
         };
         ("6 Plan: fault 4 KeyKind", "keys", format!("\"{}\": {words}", keys[at]))
     } else if let Some(at) = bad_prefix {
-        ("6 Plan: fault 9 Prefix", "keys", format!("\"{}\": only IPv4 addresses take a prefix, 0 to 32, and IPv6 addresses, 0 to 128", keys[at]))
+        let words = match has_map {
+            true => {
+                "only sourceIPv4Address and destinationIPv4Address take a prefix, 0 to 32, and sourceIPv6Address and \
+                 destinationIPv6Address, 0 to 128"
+            }
+            false => "only IPv4 addresses take a prefix, 0 to 32, and IPv6 addresses, 0 to 128",
+        };
+        ("6 Plan: fault 9 Prefix", "keys", format!("\"{}\": {words}", keys[at]))
     } else if !(1..=4).contains(&plan.counters.len()) {
         ("6 Plan: fault 5 CounterCount", "counters", format!("{} elements, must be 1 to 4", counters.len()))
     } else if let Some(at) = bad_counter {
@@ -252,17 +266,74 @@ fn fault_of(plan: &Plan, has_map: bool, keys: &[&str], counters: &[&str]) -> Opt
     Some(PlanFault::new(name, key, &words))
 }
 
-/// A record: whether it has scope fields, and its fields as their names and texts.
+/// A record: the domain and the export time (in seconds) of its message, how many scope fields it has, and its fields as
+/// their names and texts.
 struct Record<'a> {
-    is_options: bool,
+    domain: u64,
+    export_time: u64,
+    scope: usize,
     fields: Vec<(&'a str, &'a str)>,
 }
 
 impl Record<'_> {
     fn of_line(line: &str) -> Record<'_> {
         let mut words = line.split(' ').map(|word| word.split_once('=').expect("a word has a value"));
-        let is_options = words.nth(3).is_some_and(|(_, scope)| scope != "0");
-        Record { is_options, fields: words.collect() }
+        let mut number = || words.next().map_or(0, |(_, number)| number.parse().expect("a number"));
+        let (domain, _template, export_time, scope) = (number(), number(), number(), number());
+        Record { domain, export_time, scope: scope as usize, fields: words.collect() }
+    }
+
+    /// The octets of the first field of an element that has no name here.
+    fn octets(&self, number: u16) -> Option<Vec<u8>> {
+        let name = name_of(Element { pen: 0, number });
+        let (_, text) = self.fields.iter().find(|(of, _)| *of == name)?;
+        let digits = text.strip_prefix("0x").expect("it is written in hexadecimal");
+        Some((0..digits.len()).step_by(2).map(|at| u8::from_str_radix(&digits[at..at + 2], 16).expect("digits")).collect())
+    }
+
+    /// An unsigned32, in up to four octets.
+    fn unsigned(&self, number: u16) -> Option<u64> {
+        self.octets(number).filter(|octets| (1..=4).contains(&octets.len())).map(|octets| big_number(&octets))
+    }
+
+    /// A time in the format of NTP, in milliseconds; of microseconds the lowest 11 bits aren't read.
+    fn instant(&self, number: u16, mask: u64) -> Option<u64> {
+        let octets = self.octets(number).filter(|octets| octets.len() == 8)?;
+        let (seconds, fraction) = (big_number(&octets[..4]) as u32, big_number(&octets[4..]) & mask);
+        Some(u64::from(seconds.wrapping_sub(TO_1970)) * 1000 + (fraction * 1000 >> 32))
+    }
+
+    /// A time that is so many microseconds before the export time.
+    fn before_export(&self, number: u16) -> Option<u64> {
+        (self.export_time * 1_000_000).checked_sub(self.unsigned(number)?).map(|time| time / 1000)
+    }
+
+    fn duration(&self) -> Option<u64> {
+        self.unsigned(161).or_else(|| Some(self.unsigned(162)? / 1000))
+    }
+
+    /// The start and the end, of every kind; `told` is when the exporter was started, as options records told it.
+    fn times(&self, told: Option<u64>) -> (Option<u64>, Option<u64>) {
+        let element = |millis, seconds, micros, nanos, delta| {
+            let fine = || self.instant(micros, !0 << 11).or_else(|| self.instant(nanos, !0)).or_else(|| self.before_export(delta));
+            self.time(millis, seconds).or_else(fine)
+        };
+        let (start, end) = (element(152, 150, 154, 156, 158), element(153, 151, 155, 157, 159));
+        let started = match self.octets(160) {
+            Some(octets) => Some(big_number(&octets)).filter(|_| octets.len() == 8),
+            None => told,
+        };
+        let fits = |time: &u64| *time < LATEST;
+        let counted = |number| started?.checked_add(self.unsigned(number)?).filter(fits);
+        let after = |start: Option<u64>| Some(start? + self.duration()?).filter(fits);
+        // (nothing is guessed: the end is not after the message, and the count didn't begin anew between them)
+        let ended = end.or_else(|| counted(21)).or_else(|| after(counted(22)));
+        let exported = self.export_time * 1000 + 1000;
+        let is_sure = |time: &u64| ended.is_some_and(|end| end <= exported && exported < end + ROUND && end < time + ROUND);
+        let start = start.or_else(|| counted(22).filter(is_sure));
+        let end = end.or_else(|| counted(21).filter(is_sure));
+        let before = |end: Option<u64>| end?.checked_sub(self.duration()?);
+        (start.or_else(|| before(end)), end.or_else(|| after(start)))
     }
 
     /// The text of the first field of an element, if it has a value.
@@ -279,6 +350,28 @@ impl Record<'_> {
     fn time(&self, millis: u16, seconds: u16) -> Option<u64> {
         let fits = |time: &u64| *time < LATEST;
         self.number(millis).filter(fits).or_else(|| self.number(seconds).map(|time| time * 1000).filter(fits))
+    }
+}
+
+fn big_number(octets: &[u8]) -> u64 {
+    octets.iter().fold(0, |number, octet| number << 8 | u64::from(*octet))
+}
+
+/// What options records told so far: when the exporter of a domain was started.
+#[derive(Default)]
+struct Told(HashMap<u64, u64>);
+
+impl Told {
+    /// What is known of a record's exporter: what was told of its domain, else of domain 0.
+    fn of(&self, record: &Record) -> Option<u64> {
+        self.0.get(&record.domain).or_else(|| self.0.get(&0)).copied()
+    }
+
+    /// An options record speaks of the domain among its scope fields, or else of that of its message.
+    fn note(&mut self, record: &Record) {
+        let Some(started) = record.octets(160).filter(|octets| record.scope > 0 && octets.len() == 8) else { return };
+        let scope = Record { fields: record.fields[..record.scope].to_vec(), ..*record };
+        self.0.insert(scope.unsigned(149).unwrap_or(record.domain), big_number(&started));
     }
 }
 
@@ -380,20 +473,21 @@ struct Table {
 }
 
 impl Table {
-    fn add(&mut self, plan: &Plan, record: &Record) {
-        if !record.is_options && !plan.conditions.iter().all(|condition| holds(condition, plan, record)) {
+    fn add(&mut self, plan: &Plan, record: &Record, started: Option<u64>) {
+        if record.scope == 0 && !plan.conditions.iter().all(|condition| holds(condition, plan, record)) {
             self.filtered += 1;
             return;
         }
-        self.tally[self.class(plan, record)] += 1;
+        self.tally[self.class(plan, record, started)] += 1;
     }
 
     /// Adds a record if it is used, and gives its class.
-    fn class(&mut self, plan: &Plan, record: &Record) -> usize {
-        if record.is_options {
+    fn class(&mut self, plan: &Plan, record: &Record, started: Option<u64>) -> usize {
+        if record.scope > 0 {
             return 1;
         }
-        let (Some(start), Some(end)) = (record.time(152, 150), record.time(153, 151)) else { return 2 };
+        let times = if plan.all_times { record.times(started) } else { (record.time(152, 150), record.time(153, 151)) };
+        let (Some(start), Some(end)) = times else { return 2 };
         if end < start {
             return 3;
         }
@@ -470,9 +564,13 @@ fn main() -> ExitCode {
     };
     let (mut table, mut texts, mut status) = (Table::default(), String::new(), 0);
     for (file, number) in words[1..].iter().zip(1..) {
-        let mut session = Session::default();
+        let (mut session, mut told) = (Session::default(), Told::default());
         let octets = fs::read(file).map_err(|_| Fault::ReadFailed);
-        let ended = octets.and_then(|octets| read_session(&octets, &mut session, |record| table.add(&plan, record)));
+        let take = |record: &Record| {
+            table.add(&plan, record, told.of(record));
+            told.note(record);
+        };
+        let ended = octets.and_then(|octets| read_session(&octets, &mut session, take));
         for domain in session.domains.iter().filter(|domain| domain.lost > 0 || domain.backward > 0) {
             let (lost, backward) = (domain.lost, domain.backward);
             texts += &format!("collectd: session {number}: domain {}: lost {lost} backward {backward}\n", domain.number);

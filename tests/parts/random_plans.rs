@@ -2,10 +2,11 @@
 //! FOLDER/COUNT-1, each with plan.toml, the file of its map, if it has one, and one to three files session-1 and on.
 //!
 //! A plan has up to three keys and four counters, any method, and an interval from 1 ms to an hour; every twentieth
-//! has something that makes it no plan. Every third has a map and a key or two of it, and every third conditions. A session's template has most of what the plan reads, in any order, some of it
-//! with a reduced, a wrong or a variable width; its flows lie close together, so that many share a row, and some are
-//! backward, long, or too late to have a time. Every fourth session is damaged somewhere. The same words give the same
-//! files.
+//! has something that makes it no plan. Every third has a map and a key or two of it, every third conditions, and every
+//! third reads times of every kind: then options records say when the exporter was started. A session's template has most
+//! of what the plan reads, in any order, some of it with a reduced, a wrong or a variable width; its flows lie close
+//! together, so that many share a row, and some are backward, long, or too late to have a time. Every fourth session is
+//! damaged somewhere. The same words give the same files.
 
 mod damage;
 mod numbers;
@@ -44,12 +45,29 @@ const IPV6: &[u128] = &[0, 1, 2, 250, 0xffff_c000_0201, 0x2001_0db8 << 96];
 
 const VARIABLE: u16 = 65535;
 
+/// The export time of all messages, in seconds.
+const EXPORTED: u64 = 1_700_000_000;
+/// For how long an exporter may be up, in milliseconds: an uptime begins anew after 2^32.
+const UP_FOR: &[u64] = &[1000, 200_000, 500_000, (1 << 32) - 1, (1 << 32) + 70_000];
+
+/// Elements of a start and of an end, and their width, of which plans with times of every kind read some.
+const TIMES: &[(u16, u16, u16)] =
+    &[(152, 153, 8), (150, 151, 4), (154, 155, 8), (156, 157, 8), (158, 159, 4), (22, 21, 4), (22, 21, 4), (22, 21, 4)];
+
 /// A field of a template: its element, the width of its kind, and the width that it has here.
 #[derive(Clone, Copy)]
 struct Field {
     element: u16,
     full: u16,
     width: u16,
+}
+
+/// What the sessions of a plan have.
+struct Sent<'a> {
+    keys: &'a [Element],
+    counters: &'a [Element],
+    /// Times of every kind.
+    all_times: bool,
 }
 
 struct Template {
@@ -151,7 +169,8 @@ fn condition(numbers: &mut Numbers, elements: &[String]) -> String {
 }
 
 /// The text of a plan, and whether it has a map.
-fn plan(numbers: &mut Numbers, keys: &[Element], counters: &[Element]) -> (String, bool) {
+fn plan(numbers: &mut Numbers, sent: &Sent) -> (String, bool) {
+    let Sent { keys, counters, all_times } = *sent;
     let bad = if numbers.one_in(20) { numbers.below(7) } else { 7 };
     let mut names: Vec<String> = keys.iter().map(|key| key.1.to_string()).collect();
     for (name, key) in names.iter_mut().zip(keys) {
@@ -188,9 +207,10 @@ fn plan(numbers: &mut Numbers, keys: &[Element], counters: &[Element]) -> (Strin
     }
     let length = if bad == 5 { 0 } else { numbers.of(&[1, 7, 1000, 60_000, 60_000, 3_600_000]) };
     let spread = if bad == 6 { numbers.of(&[0, 4097]) } else { numbers.of(&[1, 2, 10, 4096, 4096]) };
+    let times = if all_times { "times = \"all\"\n" } else { "" };
     let method = numbers.of(&["start", "end", "mid", "uniform", "proportional"]);
     let text = format!(
-        "interval_ms = {length}\nmethod = \"{method}\"\nmax_spread = {spread}\nkeys = [{}]\ncounters = [{}]\n{more}",
+        "interval_ms = {length}\nmethod = \"{method}\"\nmax_spread = {spread}\nkeys = [{}]\ncounters = [{}]\n{times}{more}",
         quoted(&names),
         quoted(&counted)
     );
@@ -207,10 +227,28 @@ fn field(numbers: &mut Numbers, (element, _, full): Element) -> Field {
     Field { element, full, width }
 }
 
-fn template(numbers: &mut Numbers, keys: &[Element], counters: &[Element]) -> Template {
-    let (start, end) = if numbers.one_in(3) { ((150, "", 4), (151, "", 4)) } else { ((152, "", 8), (153, "", 8)) };
-    let mut elements = vec![start, end];
-    elements.extend(keys.iter().chain(counters));
+/// The elements that say when a flow started and ended.
+fn times(numbers: &mut Numbers, all_times: bool) -> Vec<Element> {
+    let (start, end, width) = if all_times { numbers.of(TIMES) } else { numbers.of(&[(150, 151, 4), (152, 153, 8), (152, 153, 8)]) };
+    let mut elements = vec![(start, "", width), (end, "", width)];
+    if all_times {
+        if numbers.one_in(2) {
+            elements.push((160, "", 8));
+        }
+        if numbers.one_in(3) {
+            elements[numbers.below(2)] = (numbers.of(&[161, 162]), "", 4);
+        }
+        if numbers.one_in(3) {
+            let (start, end, width) = numbers.of(TIMES);
+            elements.push((numbers.of(&[start, end]), "", width));
+        }
+    }
+    elements
+}
+
+fn template(numbers: &mut Numbers, sent: &Sent) -> Template {
+    let mut elements = times(numbers, sent.all_times);
+    elements.extend(sent.keys.iter().chain(sent.counters));
     elements.retain(|_| !numbers.one_in(25));
     for _ in 0..numbers.below(3) {
         elements.push(numbers.of(&[(150, "", 4), (153, "", 8), (8, "", 4), (1, "", 8), (210, "", 3), (27, "", 16), (12, "", 4)]));
@@ -219,7 +257,7 @@ fn template(numbers: &mut Numbers, keys: &[Element], counters: &[Element]) -> Te
         elements.swap(at, numbers.below(at + 1));
     }
     if elements.is_empty() {
-        elements.push(start);
+        elements.push((152, "", 8));
     }
     let fields = elements.into_iter().map(|element| field(numbers, element)).collect();
     Template { id: 256 + numbers.below(3) as u16, scope: u16::from(numbers.one_in(15)), fields }
@@ -232,12 +270,35 @@ fn value(numbers: &mut Numbers, start: u64, end: u64, field: Field) -> u128 {
         151 => u128::from(end / 1000),
         152 => u128::from(start),
         153 => u128::from(end),
+        154 | 156 => instant(numbers, start),
+        155 | 157 => instant(numbers, end),
+        158 => u128::from(1_000_000_000 + numbers.next() % 300_000_000),
+        159 => u128::from(numbers.next() % 1_100_000_000),
+        160 => u128::from(EXPORTED * 1000 - numbers.of(UP_FOR)),
+        161 => u128::from(end.saturating_sub(start)),
+        162 => u128::from(end.saturating_sub(start)) * 1000 + 999,
+        22 => u128::from(start),
+        21 => u128::from(end),
         8 | 12 => u128::from(numbers.of(IPV4)),
         27 => numbers.of(IPV6),
         1 | 2 | 3 | 24 | 132 if numbers.one_in(400) => u128::from(u64::MAX - numbers.next() % 3),
         1 | 2 | 3 | 24 | 132 => numbers.of(&[0, 1, 7, 40, 1500, 70_000]),
         _ => numbers.of(&[0, 1, 2, 250]),
     }
+}
+
+/// A time in the format of NTP, which may be a little later.
+fn instant(numbers: &mut Numbers, millis: u64) -> u128 {
+    let (seconds, rest) = (u128::from(millis / 1000) + 2_208_988_800, u128::from(millis % 1000));
+    seconds << 32 | ((rest << 32) / 1000 + u128::from(numbers.next() % 4096)).min(u128::from(u32::MAX))
+}
+
+/// A template of options records that say when the exporter was started: of the domain that they name, or of their
+/// message's.
+fn options_template(numbers: &mut Numbers) -> Template {
+    let scope = Field { element: numbers.of(&[149, 149, 10]), full: 4, width: 4 };
+    let started = field(numbers, (160, "", 8));
+    Template { id: 300, scope: 1, fields: vec![scope, started] }
 }
 
 fn put_record(numbers: &mut Numbers, template: &Template, out: &mut Vec<u8>) {
@@ -289,23 +350,36 @@ fn put_template(template: &Template, out: &mut Vec<u8>) {
 }
 
 /// A session of up to eight messages of one template.
-fn session(numbers: &mut Numbers, keys: &[Element], counters: &[Element]) -> Vec<u8> {
-    let template = template(numbers, keys, counters);
+fn session(numbers: &mut Numbers, sent: &Sent) -> Vec<u8> {
+    let template = template(numbers, sent);
+    let options = sent.all_times.then(|| options_template(numbers));
+    let domain = numbers.of(&[0u32, 1, 1, 2]);
     let (mut octets, mut sequence) = (Vec::new(), 0u32);
     for message in 0..1 + numbers.below(8) {
         let mut sets = Vec::new();
         if message == 0 || numbers.one_in(3) {
             put_template(&template, &mut sets);
         }
-        let (mut body, count) = (Vec::new(), numbers.below(30));
+        let (mut body, mut count) = (Vec::new(), numbers.below(30));
         for _ in 0..count {
             put_record(numbers, &template, &mut body);
         }
-        put_set(template.id, &body, &mut sets);
+        let mut told = Vec::new();
+        if let Some(options) = options.as_ref().filter(|_| numbers.one_in(3)) {
+            put_template(options, &mut sets);
+            put_record(numbers, options, &mut told);
+            count += 1;
+        }
+        let (before, after) = if numbers.one_in(2) { (told, Vec::new()) } else { (Vec::new(), told) };
+        for (id, body) in [(300, before), (template.id, body), (300, after)] {
+            if id != 300 || !body.is_empty() {
+                put_set(id, &body, &mut sets);
+            }
+        }
         octets.extend(10u16.to_be_bytes());
         octets.extend((16 + sets.len() as u16).to_be_bytes());
         let told = if numbers.one_in(10) { sequence.wrapping_add(numbers.below(9) as u32).wrapping_sub(4) } else { sequence };
-        for number in [1_700_000_000, told, 1] {
+        for number in [EXPORTED as u32, told, domain] {
             octets.extend(number.to_be_bytes());
         }
         octets.extend(sets);
@@ -329,13 +403,14 @@ fn main() -> io::Result<()> {
         let keys = some_of(&mut numbers, KEYS, many_keys);
         let counters = some_of(&mut numbers, COUNTERS, many_counters);
         fs::create_dir(format!("{folder}/{case}"))?;
-        let (text, has_map) = plan(&mut numbers, &keys, &counters);
+        let sent = Sent { keys: &keys, counters: &counters, all_times: numbers.one_in(3) };
+        let (text, has_map) = plan(&mut numbers, &sent);
         fs::write(format!("{folder}/{case}/plan.toml"), text)?;
         if has_map {
             fs::write(format!("{folder}/{case}/map.csv"), map(&mut numbers))?;
         }
         for file in 1..=1 + numbers.below(3) {
-            fs::write(format!("{folder}/{case}/session-{file}"), session(&mut numbers, &keys, &counters))?;
+            fs::write(format!("{folder}/{case}/session-{file}"), session(&mut numbers, &sent))?;
         }
     }
     Ok(())

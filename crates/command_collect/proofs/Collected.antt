@@ -8,6 +8,7 @@ use Rattle.report_writing.specs.declared.origin.Origin.{Origin}
 use Rattle.report_writing.specs.declared.verbosity.TheConstants.{NOTHING_MORE}
 use Rattle.report_writing.proofs.Ended.{never_two, one_of_four}
 use Rattle.flow_collect.specs.InFull.{fulls_in}
+use Rattle.exporter_options.specs.declared.beside.TheConstants as asked
 use Rattle.flow_collect.specs.declared.session_context.TheConstants.{NOTHING_WANTED}
 use Rattle.input_sources.specs.Had.{IsUnread}
 use Rattle.input_sources.specs.InputsTold.{opened_lines}
@@ -39,11 +40,11 @@ module _ {S W : Type 0} (seen : S → SourceView) (failure : S → Option ErrorK
       }
 
   -- a run that has no options
-  pub runs_plainly : (AreTold : List ℕ → Type 0) (sources : List S) (origins : List Origin) → job.elements.now ≡ [] → job.verbosity ≡ NOTHING_MORE → job.wanted ≡ NOTHING_WANTED → job.maps ≡ None → job.filter ≡ None → RunsJob contents old new AreTold seen failure sources job origins status
+  pub runs_plainly : (AreTold : List ℕ → Type 0) (sources : List S) (origins : List Origin) → job.elements.now ≡ [] → job.verbosity ≡ NOTHING_MORE → job.wanted ≡ NOTHING_WANTED → job.options ≡ asked.NOTHING_WANTED → job.maps ≡ None → job.filter ≡ None → RunsJob contents old new AreTold seen failure sources job origins status
       → RunsPlainly contents old new AreTold seen sources job.plan.now job.engine job.output status
-  runs_plainly AreTold sources origins no_files plain none unmapped all r =
+  runs_plainly AreTold sources origins no_files plain none unasked unmapped all r =
       let given = in_context job sources origins in
-      let plainly = plainly_given job sources origins none unmapped all in
+      let plainly = plainly_given job sources origins none unasked unmapped all in
       record {
         statuses = r.statuses;
         table = λ ran.
@@ -81,8 +82,8 @@ module _ {S W : Type 0} (seen : S → SourceView) (failure : S → Option ErrorK
         }
 
     -- where nothing more is told
-    pub collects_plainly : job.elements.now ≡ [] → job.verbosity ≡ NOTHING_MORE → job.wanted ≡ NOTHING_WANTED → job.maps ≡ None → job.filter ≡ None → first ≡ [] → EndsJob → CollectsPlainly seen AreHad TellsNotHad contents old new AreTold status job.plan.now job.engine job.output
-    collects_plainly no_files plain unwanted unmapped all none ends =
+    pub collects_plainly : job.elements.now ≡ [] → job.verbosity ≡ NOTHING_MORE → job.wanted ≡ NOTHING_WANTED → job.options ≡ asked.NOTHING_WANTED → job.maps ≡ None → job.filter ≡ None → first ≡ [] → EndsJob → CollectsPlainly seen AreHad TellsNotHad contents old new AreTold status job.plan.now job.engine job.output
+    collects_plainly no_files plain unwanted unasked unmapped all none ends =
         record {
           statuses = ends.statuses;
           ran = λ ran.
@@ -92,7 +93,7 @@ module _ {S W : Type 0} (seen : S → SourceView) (failure : S → Option ErrorK
                 sources = r.sources;
                 had = r.had;
                 unread = r.unread;
-                runs = runs_plainly AreTold r.sources behind.origins no_files plain unwanted unmapped all (retold (λ lines. AreTold (first ++ (opened_lines job.verbosity behind.origins ++ lines))) AreTold r.sources behind.origins
+                runs = runs_plainly AreTold r.sources behind.origins no_files plain unwanted unasked unmapped all (retold (λ lines. AreTold (first ++ (opened_lines job.verbosity behind.origins ++ lines))) AreTold r.sources behind.origins
                     (λ lines told. subst AreTold (behind_nothing job plain first none behind.origins lines) told) behind.told);
               };
           not_had = ends.not_had;

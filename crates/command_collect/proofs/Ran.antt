@@ -32,6 +32,7 @@ use Rattle.std.specs.declared.io.ErrorKind.{ErrorKind}
 use Rattle.output_tables.specs.TableTexts.{IsNotWritten, Writes}
 use Rattle.report_sessions.specs.EndedSessions.{TellsEnded}
 use Rattle.output_tables.specs.declared.output.Output.{Output}
+use Rattle.exporter_options.specs.declared.beside.TheConstants as asked
 use Rattle.command_collect.specs.Engines.{CollectsBy}
 use Rattle.command_collect.specs.Exporters.{in_context, in_places, other_origins, others_told}
 use Rattle.command_collect.specs.Runs.{AddsUpWhole, EndedWell, HaveNoFault, IsCollectFault, IsNotExported, IsOfWhole, WritesAndTellsJob, WritesTable, plain_texts, texts_in_context}
@@ -47,14 +48,14 @@ pub record IsPlain {S : Type 0} (given : List (InContext S)) (sources : List S) 
   pub sources_are : sources_of given ≡ sources
   pub unwanted : All IsUnwanted given
 
-pub plainly_given : {S : Type 0} (job : CollectJob) (sources : List S) (origins : List Origin) → job.wanted ≡ NOTHING_WANTED → job.maps ≡ None → job.filter ≡ None → IsPlain (in_context job sources origins) sources
-plainly_given job sources origins none unmapped all = each job sources job.exporters.now origins none unmapped all
+pub plainly_given : {S : Type 0} (job : CollectJob) (sources : List S) (origins : List Origin) → job.wanted ≡ NOTHING_WANTED → job.options ≡ asked.NOTHING_WANTED → job.maps ≡ None → job.filter ≡ None → IsPlain (in_context job sources origins) sources
+plainly_given job sources origins none unasked unmapped all = each job sources job.exporters.now origins none unasked unmapped all
   where
-    each : {S : Type 0} (job : CollectJob) (sources : List S) (told : List (Option IpAddr)) (origins : List Origin) → job.wanted ≡ NOTHING_WANTED → job.maps ≡ None → job.filter ≡ None → IsPlain (in_places job sources told origins) sources
-    each job [] told origins none unmapped all = record { sources_are = refl; unwanted = All-nil IsUnwanted }
-    each job (s ∷ sources) told origins none unmapped all =
-        let rest = each job sources (others_told told) (other_origins origins) none unmapped all in
-        record { sources_are = ap (λ (l : List _). s ∷ l) rest.sources_are; unwanted = All-cons IsUnwanted _ _ (none, refl, unmapped, all) rest.unwanted }
+    each : {S : Type 0} (job : CollectJob) (sources : List S) (told : List (Option IpAddr)) (origins : List Origin) → job.wanted ≡ NOTHING_WANTED → job.options ≡ asked.NOTHING_WANTED → job.maps ≡ None → job.filter ≡ None → IsPlain (in_places job sources told origins) sources
+    each job [] told origins none unasked unmapped all = record { sources_are = refl; unwanted = All-nil IsUnwanted }
+    each job (s ∷ sources) told origins none unasked unmapped all =
+        let rest = each job sources (others_told told) (other_origins origins) none unasked unmapped all in
+        record { sources_are = ap (λ (l : List _). s ∷ l) rest.sources_are; unwanted = All-cons IsUnwanted _ _ (none, unasked, unmapped, all) rest.unwanted }
 
 -- the same run, with reports that aren't in full
 abbrev pub short_run : {S : Type 0} → FullSerialAnswer S → SerialAnswer S

@@ -7,7 +7,6 @@ use Rattle.report_writing.specs.declared.origin.Origin.TheVariants.{File, Peer, 
 use Rattle.flow_collect.specs.Contexts.{exporter_at}
 use Rattle.flow_collect.specs.declared.session_context.Exporter.{Exporter}
 use Rattle.flow_collect.specs.declared.session_context.InContext.{InContext}
-use Rattle.exporter_options.specs.declared.beside.TheConstants as asked
 use Rattle.command_collect.specs.declared.job.CollectJob.{CollectJob}
 
 -- the exporter that is told of a session, else the peer of its connection
@@ -35,12 +34,12 @@ abbrev pub others_told : List (Option IpAddr) → List (Option IpAddr)
 others_told [] = []
 others_told (told ∷ others) = others
 
--- the sources, each with what its session knows by what has its place: the exporter that is told, and the origin; and with the
--- job's maps and its filter
+-- the sources, each with what its session knows by what has its place: the exporter that is told, and the origin; with what the
+-- job wants of options records; and with its maps and its filter
 abbrev pub in_places : {S : Type 0} → CollectJob → List S → List (Option IpAddr) → List Origin → List (InContext S)
 in_places job [] told origins = []
 in_places job (source ∷ sources) told origins =
-    record { source = source; context = record { exporter = exporter_of (first_told told) (first_origin origins); wanted = job.wanted; options = asked.NOTHING_WANTED; maps = job.maps }; filter = job.filter }
+    record { source = source; context = record { exporter = exporter_of (first_told told) (first_origin origins); wanted = job.wanted; options = job.options; maps = job.maps }; filter = job.filter }
     ∷ in_places job sources (others_told told) (other_origins origins)
 
 -- as far as the job wants it

@@ -11,7 +11,7 @@ use std::collections::VecDeque;
 use std::net::IpAddr;
 
 /// The sources, each with what its session knows: the exporter that is told of it, or the peer that is its origin, by
-/// its place, as far as the job wants it; and with the job's maps and filter.
+/// its place, as far as the job wants it; with what the job wants of options records; and with its maps and filter.
 pub fn in_context<'a, S: Drop>(
     alloc: Global,
     sources: Vec<S>,
@@ -28,7 +28,7 @@ pub fn in_context<'a, S: Drop>(
         let context = SessionContext {
             exporter: exporter_by(told, left),
             wanted: job.wanted,
-            options: exporter_options::NOTHING_WANTED,
+            options: job.options,
             maps: job.maps,
         };
         all.push(InContext {

@@ -1,9 +1,11 @@
 //! What a run of collecting is to do.
 
 ghost use Rattle.std.specs.Prelude.{◌≡◌, None};
+ghost use Rattle.exporter_options.specs.declared.beside.TheConstants as asked;
 
 use crate::engine::Engine;
 use element_registry::Elements;
+use exporter_options::Wanted;
 use flow_collect::NOTHING_WANTED;
 use flow_filter::Filter;
 use flow_maps::Maps;
@@ -28,6 +30,8 @@ pub struct CollectJob<'a> {
     pub verbosity: Verbosity,
     /// Which elements of context records get: those that the plan's keys and its conditions name.
     pub wanted: Context,
+    /// What records get of what options records told before them: what the plan's times need.
+    pub options: Wanted,
     /// The keys whose values are numbers of maps, where the plan has some.
     pub maps: Option<&'a Maps>,
     /// Which records count, where the plan has conditions.
@@ -38,7 +42,7 @@ pub struct CollectJob<'a> {
 }
 
 impl<'a> CollectJob<'a> {
-    /// One that tells nothing more, wants no context, and has no maps and no filter.
+    /// One that tells nothing more, wants no context and nothing of options records, and has no maps and no filter.
     pub fn plain(elements: &'a Elements, plan: &'a Plan, engine: Engine, output: Output) -> Self
         ensures elements { result.elements.now ≡ elements.now }
         ensures plan { result.plan.now ≡ plan.now }
@@ -46,6 +50,7 @@ impl<'a> CollectJob<'a> {
         ensures output { result.output ≡ output }
         ensures verbosity { result.verbosity ≡ NOTHING_MORE }
         ensures wanted { result.wanted ≡ NOTHING_WANTED }
+        ensures options { result.options ≡ asked.NOTHING_WANTED }
         ensures maps { result.maps ≡ None }
         ensures filter { result.filter ≡ None }
     {
@@ -56,6 +61,7 @@ impl<'a> CollectJob<'a> {
             output,
             verbosity: NOTHING_MORE,
             wanted: NOTHING_WANTED,
+            options: exporter_options::NOTHING_WANTED,
             maps: None,
             filter: None,
             exporters: &[],

@@ -62,10 +62,10 @@ pub fn run<S: Source + Send + Drop, W: Write, E: WriteLines, R: Threads + Wait +
 
 /// Does as [`run`], and tells more if `job.verbosity` asks for it: to `err` it writes the lines of the
 /// sessions in full, each with the origin that has the session's place. What `job.wanted` names is appended to each
-/// record: the exporter by that origin, and the record's own domain. Records that `job.filter` does not count are in no
-/// row and in no class, and the line of counts ends with their number. Keys and counters have the names that
-/// `job.elements` give them. If it is strict, it ends with `SessionFault` also if anything shows that something which
-/// was sent isn't in the table ([`is_spotless`](report_sessions::is_spotless)).
+/// record: the exporter by that origin, and the record's own domain; before it stands what `job.options` names. Records
+/// that `job.filter` does not count are in no row and in no class, and the line of counts ends with their number. Keys
+/// and counters have the names that `job.elements` give them. If it is strict, it ends with `SessionFault` also if
+/// anything shows that something which was sent isn't in the table ([`is_spotless`](report_sessions::is_spotless)).
 pub fn run_with<S: Source + Send + Drop, W: Write, E: WriteLines, R: Threads + Wait + Sync>(
     rt: &R,
     alloc: Global,

@@ -1,10 +1,13 @@
 -- What a plan wants to be known beside its records.
-use Rattle.std.specs.Prelude.{◌||◌, Bool, List}
+use Rattle.std.specs.Prelude.{◌||◌, Bool, true, false, List}
 use Rattle.std.specs.List.{list_any}
 use Rattle.ipfix_wire.specs.declared.specifier.ElementId.{ElementId}
 use Rattle.flow_table.specs.Plans.{same_element}
 use Rattle.flow_table.specs.declared.context.Context.{Context}
 use Rattle.flow_table.specs.declared.context.TheConstants.{EXPORTER, EXPORTER_IPV4_ADDRESS, EXPORTER_IPV6_ADDRESS}
+use Rattle.exporter_options.specs.declared.beside.Wanted.{Wanted}
+use Rattle.flow_table.specs.declared.choices.Times.{Times}
+use Rattle.flow_table.specs.declared.choices.Times.TheVariants.{Basic, All}
 use Rattle.flow_filtered_plan.specs.FilteredPlans.{context_of}
 use Rattle.flow_filtered_plan.specs.declared.filtered_plan.FilteredPlan.{FilteredPlan}
 use Rattle.flow_maps.specs.declared.map_key.AddressElement.{AddressElement}
@@ -28,3 +31,11 @@ wanted_context read maps =
       exporter_ipv6_address = named.exporter_ipv6_address || looks_up maps EXPORTER_IPV6_ADDRESS;
       observation_domain_id = named.observation_domain_id;
     }
+
+-- only times of every kind count from when the exporter was started
+abbrev pub count_from_init_time : Times → Bool
+count_from_init_time Basic = false
+count_from_init_time All = true
+
+abbrev pub wanted_options : FilteredPlan → Wanted
+wanted_options read = record { init_time = count_from_init_time read.plan.choices.times; sampling = false }

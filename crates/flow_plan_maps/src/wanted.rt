@@ -4,9 +4,10 @@ ghost use Rattle.std.specs.Prelude.{◌≡◌};
 ghost use Rattle.flow_plan_maps.specs.Wants as wants;
 
 use crate::named::PlanMaps;
+use exporter_options::Wanted;
 use flow_filtered_plan::FilteredPlan;
 use flow_maps::AddressElement;
-use flow_table::{Context, EXPORTER, EXPORTER_IPV4_ADDRESS, EXPORTER_IPV6_ADDRESS};
+use flow_table::{Context, EXPORTER, EXPORTER_IPV4_ADDRESS, EXPORTER_IPV6_ADDRESS, Times};
 use ipfix_wire::ElementId;
 
 /// Which elements of context a plan wants: those that its keys and its conditions name, and those that the keys of its
@@ -20,6 +21,16 @@ pub fn wanted_context(read: &FilteredPlan, maps: &PlanMaps) -> Context
         exporter_ipv4_address: named.exporter_ipv4_address || looks_up(maps, EXPORTER_IPV4_ADDRESS),
         exporter_ipv6_address: named.exporter_ipv6_address || looks_up(maps, EXPORTER_IPV6_ADDRESS),
         observation_domain_id: named.observation_domain_id,
+    }
+}
+
+/// What a plan wants of what options records tell: if it reads times of every kind, when the exporter was started.
+pub fn wanted_options(read: &FilteredPlan) -> Wanted
+    ensures { result ≡ wants.wanted_options read.now }
+{
+    Wanted {
+        init_time: read.plan.choices().times == Times::All,
+        sampling: false,
     }
 }
 

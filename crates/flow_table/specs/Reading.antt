@@ -6,7 +6,7 @@ use Rattle.ipfix_elements.specs.declared.cell.Cell.{Cell}
 use Rattle.ipfix_elements.specs.declared.cell.Cell.TheVariants.{Number, Ipv4, Ipv6, Mac}
 use Rattle.ipfix_elements.specs.declared.iana.TheConstants.{FLOW_START_SECONDS, FLOW_END_SECONDS, FLOW_START_MILLISECONDS, FLOW_END_MILLISECONDS}
 use Rattle.ipfix_elements.specs.declared.kind.Kind.{Kind}
-use Rattle.ipfix_elements.specs.declared.kind.Kind.TheVariants.{Unsigned}
+use Rattle.ipfix_elements.specs.declared.kind.Kind.TheVariants.{Unsigned, Millis}
 use Rattle.ipfix_elements.specs.declared.kind.Width.TheVariants.{Four, Eight}
 use Rattle.ipfix_elements.specs.Elements.{iana, kind_of}
 use Rattle.ipfix_elements.specs.Prefixes.{masked}
@@ -21,7 +21,7 @@ use Rattle.flow_table.specs.declared.class.Class.TheVariants.{Options, Untimed, 
 use Rattle.flow_table.specs.declared.key.Key.{Key}
 use Rattle.flow_table.specs.declared.method.Method.{Method}
 use Rattle.flow_table.specs.declared.method.Method.TheVariants as methods
-use Rattle.flow_table.specs.declared.times.TheConstants.{FLOW_START_MICROSECONDS, FLOW_END_MICROSECONDS, FLOW_START_NANOSECONDS, FLOW_END_NANOSECONDS, FLOW_START_DELTA_MICROSECONDS, FLOW_END_DELTA_MICROSECONDS, FLOW_DURATION_MILLISECONDS, FLOW_DURATION_MICROSECONDS}
+use Rattle.flow_table.specs.declared.times.TheConstants.{FLOW_START_MICROSECONDS, FLOW_END_MICROSECONDS, FLOW_START_NANOSECONDS, FLOW_END_NANOSECONDS, FLOW_START_DELTA_MICROSECONDS, FLOW_END_DELTA_MICROSECONDS, FLOW_DURATION_MILLISECONDS, FLOW_DURATION_MICROSECONDS, FLOW_START_SYS_UP_TIME, FLOW_END_SYS_UP_TIME, SYSTEM_INIT_TIME_MILLISECONDS, UPTIME_ROUND, EXPORT_RESOLUTION}
 use Rattle.flow_table.specs.Intervals.{spread}
 use Rattle.flow_table.specs.Networks.{masked_ipv6}
 use Rattle.flow_table.specs.Plans.{PlanValue}
@@ -105,20 +105,73 @@ duration_of r =
     option_or (unsigned32_of (iana FLOW_DURATION_MILLISECONDS) r)
     (option_map (λ n. n / 1000) (unsigned32_of (iana FLOW_DURATION_MICROSECONDS) r))
 
--- the end that an element says, less the duration
-abbrev pub start_by_duration : DataRecord → Option ℕ
-start_by_duration r = option_and_then (λ end. option_and_then (time_before end) (duration_of r)) (told_end r)
+-- an end, less the duration
+abbrev pub start_by_duration : DataRecord → Option ℕ → Option ℕ
+start_by_duration r end = option_and_then (λ e. option_and_then (time_before e) (duration_of r)) end
 
--- the start that an element says, plus the duration
-abbrev pub end_by_duration : DataRecord → Option ℕ
-end_by_duration r = option_and_then (λ start. option_and_then (λ long. time_in (start + long)) (duration_of r)) (told_start r)
+-- a start, plus the duration
+abbrev pub end_by_duration : DataRecord → Option ℕ → Option ℕ
+end_by_duration r start = option_and_then (λ s. option_and_then (λ long. time_in (s + long)) (duration_of r)) start
+
+-- ---- times by uptime: elements that count milliseconds from when the exporter was started (RFC 7012, section 5)
+
+-- systemInitTimeMilliseconds: when it was started
+abbrev pub init_time : ElementId
+init_time = iana SYSTEM_INIT_TIME_MILLISECONDS
+
+-- flowStartSysUpTime
+abbrev pub uptime_at_start : ElementId
+uptime_at_start = iana FLOW_START_SYS_UP_TIME
+
+-- flowEndSysUpTime
+abbrev pub uptime_at_end : ElementId
+uptime_at_end = iana FLOW_END_SYS_UP_TIME
+
+-- the first time at which the count is what an element says
+abbrev pub first_time : ElementId → DataRecord → Option ℕ
+first_time element r =
+    option_and_then (λ started. option_and_then (λ n. time_in (started + n)) (unsigned32_of element r)) (number_as Millis init_time r)
+
+-- the count has 32 bits, and so is the same again 2^32 ms later: a time is before that
+abbrev pub is_before_next : ℕ → ℕ → Bool
+is_before_next time first = nat_lt time (first + UPTIME_ROUND)
+
+-- a flow doesn't end after its message is exported; the export time is in whole seconds
+abbrev pub latest_end : DataRecord → ℕ
+latest_end r = r.export_time * 1000 + EXPORT_RESOLUTION
+
+-- the end of a flow that says its start or its end by uptime
+abbrev pub uptime_end_of : DataRecord → Option ℕ
+uptime_end_of r = option_or (told_end r) (option_or (first_time uptime_at_end r) (end_by_duration r (first_time uptime_at_start r)))
+
+-- the first time of a count is the one that is meant: the next end would be after the message, and the next start after the end
+abbrev pub is_known : DataRecord → ℕ → ℕ → Bool
+is_known r end first = nat_le end (latest_end r) && (is_before_next (latest_end r) end && is_before_next end first)
+
+-- the time that an element says; none where it could be any of several
+abbrev pub uptime_time : ElementId → DataRecord → Option ℕ
+uptime_time element r =
+    option_and_then (λ end. option_and_then (λ first. if is_known r end first then Some first else None) (first_time element r)) (uptime_end_of r)
+
+abbrev pub uptime_start : DataRecord → Option ℕ
+uptime_start r = uptime_time uptime_at_start r
+
+abbrev pub uptime_end : DataRecord → Option ℕ
+uptime_end r = uptime_time uptime_at_end r
+
+-- the start, and the end, that an element or an uptime says
+abbrev pub any_start : DataRecord → Option ℕ
+any_start r = option_or (told_start r) (uptime_start r)
+
+abbrev pub any_end : DataRecord → Option ℕ
+any_end r = option_or (told_end r) (uptime_end r)
 
 -- of a flow that says none in milliseconds or seconds
 abbrev pub other_start : DataRecord → Option ℕ
-other_start r = option_or (fine_start r) (start_by_duration r)
+other_start r = option_or (fine_start r) (option_or (uptime_start r) (start_by_duration r (any_end r)))
 
 abbrev pub other_end : DataRecord → Option ℕ
-other_end r = option_or (fine_end r) (end_by_duration r)
+other_end r = option_or (fine_end r) (option_or (uptime_end r) (end_by_duration r (any_start r)))
 
 -- ---- start and end
 

@@ -7,7 +7,8 @@ pub enum Times {
     /// flowEndMilliseconds (153) and flowEndSeconds (151).
     Basic,
     /// These, or else microseconds (154, 155), nanoseconds (156, 157), microseconds before the export time
-    /// (158, 159), or the flow's other time and its duration (161, 162).
+    /// (158, 159), milliseconds from when the exporter was started (22 and 21, over 160), or the flow's other
+    /// time and its duration (161, 162).
     All,
 }
 

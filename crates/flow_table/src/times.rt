@@ -1,4 +1,4 @@
-//! Start and end of a flow (RFC 7011, sections 6.1.7 to 6.1.10).
+//! Start and end of a flow (RFC 7011, sections 6.1.7 to 6.1.10; uptimes by RFC 7012, section 5).
 
 ghost use Rattle.std.specs.Prelude.{◌≡◌, ◌<◌, ◌*◌, ◌^◌, IfSome};
 ghost use Rattle.ipfix_elements.specs.Elements.{iana, kind_of};
@@ -36,6 +36,21 @@ const FLOW_DURATION_MILLISECONDS: u16 = 161;
 
 /// Number of flowDurationMicroseconds.
 const FLOW_DURATION_MICROSECONDS: u16 = 162;
+
+/// Number of flowEndSysUpTime: milliseconds from when the exporter was started.
+const FLOW_END_SYS_UP_TIME: u16 = 21;
+
+/// Number of flowStartSysUpTime: milliseconds from when the exporter was started.
+const FLOW_START_SYS_UP_TIME: u16 = 22;
+
+/// Number of systemInitTimeMilliseconds: when the exporter was started, in milliseconds since 1970-01-01 UTC.
+const SYSTEM_INIT_TIME_MILLISECONDS: u16 = 160;
+
+/// In milliseconds: an uptime has 32 bits, and so is the same again this much later.
+const UPTIME_ROUND: u64 = 1 << 32;
+
+/// In milliseconds: a message's export time is in whole seconds.
+const EXPORT_RESOLUTION: u64 = 1000;
 
 // A time that is below the limit.
 fn time_in(time: u64) -> Option<u64>
@@ -188,22 +203,107 @@ fn duration_of(data_record: &DataRecord) -> Option<u64>
     }
 }
 
-// The end that an element says, less the duration.
-fn start_by_duration(data_record: &DataRecord) -> Option<u64>
-    ensures value { result ≡ reading.start_by_duration data_record.now }
+// An end, less the duration.
+fn start_by_duration(data_record: &DataRecord, end: Option<u64>) -> Option<u64>
+    requires end { IfSome end (λ t. t < 2 ^ 50) }
+    ensures value { result ≡ reading.start_by_duration data_record.now end }
     ensures small { IfSome result (λ t. t < 2 ^ 50) }
 {
-    let end = told_end(data_record)?;
-    end.checked_sub(duration_of(data_record)?)
+    end?.checked_sub(duration_of(data_record)?)
 }
 
-// The start that an element says, plus the duration.
-fn end_by_duration(data_record: &DataRecord) -> Option<u64>
-    ensures value { result ≡ reading.end_by_duration data_record.now }
+// A start, plus the duration.
+fn end_by_duration(data_record: &DataRecord, start: Option<u64>) -> Option<u64>
+    ensures value { result ≡ reading.end_by_duration data_record.now start }
     ensures small { IfSome result (λ t. t < 2 ^ 50) }
 {
-    let start = told_start(data_record)?;
-    time_in(start.checked_add(duration_of(data_record)?)?)
+    time_in(start?.checked_add(duration_of(data_record)?)?)
+}
+
+// The first time at which the uptime is what an element says.
+fn first_time(data_record: &DataRecord, number: u16) -> Option<u64>
+    ensures value { result ≡ reading.first_time (iana number) data_record.now }
+    ensures small { IfSome result (λ t. t < 2 ^ 50) }
+{
+    let octets = data_record
+        .fields
+        .find(ElementId::iana(SYSTEM_INIT_TIME_MILLISECONDS))?;
+    let started = read_number(Kind::Millis, octets)?;
+    time_in(started.checked_add(unsigned32_of(data_record, number)?)?)
+}
+
+// The end of a flow that says its start or its end by uptime.
+fn uptime_end_of(data_record: &DataRecord) -> Option<u64>
+    ensures value { result ≡ reading.uptime_end_of data_record.now }
+    ensures small { IfSome result (λ t. t < 2 ^ 50) }
+{
+    if let Some(end) = told_end(data_record) {
+        return Some(end);
+    }
+    match first_time(data_record, FLOW_END_SYS_UP_TIME) {
+        None => end_by_duration(data_record, first_time(data_record, FLOW_START_SYS_UP_TIME)),
+        end => end,
+    }
+}
+
+// Whether the first time of an uptime is the one that is meant, by a flow that ends then.
+fn is_known(data_record: &DataRecord, end: u64, first: u64) -> bool
+    requires end { end < 2 ^ 50 }
+    requires first { first < 2 ^ 50 }
+    ensures { result ≡ reading.is_known data_record.now end first }
+{
+    let latest = u64::from(data_record.export_time) * 1000 + EXPORT_RESOLUTION;
+    end <= latest && latest < end + UPTIME_ROUND && end < first + UPTIME_ROUND
+}
+
+// The time that an element says by uptime.
+fn uptime_time(data_record: &DataRecord, number: u16) -> Option<u64>
+    ensures value { result ≡ reading.uptime_time (iana number) data_record.now }
+    ensures small { IfSome result (λ t. t < 2 ^ 50) }
+{
+    let end = uptime_end_of(data_record)?;
+    let first = first_time(data_record, number)?;
+    if is_known(data_record, end, first) {
+        Some(first)
+    } else {
+        None
+    }
+}
+
+fn uptime_start(data_record: &DataRecord) -> Option<u64>
+    ensures value { result ≡ reading.uptime_start data_record.now }
+    ensures small { IfSome result (λ t. t < 2 ^ 50) }
+{
+    uptime_time(data_record, FLOW_START_SYS_UP_TIME)
+}
+
+fn uptime_end(data_record: &DataRecord) -> Option<u64>
+    ensures value { result ≡ reading.uptime_end data_record.now }
+    ensures small { IfSome result (λ t. t < 2 ^ 50) }
+{
+    uptime_time(data_record, FLOW_END_SYS_UP_TIME)
+}
+
+// The start that an element or an uptime says.
+fn any_start(data_record: &DataRecord) -> Option<u64>
+    ensures value { result ≡ reading.any_start data_record.now }
+    ensures small { IfSome result (λ t. t < 2 ^ 50) }
+{
+    match told_start(data_record) {
+        None => uptime_start(data_record),
+        start => start,
+    }
+}
+
+// The end that an element or an uptime says.
+fn any_end(data_record: &DataRecord) -> Option<u64>
+    ensures value { result ≡ reading.any_end data_record.now }
+    ensures small { IfSome result (λ t. t < 2 ^ 50) }
+{
+    match told_end(data_record) {
+        None => uptime_end(data_record),
+        end => end,
+    }
 }
 
 // The start of a flow that says none in milliseconds or seconds. (A call: few records come here.)
@@ -212,8 +312,11 @@ fn other_start(data_record: &DataRecord) -> Option<u64>
     ensures value { result ≡ reading.other_start data_record.now }
     ensures small { IfSome result (λ t. t < 2 ^ 50) }
 {
-    match fine_start(data_record) {
-        None => start_by_duration(data_record),
+    if let Some(start) = fine_start(data_record) {
+        return Some(start);
+    }
+    match uptime_start(data_record) {
+        None => start_by_duration(data_record, any_end(data_record)),
         start => start,
     }
 }
@@ -224,8 +327,11 @@ fn other_end(data_record: &DataRecord) -> Option<u64>
     ensures value { result ≡ reading.other_end data_record.now }
     ensures small { IfSome result (λ t. t < 2 ^ 50) }
 {
-    match fine_end(data_record) {
-        None => end_by_duration(data_record),
+    if let Some(end) = fine_end(data_record) {
+        return Some(end);
+    }
+    match uptime_end(data_record) {
+        None => end_by_duration(data_record, any_start(data_record)),
         end => end,
     }
 }

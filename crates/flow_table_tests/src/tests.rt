@@ -5,3 +5,4 @@ mod named;
 mod plans;
 mod records;
 mod tables;
+mod uptimes;

@@ -6,5 +6,5 @@ pub returns-clause-runs : goal.returns-clause-runs
 returns-clause-runs g c =
     let job = c.plain-job.ensures in
     let elements = job.elements ∙ c.built_in-elements.ensures in
-    let runs = runs_plainly g.S.Source.seen g.S.Source.failure g.W.Write.contents _ _ c.plain-job.result _ _ c.args.sources.items [] elements job.verbosity job.wanted job.maps job.filter c.run_with.ensures.runs in
+    let runs = runs_plainly g.S.Source.seen g.S.Source.failure g.W.Write.contents _ _ c.plain-job.result _ _ c.args.sources.items [] elements job.verbosity job.wanted job.options job.maps job.filter c.run_with.ensures.runs in
     rw c.number.ensures (rw (job.plan, job.engine, job.output) at runs)

@@ -10,7 +10,7 @@ pub returns-clause-collects : goal.returns-clause-collects
 returns-clause-collects g c =
     let job = c.plain-job.ensures in
     let elements = job.elements ∙ c.built_in-elements.ensures in
-    let collects = collects_plainly g.S.Source.seen g.S.Source.failure g.W.Write.contents _ _ c.plain-job.result _ _ _ _ _ _ elements job.verbosity job.wanted job.maps job.filter (not_verbose c.plain-job.result job.verbosity (listening_line c.args.addr.now c.args.count)) c.run_connections.ensures.collects in
+    let collects = collects_plainly g.S.Source.seen g.S.Source.failure g.W.Write.contents _ _ c.plain-job.result _ _ _ _ _ _ elements job.verbosity job.wanted job.options job.maps job.filter (not_verbose c.plain-job.result job.verbosity (listening_line c.args.addr.now c.args.count)) c.run_connections.ensures.collects in
     rw c.number.ensures (rw (job.plan, job.engine, job.output, job.verbosity) at collects)
 
 pub returns-clause-no_time : goal.returns-clause-no_time
