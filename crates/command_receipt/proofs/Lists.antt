@@ -12,8 +12,11 @@ use Rattle.table_receipts.specs.Values.{InputValue, SumValue, input_value, sum_v
 use Rattle.table_receipts.specs.declared.receipt.CounterSum.{CounterSum}
 use Rattle.table_receipts.specs.declared.receipt.DomainReceipt.{DomainReceipt}
 use Rattle.table_receipts.specs.declared.receipt.InputReceipt.{InputReceipt}
-use Rattle.command_collect.specs.Exporters.{first_origin, other_origins}
-use Rattle.command_receipt.specs.Inputs.{domain_of, domains_of, input_of, inputs_of}
+use Rattle.std.specs.Prelude.{Option}
+use Rattle.std.specs.declared.net.ip_addr.IpAddr.{IpAddr}
+use Rattle.flow_table.specs.declared.context.Context.{Context}
+use Rattle.command_collect.specs.Exporters.{other_origins, others_told}
+use Rattle.command_receipt.specs.Inputs.{domain_of, domains_of, input_at, inputs_in}
 use Rattle.command_receipt.specs.Tables.{sum_at, sums_from}
 
 -- an item that is next moves to those that are there
@@ -22,21 +25,24 @@ moved value all r v rest left is next =
     ap (λ xs. xs ++ rest) (map-append value all (r ∷ [])) ∙ append_assoc (map value all) (value r ∷ []) rest
     ∙ ap (λ x. map value all ++ x ∷ rest) is ∙ ap (λ xs. map value all ++ xs) (sym next)
 
-pub inputs_more : (all : List InputReceipt) (i : InputReceipt) (left later_left : List Origin) (fulls later : List FullReport) (hashes rest : List (List ℕ)) (full : FullReport) (digest : List ℕ)
-    → fulls ≡ full ∷ later → hashes ≡ digest ∷ rest → input_value i ≡ input_of (first_origin left) full digest → later_left ≡ other_origins left
-    → map input_value (all ++ i ∷ []) ++ inputs_of later_left later rest ≡ map input_value all ++ inputs_of left fulls hashes
-inputs_more all i left later_left fulls later hashes rest full digest split_fulls split_hashes is others =
-    moved input_value all i (input_of (first_origin left) full digest) (inputs_of later_left later rest) (inputs_of left fulls hashes) is
-    (ap₂ (λ (f : List FullReport) (h : List (List ℕ)). inputs_of left f h) split_fulls split_hashes ∙ ap (λ (o : List Origin). input_of (first_origin left) full digest ∷ inputs_of o later rest) (sym others))
+module _ (wanted : Context) where
+  pub inputs_more : (all : List InputReceipt) (i : InputReceipt) (told later_told : List (Option IpAddr)) (left later_left : List Origin) (fulls later : List FullReport) (hashes rest : List (List ℕ)) (full : FullReport) (digest : List ℕ)
+      → fulls ≡ full ∷ later → hashes ≡ digest ∷ rest → input_value i ≡ input_at wanted told left full digest
+      → later_told ≡ others_told told → later_left ≡ other_origins left
+      → map input_value (all ++ i ∷ []) ++ inputs_in wanted later_told later_left later rest ≡ map input_value all ++ inputs_in wanted told left fulls hashes
+  inputs_more all i told later_told left later_left fulls later hashes rest full digest split_fulls split_hashes is others_are origins_are =
+      moved input_value all i (input_at wanted told left full digest) (inputs_in wanted later_told later_left later rest) (inputs_in wanted told left fulls hashes) is
+      (ap₂ (λ (f : List FullReport) (h : List (List ℕ)). inputs_in wanted told left f h) split_fulls split_hashes
+      ∙ ap₂ (λ (t : List (Option IpAddr)) (o : List Origin). input_at wanted told left full digest ∷ inputs_in wanted t o later rest) (sym others_are) (sym origins_are))
 
-pub no_inputs : (origins : List Origin) (fulls : List FullReport) (hashes : List (List ℕ)) → length hashes ≡ 0 → inputs_of origins fulls hashes ≡ []
-no_inputs origins [] hashes none = refl
-no_inputs origins (f ∷ fulls) [] none = refl
-no_inputs origins (f ∷ fulls) (h ∷ hashes) none = absurd (omega (arith, none))
+  pub no_inputs : (told : List (Option IpAddr)) (origins : List Origin) (fulls : List FullReport) (hashes : List (List ℕ)) → length hashes ≡ 0 → inputs_in wanted told origins fulls hashes ≡ []
+  no_inputs told origins [] hashes none = refl
+  no_inputs told origins (f ∷ fulls) [] none = refl
+  no_inputs told origins (f ∷ fulls) (h ∷ hashes) none = absurd (omega (arith, none))
 
-pub no_reports : (origins : List Origin) (fulls : List FullReport) (hashes : List (List ℕ)) → length fulls ≡ 0 → inputs_of origins fulls hashes ≡ []
-no_reports origins [] hashes none = refl
-no_reports origins (f ∷ fulls) hashes none = absurd (omega (arith, none))
+  pub no_reports : (told : List (Option IpAddr)) (origins : List Origin) (fulls : List FullReport) (hashes : List (List ℕ)) → length fulls ≡ 0 → inputs_in wanted told origins fulls hashes ≡ []
+  no_reports told origins [] hashes none = refl
+  no_reports told origins (f ∷ fulls) hashes none = absurd (omega (arith, none))
 
 -- what is there is all, if nothing is left
 pub all_there : {V : Type 0} (xs left all : List V) → xs ++ left ≡ all → left ≡ [] → xs ≡ all

@@ -11,7 +11,6 @@ use Rattle.report_writing.specs.declared.origin.Origin.{Origin}
 use Rattle.flow_table.specs.Plans.{PlanValue}
 use Rattle.flow_table.specs.declared.table.Table.{Table}
 use Rattle.flow_table.specs.Tables.{IsTooLarge}
-use Rattle.exporter_options.specs.declared.beside.TheConstants as asked
 use Rattle.flow_collect.specs.Contexts.{counted_in, records_in_context, sources_of}
 use Rattle.flow_collect.specs.Headline.{all_of}
 use Rattle.flow_collect.specs.InFull.{FullSerialAnswer, IsGivenInContext}
@@ -121,7 +120,7 @@ module _ {H S : Type 0} (part : H → S) (seen : S → SourceView) where
   -- those of the first text
   abbrev first_records : CollectJob → H → List (Option IpAddr) → List Origin → List ℕ → List DataRecord
   first_records job h told origins x =
-      counted_in (record { source = h; context = record { exporter = exporter_of (first_told told) (first_origin origins); wanted = job.wanted; options = asked.NOTHING_WANTED; maps = job.maps }; filter = job.filter }) (records_of x)
+      counted_in (record { source = h; context = record { exporter = exporter_of (first_told told) (first_origin origins); wanted = job.wanted; options = job.options; maps = job.maps }; filter = job.filter }) (records_of x)
 
   records_same : (job : CollectJob) (wholes : List H) (told : List (Option IpAddr)) (origins : List Origin) (texts : List (List ℕ))
       → records_in_context (in_places job wholes told origins) texts ≡ records_in_context (in_places job (map part wholes) told origins) texts

@@ -45,9 +45,9 @@ use Rattle.command_receipt.specs.declared.run.Receipted.{Receipted}
 pub record IsMade (made : MadeWith) (job : CollectJob) (origins : List Origin) (fulls : List FullReport) (digests : List (List ℕ)) (old : Option (List ℕ)) (table : Table) (receipt : ReceiptValue) : Type 0 where
   pub text : TextDigest
   pub text_is : IsDigestOfAppended old text (export_text job.elements.now job.output job.plan.now table)
-  pub is : IsReceiptOf made job (inputs_of origins fulls digests) fulls text table receipt
+  pub is : IsReceiptOf made job (inputs_of job origins fulls digests) fulls text table receipt
   -- no input is in it twice
-  pub once : EachOnce (inputs_of origins fulls digests)
+  pub once : EachOnce (inputs_of job origins fulls digests)
 
 -- and it was put
 pub record IsPut (Holds : List ℕ → Type 0) (made : MadeWith) (job : CollectJob) (origins : List Origin) (fulls : List FullReport) (digests : List (List ℕ)) (old : Option (List ℕ)) (table : Table) : Type 0 where
@@ -61,7 +61,7 @@ abbrev pub IsNotPut : CollectJob → List Origin → List FullReport → List (L
 IsNotPut job origins fulls digests table IsUntouched (Export fault) = IsNotWritten job.output (length (rows_in table)) IsUntouched fault
 IsNotPut job origins fulls digests table IsUntouched (Receipt OutOfMemory) = Unit {0}
 IsNotPut job origins fulls digests table IsUntouched (Receipt WriteFailed) = Unit {0}
-IsNotPut job origins fulls digests table IsUntouched (Receipt (InputTwice first second)) = AreSame (inputs_of origins fulls digests) first second × IsUntouched
+IsNotPut job origins fulls digests table IsUntouched (Receipt (InputTwice first second)) = AreSame (inputs_of job origins fulls digests) first second × IsUntouched
 
 -- a fault of a receipt alone
 abbrev pub IsOfReceipt : RunFault → Type 0

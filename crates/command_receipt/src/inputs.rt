@@ -2,26 +2,33 @@
 
 ghost use Rattle.std.specs.Prelude.{◌≡◌, map, option_map, string_bytes, IfOk, IfNone, IfSome};
 ghost use Rattle.ipfix_session.specs.Faults.{name_of};
-ghost use Rattle.table_receipts.specs.Values.{file_value, input_value};
+ghost use Rattle.table_receipts.specs.Values.{exporter_value, file_value, input_value};
 ghost use Rattle.command_collect.specs.Exporters.{first_origin as first, other_origins as others};
-ghost use Rattle.command_receipt.specs.Inputs.{domain_of as domain, domains_of as domains_in, file_of as file, input_of as input, inputs_of as inputs_in, name_of_input};
+ghost use Rattle.command_receipt.specs.Inputs.{domain_of as domain, domains_of as domains_in, file_of as file, input_at as first_input, input_of as input, inputs_of as inputs_of_job, name_of_input};
 
+use crate::exporters::{exporter_receipt, first_told, others_told};
+use command_collect::CollectJob;
+use flow_table::Context;
 use ipfix_session::{DomainBalance, DomainReport, FullReport, SessionFault};
 use report_writing::Origin;
 use std::alloc::{AllocError, Global};
-use table_receipts::{DomainReceipt, FileReceipt, InputReceipt};
+use std::net::IpAddr;
+use table_receipts::{DomainReceipt, ExporterReceipt, FileReceipt, InputReceipt};
 
-/// The inputs of a run, by the origins, the reports and the digests of its sessions, which have their places.
+/// The inputs of a run, by the origins, exporters, reports and digests of its sessions, which have their places.
 pub fn inputs_of(
     alloc: Global,
+    job: &CollectJob,
     origins: &[Origin],
     reports: &[FullReport],
     digests: &[[u8; 32]],
 ) -> Result<Vec<InputReceipt>, AllocError>
     ensures { IfOk result (λ all. map input_value all.items
-        ≡ inputs_in origins.now reports.now digests.now) }
+        ≡ inputs_of_job job.now origins.now reports.now digests.now) }
 {
     let mut all = Vec::with_capacity(alloc, reports.len())?;
+    let wanted = job.wanted;
+    let mut told = job.exporters;
     let mut left = origins;
     let mut fulls = reports;
     let mut hashes = digests;
@@ -29,12 +36,30 @@ pub fn inputs_of(
         let Some((digest, rest)) = hashes.split_first() else {
             return Ok(all);
         };
-        all.push(input_of(alloc, first_origin(left), full, *digest)?)?;
+        all.push(input_at(alloc, wanted, told, left, full, *digest)?)?;
+        told = others_told(told);
         left = other_origins(left);
         fulls = later;
         hashes = rest;
     }
     Ok(all)
+}
+
+// The input of the session at the first place.
+fn input_at(
+    alloc: Global,
+    wanted: Context,
+    told: &[Option<IpAddr>],
+    origins: &[Origin],
+    full: &FullReport,
+    sha256: [u8; 32],
+) -> Result<InputReceipt, AllocError>
+    ensures { IfOk result (λ i. input_value i
+        ≡ first_input wanted told.now origins.now full.now sha256) }
+{
+    let origin = first_origin(origins);
+    let exporter = exporter_receipt(alloc, wanted, first_told(told), &origin)?;
+    input_of(alloc, origin, exporter, full, sha256)
 }
 
 // The first origin, if there is one.
@@ -60,10 +85,12 @@ fn other_origins<'a, 'b>(origins: &'b [Origin<'a>]) -> &'b [Origin<'a>]
 fn input_of(
     alloc: Global,
     origin: Origin,
+    exporter: ExporterReceipt,
     full: &FullReport,
     sha256: [u8; 32],
 ) -> Result<InputReceipt, AllocError>
-    ensures { IfOk result (λ i. input_value i ≡ input origin.entry full.now sha256) }
+    ensures { IfOk result (λ i. input_value i
+        ≡ input origin.entry (exporter_value exporter) full.now sha256) }
 {
     Ok(InputReceipt {
         file: file_of(alloc, origin, full.stopped_at.octet, sha256)?,
@@ -71,6 +98,7 @@ fn input_of(
         records: full.report.delivered,
         fault: fault_of(alloc, full.report.fault)?,
         domains: domains_of(alloc, &full.report.domains, &full.balances)?,
+        exporter,
     })
 }
 

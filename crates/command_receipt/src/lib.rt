@@ -2,6 +2,7 @@
 #![tactic(auto)]
 
 mod collecting;
+mod exporters;
 mod fault;
 mod files;
 mod hashed_table;

@@ -50,7 +50,7 @@ pub fn make_run<S: Drop, W: Write + Drop>(
         (result.out ≡ out)) }
 {
     let collected = &run.gathered.run;
-    let inputs = match inputs_of(alloc, origins, &collected.sessions, &run.digests) {
+    let inputs = match inputs_of(alloc, job, origins, &collected.sessions, &run.digests) {
         Ok(inputs) => inputs,
         Err(AllocError) => return without_receipt(out, ReceiptFault::OutOfMemory),
     };

@@ -1,27 +1,34 @@
 -- How a table was made again of files, and how that was told.
-use Rattle.std.specs.Prelude.{◌≡◌, ◌≢◌, ◌⊎◌, ℕ, ◌==◌, if◌then◌else◌, List, [], ◌++◌, All, Option, Some, None, codes, length, map}
+use Rattle.std.specs.Prelude.{◌≡◌, ◌≢◌, ◌⊎◌, ℕ, List, [], ◌++◌, All, Option, None, map}
 use Rattle.element_registry.specs.Registries.{Known}
-use Rattle.flow_filtered_plan.specs.FilteredPlans.{context_of}
+use Rattle.flow_maps.specs.declared.maps.Maps.{Maps}
+use Rattle.flow_plan_maps.specs.declared.named.NamedKey.{NamedKey}
 use Rattle.input_sources.specs.Had.{IsUnread, PathsAreOpened}
+use Rattle.input_sources.specs.MapsLoaded.{AreMapsOf, TellsNoMaps}
 use Rattle.input_sources.specs.Origins.{AreFiles}
 use Rattle.input_sources.specs.PlansTold.{IsLoaded, TellsNoText}
+use Rattle.input_sources.specs.declared.maps.LoadedMap.{LoadedMap}
 use Rattle.input_sources.specs.declared.plan.LoadedPlan.{LoadedPlan}
 use Rattle.ipfix_session.specs.Sources.{SourceView}
 use Rattle.report_writing.specs.declared.origin.Origin.{Origin}
 use Rattle.report_writing.specs.declared.reason.Reason.{Reason}
 use Rattle.report_writing.specs.declared.status.Status.{Status}
-use Rattle.report_writing.specs.declared.status.Status.TheVariants.{NotOpened, Failed}
-use Rattle.table_receipts.specs.Values.{ReceiptValue, file_value}
+use Rattle.report_writing.specs.declared.status.Status.TheVariants.{Well, SessionFault, NotOpened, Failed}
+use Rattle.report_writing.specs.declared.verbosity.Verbosity.{Verbosity}
+use Rattle.table_receipts.specs.Values.{FileValue, ReceiptValue, file_value}
+use Rattle.receipt_maps.specs.MapsTold.{AreMapsWith}
+use Rattle.receipt_maps.specs.declared.maps.MapsOfPlan.{MapsOfPlan}
 use Rattle.receipt_differences.specs.Differences.{table_differs}
-use Rattle.receipt_differences.specs.Remade.{elements_differ}
+use Rattle.receipt_differences.specs.Remade.{elements_differ, maps_differ}
 use Rattle.command_collect.specs.CollectLines.{collect_fault_line}
 use Rattle.command_collect.specs.Told.{TellsBehind, TellsNotOpened}
 use Rattle.command_receipt.specs.Faults.{run_fault_line}
 use Rattle.command_receipt.specs.declared.remaking.RemakeFault.TheVariants.{Collect, Run}
-use Rattle.table_remaking.specs.Again.{IsCompared, names_exporter}
+use Rattle.table_remaking.specs.Again.{IsCompared}
 use Rattle.table_remaking.specs.Faults.{IsFaultOf}
 use Rattle.table_remaking.specs.declared.again.AgainFault.{AgainFault}
 use Rattle.table_remaking.specs.declared.again.AgainFault.TheVariants.{NotMade, OutOfMemory}
+use Rattle.table_remaking.specs.declared.again.MadeBy.{MadeBy}
 use Rattle.command_verify.specs.Verified.{TellsDifferences, Verifies, memory_line}
 use Rattle.command_verify.specs.declared.verify.VerifyJob.{VerifyJob}
 
@@ -30,23 +37,37 @@ again_fault_line (NotMade (Collect fault)) = collect_fault_line fault
 again_fault_line (NotMade (Run fault)) = run_fault_line fault
 again_fault_line OutOfMemory = memory_line
 
--- ---- what isn't made again
-
-abbrev pub maps_line : List ℕ
-maps_line = codes "collectd: verify: plan: it names maps, and no table with maps is made again\n"
-
-abbrev pub exporters_line : List ℕ
-exporters_line = codes "collectd: verify: plan: it names exporters, which no receipt tells\n"
-
--- why a table of this plan isn't, if it isn't
-abbrev pub why_not : LoadedPlan → Option (List ℕ)
-why_not loaded =
-    if length loaded.maps.maps.items == 0 then (if names_exporter (context_of loaded.read) then Some exporters_line else None)
-    else Some maps_line
+-- ---- what it isn't made again by
 
 -- the files of elements that are given have not the octets of those that the receipt tells
 abbrev pub given_differ : VerifyJob → ReceiptValue → List ℕ
 given_differ job said = elements_differ (map file_value job.element_files.now) said.elements
+
+-- the files of maps have not the octets of those that the receipt tells
+abbrev pub files_differ : MapsOfPlan → ReceiptValue → List ℕ
+files_differ maps said = maps_differ (map file_value maps.files.items) said.maps
+
+-- ---- what it is made again by
+
+abbrev pub names_of : List FileValue → List (List ℕ)
+names_of files = map (λ (f : FileValue). f.name) files
+
+-- files of these names have texts that gave these maps, each of its own
+abbrev pub AreMapsNamed : (List ℕ → List ℕ → Type 0) → List (List ℕ) → List NamedKey → MapsOfPlan → Type 0
+AreMapsNamed Has names keys maps = (read : List LoadedMap) × AreMapsOf Has names read × AreMapsWith names read keys maps
+
+-- the first file that gives no map was told, or that there was no memory
+abbrev pub HasNoMaps : (List ℕ → List ℕ → Type 0) → (List ℕ → Reason → Type 0) → Verbosity → List (List ℕ) → (List ℕ → Type 0) → Status → Type 0
+HasNoMaps Has Refuses verbosity names AreTold NotOpened = TellsNoMaps Has Refuses verbosity names AreTold
+HasNoMaps Has Refuses verbosity names AreTold Failed = AreTold memory_line
+HasNoMaps Has Refuses verbosity names AreTold Well = ⊥
+HasNoMaps Has Refuses verbosity names AreTold SessionFault = ⊥
+
+-- the plan in the receipt, its maps, and the exporters that are told of the files
+pub record IsMadeBy (job : VerifyJob) (loaded : LoadedPlan) (maps : Option Maps) (by : MadeBy) : Type 0 where
+  pub plan : by.loaded ≡ loaded
+  pub maps_are : by.maps ≡ maps
+  pub exporters : by.exporters.items ≡ job.exporters.now
 
 -- ---- how it ended
 
@@ -59,10 +80,10 @@ module _ (said : ReceiptValue) (table : List ℕ) (status : Status) where
 
 module _ {S : Type 0} (seen : S → SourceView) (said : ReceiptValue) (table : List ℕ) (status : Status) where
   -- of these sources it was made again, and what differs was told; or it wasn't made
-  abbrev pub TellsAgain : LoadedPlan → List S → List Origin → (List ℕ → Type 0) → Type 0
-  TellsAgain loaded sources origins AreTold =
-      ((lines : List ℕ) × IsCompared seen loaded.elements loaded.read said sources origins table lines × TellsDifferences said lines status AreTold)
-      ⊎ ((fault : AgainFault) × IsFaultOf seen loaded.elements loaded.read said sources origins fault × (status ≡ Failed) × AreTold (again_fault_line fault))
+  abbrev pub TellsAgain : MadeBy → List S → List Origin → (List ℕ → Type 0) → Type 0
+  TellsAgain by sources origins AreTold =
+      ((lines : List ℕ) × IsCompared seen by said sources origins table lines × TellsDifferences said lines status AreTold)
+      ⊎ ((fault : AgainFault) × IsFaultOf seen by said sources origins fault × (status ≡ Failed) × AreTold (again_fault_line fault))
 
 module _ {S O : Type 0} (seen : S → SourceView) (job : VerifyJob) (said : ReceiptValue) (table : List ℕ) (status : Status)
     (opens : O → List ℕ → S → Type 0) (sizes : O → List ℕ → Option ℕ → Type 0) (refuses : O → List ℕ → Reason → Type 0) (coming : O → Option (List S)) (before after : O) (AreTold : List ℕ → Type 0) where
@@ -72,20 +93,46 @@ module _ {S O : Type 0} (seen : S → SourceView) (job : VerifyJob) (said : Rece
     pub told : TellsNotOpened (sizes before) (refuses before) (map (λ path. path.now) job.again.now) job.verbosity AreTold
 
   -- each was opened once, and none was read before
-  pub record OpensFiles (loaded : LoadedPlan) : Type 0 where
+  pub record OpensFiles (by : MadeBy) : Type 0 where
     pub sources : List S
     pub had : PathsAreOpened opens coming before after job.again.now sources
     pub unread : All (IsUnread seen) sources
-    pub told : TellsBehind (AreFiles (sizes before) job.again.now) job.verbosity [] AreTold (TellsAgain seen said table status loaded sources)
+    pub told : TellsBehind (AreFiles (sizes before) job.again.now) job.verbosity [] AreTold (TellsAgain seen said table status by sources)
 
-  abbrev pub OpensOrLacks : LoadedPlan → Type 0
-  OpensOrLacks loaded = LacksFile ⊎ OpensFiles loaded
+  abbrev pub OpensOrLacks : MadeBy → Type 0
+  OpensOrLacks by = LacksFile ⊎ OpensFiles by
 
-  -- a table of this plan isn't made again; or the files are opened
+  -- by this plan and these maps
+  pub record OpensWith (loaded : LoadedPlan) (maps : Option Maps) : Type 0 where
+    pub by : MadeBy
+    pub is_made_by : IsMadeBy job loaded maps by
+    pub opens_files : OpensOrLacks by
+
+  -- or memory runs out
+  abbrev pub OpensBy : LoadedPlan → Option Maps → Type 0
+  OpensBy loaded maps = OpensWith loaded maps ⊎ ((status ≡ Failed) × AreTold memory_line)
+
+  -- with other files of maps than it was made with it isn't made again; else by these
+  abbrev pub ComparesWith : LoadedPlan → MapsOfPlan → Type 0
+  ComparesWith loaded maps =
+      ((files_differ maps said ≢ []) × ComparesAlone said table status (files_differ maps said) AreTold)
+      ⊎ ((status ≡ Failed) × AreTold memory_line)
+      ⊎ ((files_differ maps said ≡ []) × OpensBy loaded maps.maps)
+
+module _ {S O : Type 0} (seen : S → SourceView) (job : VerifyJob) (said : ReceiptValue) (table : List ℕ) (status : Status)
+    (opens : O → List ℕ → S → Type 0) (sizes : O → List ℕ → Option ℕ → Type 0) (refuses : O → List ℕ → Reason → Type 0) (coming : O → Option (List S)) (before after : O) (AreTold : List ℕ → Type 0)
+    (Has : List ℕ → List ℕ → Type 0) (RefusesText : List ℕ → Reason → Type 0) where
+  -- a file that the receipt names gives no map; or the maps of the plan are those of these files
+  abbrev pub ComparesMapped : LoadedPlan → Type 0
+  ComparesMapped loaded =
+      HasNoMaps Has RefusesText job.verbosity (names_of said.maps) AreTold status
+      ⊎ ((maps : MapsOfPlan) × AreMapsNamed Has (names_of said.maps) loaded.maps.keys.items maps × ComparesWith seen job said table status opens sizes refuses coming before after AreTold loaded maps)
+
+  -- if the plan names some
   abbrev pub ComparesLoaded : LoadedPlan → Type 0
   ComparesLoaded loaded =
-      ((line : List ℕ) × (why_not loaded ≡ Some line) × ComparesAlone said table status line AreTold)
-      ⊎ ((why_not loaded ≡ None) × OpensOrLacks loaded)
+      ((loaded.maps.maps.items ≡ []) × OpensBy seen job said table status opens sizes refuses coming before after AreTold loaded None)
+      ⊎ ((loaded.maps.maps.items ≢ []) × ComparesMapped loaded)
 
   -- the text in the receipt is no plan
   pub record LacksPlan (known : List Known) : Type 0 where
@@ -116,4 +163,4 @@ module _ {S O : Type 0} (seen : S → SourceView) (job : VerifyJob) (status : St
   -- the receipt was read, and then the table, which is compared; or one of them wasn't read
   abbrev pub RunsVerify : (List ℕ → List ℕ → Type 0) → (List ℕ → Reason → Type 0) → List Known → Type 0
   RunsVerify Has RefusesText known =
-      Verifies Has RefusesText job status AreTold (λ said table. ComparesFiles seen job said table status opens sizes refuses coming before after AreTold known)
+      Verifies Has RefusesText job status AreTold (λ said table. ComparesFiles seen job said table status opens sizes refuses coming before after AreTold Has RefusesText known)

@@ -1,21 +1,26 @@
 //! Comparing a table with its receipt, and with the one that files give.
 
 ghost use Rattle.std.specs.Prelude.{◌≡◌, ◌++◌, IfOk};
-ghost use Rattle.std.specs.Option.{option_map};
 ghost use Rattle.report_writing.specs.Told.{AreToldTo};
 ghost use Rattle.report_writing.specs.Writing.{Tells};
 ghost use Rattle.table_receipts.specs.Values.{receipt_value, table_value};
 ghost use Rattle.receipt_differences.specs.Differences.{table_differs};
-ghost use Rattle.command_verify.specs.Again.{ComparesAlone, ComparesFiles, ComparesGiven, ComparesLoaded, OpensOrLacks, TellsAgain, again_fault_line, given_differ, why_not as reason_of};
+ghost use Rattle.command_verify.specs.Again.{ComparesAlone, ComparesFiles, ComparesGiven, ComparesLoaded, ComparesMapped, ComparesWith, IsMadeBy, OpensBy, OpensOrLacks, TellsAgain, again_fault_line, files_differ, given_differ};
 
+use crate::maps::load_said_maps;
 use crate::telling::{tell_differences, tell_fault};
 use crate::verify::VerifyJob;
 use command_collect::write_collect_fault;
 use command_receipt::{RemakeFault, write_run_fault};
 use element_registry::Elements;
+use flow_maps::Maps;
+use input_files::ReadText;
 use input_sources::{LoadedPlan, NotOpened, OpenSource, OpenedAll, load_plan_text, open_all};
 use ipfix_session::Source;
-use receipt_differences::{write_element_differences, write_table_differences};
+use receipt_differences::{
+    write_element_differences, write_map_differences, write_table_differences,
+};
+use receipt_maps::MapsOfPlan;
 use report_writing::{Origin, Status, WriteLines, write_fault, write_not_had_because};
 use std::alloc::{AllocError, Global};
 use std::io::{self, Write};
@@ -23,10 +28,11 @@ use std::rt::Clock;
 use std::sync::Wait;
 use std::thread::Threads;
 use table_receipts::{FileReceipt, ReceiptFault, TableReceipt};
-use table_remaking::{AgainFault, TableThere, compare_again, names_exporter};
+use table_remaking::{AgainFault, MadeBy, TableThere, compare_again};
 
 /// Compares a table with its receipt; and with files with the one that these give.
 pub fn compare_files<
+    T: ReadText,
     S: Source + Send + Drop,
     O: OpenSource<S>,
     P: Write + Copy + Drop + Send,
@@ -35,6 +41,7 @@ pub fn compare_files<
 >(
     rt: &R,
     alloc: Global,
+    texts: &T,
     files: &mut O,
     elements: Elements,
     job: &VerifyJob,
@@ -44,13 +51,13 @@ pub fn compare_files<
 ) -> Status
     ensures compares { ComparesFiles S.seen job.now (receipt_value there.now.receipt.now) there.now.table.now result
         O.opens O.sizes O.refuses O.coming files.old files.new
-        (AreToldTo E.contents E.failed err.old err.new) elements }
+        (AreToldTo E.contents E.failed err.old err.new) (T.has texts.now) (T.refuses texts.now) elements }
     ensures kept { E.failed err.old → E.failed err.new }
 {
     if job.again.is_empty() {
         compare_alone(alloc, there, b"", err)
     } else {
-        compare_given(rt, alloc, files, elements, job, there, progress, err)
+        compare_given(rt, alloc, texts, files, elements, job, there, progress, err)
     }
 }
 
@@ -73,6 +80,7 @@ fn compare_alone<E: WriteLines>(
 
 // Makes the table again, if the files of elements are those of the receipt, by its plan.
 fn compare_given<
+    T: ReadText,
     S: Source + Send + Drop,
     O: OpenSource<S>,
     P: Write + Copy + Drop + Send,
@@ -81,6 +89,7 @@ fn compare_given<
 >(
     rt: &R,
     alloc: Global,
+    texts: &T,
     files: &mut O,
     elements: Elements,
     job: &VerifyJob,
@@ -90,7 +99,7 @@ fn compare_given<
 ) -> Status
     ensures compares { ComparesGiven S.seen job.now (receipt_value there.now.receipt.now) there.now.table.now result
         O.opens O.sizes O.refuses O.coming files.old files.new
-        (AreToldTo E.contents E.failed err.old err.new) elements }
+        (AreToldTo E.contents E.failed err.old err.new) (T.has texts.now) (T.refuses texts.now) elements }
     ensures kept { E.failed err.old → E.failed err.new }
 {
     let Ok(lines) = given_differences(alloc, job, there) else {
@@ -100,13 +109,81 @@ fn compare_given<
         return compare_alone(alloc, there, &lines, err);
     }
     match load_plan_text(alloc, elements, there.receipt.plan.as_bytes(), err) {
-        Some(loaded) => compare_loaded(rt, alloc, files, job, &loaded, there, progress, err),
+        Some(loaded) => compare_loaded(rt, alloc, texts, files, job, loaded, there, progress, err),
         None => Status::NotOpened,
     }
 }
 
-// Makes the table again by this plan, unless none of it is.
+// Makes the table again by this plan, and by its maps, if it names some.
 fn compare_loaded<
+    T: ReadText,
+    S: Source + Send + Drop,
+    O: OpenSource<S>,
+    P: Write + Copy + Drop + Send,
+    E: WriteLines,
+    R: Clock + Threads + Wait + Sync,
+>(
+    rt: &R,
+    alloc: Global,
+    texts: &T,
+    files: &mut O,
+    job: &VerifyJob,
+    loaded: LoadedPlan,
+    there: &TableThere,
+    progress: Option<P>,
+    err: &mut E,
+) -> Status
+    ensures compares { ComparesLoaded S.seen job.now (receipt_value there.now.receipt.now) there.now.table.now result
+        O.opens O.sizes O.refuses O.coming files.old files.new
+        (AreToldTo E.contents E.failed err.old err.new) (T.has texts.now) (T.refuses texts.now) loaded }
+    ensures kept { E.failed err.old → E.failed err.new }
+{
+    if loaded.maps.maps.is_empty() {
+        open_with(rt, alloc, files, job, loaded, None, there, progress, err)
+    } else {
+        compare_mapped(rt, alloc, texts, files, job, loaded, there, progress, err)
+    }
+}
+
+// Loads the files of maps that the receipt names, and makes the table again by these maps.
+fn compare_mapped<
+    T: ReadText,
+    S: Source + Send + Drop,
+    O: OpenSource<S>,
+    P: Write + Copy + Drop + Send,
+    E: WriteLines,
+    R: Clock + Threads + Wait + Sync,
+>(
+    rt: &R,
+    alloc: Global,
+    texts: &T,
+    files: &mut O,
+    job: &VerifyJob,
+    loaded: LoadedPlan,
+    there: &TableThere,
+    progress: Option<P>,
+    err: &mut E,
+) -> Status
+    ensures compares { ComparesMapped S.seen job.now (receipt_value there.now.receipt.now) there.now.table.now result
+        O.opens O.sizes O.refuses O.coming files.old files.new
+        (AreToldTo E.contents E.failed err.old err.new) (T.has texts.now) (T.refuses texts.now) loaded }
+    ensures kept { E.failed err.old → E.failed err.new }
+{
+    match load_said_maps(
+        texts,
+        alloc,
+        &there.receipt.maps,
+        &loaded.maps.keys,
+        job.verbosity,
+        err,
+    ) {
+        Ok(maps) => compare_with(rt, alloc, files, job, loaded, maps, there, progress, err),
+        Err(status) => status,
+    }
+}
+
+// Makes the table again by these maps, if their files are those of the receipt.
+fn compare_with<
     S: Source + Send + Drop,
     O: OpenSource<S>,
     P: Write + Copy + Drop + Send,
@@ -117,19 +194,53 @@ fn compare_loaded<
     alloc: Global,
     files: &mut O,
     job: &VerifyJob,
-    loaded: &LoadedPlan,
+    loaded: LoadedPlan,
+    maps: MapsOfPlan,
     there: &TableThere,
     progress: Option<P>,
     err: &mut E,
 ) -> Status
-    ensures compares { ComparesLoaded S.seen job.now (receipt_value there.now.receipt.now) there.now.table.now result
+    ensures compares { ComparesWith S.seen job.now (receipt_value there.now.receipt.now) there.now.table.now result
         O.opens O.sizes O.refuses O.coming files.old files.new
-        (AreToldTo E.contents E.failed err.old err.new) loaded.now }
+        (AreToldTo E.contents E.failed err.old err.new) loaded maps }
     ensures kept { E.failed err.old → E.failed err.new }
 {
-    match why_not(loaded) {
-        Some(line) => compare_alone(alloc, there, line.as_bytes(), err),
-        None => open_files(rt, alloc, files, job, loaded, there, progress, err),
+    let Ok(others) = file_differences(alloc, &maps, there) else {
+        return tell_fault(ReceiptFault::OutOfMemory, err);
+    };
+    if !others.is_empty() {
+        return compare_alone(alloc, there, &others, err);
+    }
+    let MapsOfPlan { maps, .. } = maps;
+    open_with(rt, alloc, files, job, loaded, maps, there, progress, err)
+}
+
+// Makes the table again by this plan and these maps.
+fn open_with<
+    S: Source + Send + Drop,
+    O: OpenSource<S>,
+    P: Write + Copy + Drop + Send,
+    E: WriteLines,
+    R: Clock + Threads + Wait + Sync,
+>(
+    rt: &R,
+    alloc: Global,
+    files: &mut O,
+    job: &VerifyJob,
+    loaded: LoadedPlan,
+    maps: Option<Maps>,
+    there: &TableThere,
+    progress: Option<P>,
+    err: &mut E,
+) -> Status
+    ensures opens { OpensBy S.seen job.now (receipt_value there.now.receipt.now) there.now.table.now result
+        O.opens O.sizes O.refuses O.coming files.old files.new
+        (AreToldTo E.contents E.failed err.old err.new) loaded maps }
+    ensures kept { E.failed err.old → E.failed err.new }
+{
+    match made_by(alloc, job, loaded, maps) {
+        Ok(by) => open_files(rt, alloc, files, job, &by, there, progress, err),
+        Err(AllocError) => tell_fault(ReceiptFault::OutOfMemory, err),
     }
 }
 
@@ -145,20 +256,20 @@ fn open_files<
     alloc: Global,
     files: &mut O,
     job: &VerifyJob,
-    loaded: &LoadedPlan,
+    by: &MadeBy,
     there: &TableThere,
     progress: Option<P>,
     err: &mut E,
 ) -> Status
     ensures opens { OpensOrLacks S.seen job.now (receipt_value there.now.receipt.now) there.now.table.now result
         O.opens O.sizes O.refuses O.coming files.old files.new
-        (AreToldTo E.contents E.failed err.old err.new) loaded.now }
+        (AreToldTo E.contents E.failed err.old err.new) by.now }
     ensures kept { E.failed err.old → E.failed err.new }
 {
     match open_all(rt, alloc, files, job.again, progress, job.verbosity, err) {
         Ok(OpenedAll { sources, origins }) => {
             let sources = sources.into_sources();
-            tell_again(rt, alloc, sources, &origins, loaded, there, err)
+            tell_again(rt, alloc, sources, &origins, by, there, err)
         }
         Err(NotOpened { path, reason }) => {
             let _ = write_not_had_because(job.verbosity, "open", path, reason, err);
@@ -167,21 +278,38 @@ fn open_files<
     }
 }
 
+// What the table is made again by.
+fn made_by(
+    alloc: Global,
+    job: &VerifyJob,
+    loaded: LoadedPlan,
+    maps: Option<Maps>,
+) -> Result<MadeBy, AllocError>
+    ensures { IfOk result (IsMadeBy job.now loaded maps) }
+{
+    let exporters = Vec::from_slice(alloc, job.exporters)?;
+    Ok(MadeBy {
+        loaded,
+        maps,
+        exporters,
+    })
+}
+
 // Makes the table again of these sources, and tells what differs.
 fn tell_again<S: Source + Send + Drop, E: WriteLines, R: Threads + Wait + Sync>(
     rt: &R,
     alloc: Global,
     sources: Vec<S>,
     origins: &[Origin],
-    loaded: &LoadedPlan,
+    by: &MadeBy,
     there: &TableThere,
     err: &mut E,
 ) -> Status
     ensures tells { TellsAgain S.seen (receipt_value there.now.receipt.now) there.now.table.now result
-        loaded.now sources.items origins.now (AreToldTo E.contents E.failed err.old err.new) }
+        by.now sources.items origins.now (AreToldTo E.contents E.failed err.old err.new) }
     ensures kept { E.failed err.old → E.failed err.new }
 {
-    match compare_again(rt, alloc, sources, origins, loaded, there) {
+    match compare_again(rt, alloc, sources, origins, by, there) {
         Ok(lines) => tell_differences(there.receipt, &lines, err),
         Err(fault) => {
             let _ = write_again_fault(fault, err);
@@ -225,19 +353,21 @@ fn given_differences(
     }
 }
 
-// Why a table of this plan isn't made again, if it isn't.
-fn why_not(loaded: &LoadedPlan) -> Option<&'static str>
-    ensures { option_map (λ line. line.now) result ≡ reason_of loaded.now }
+// The lines of files of maps that a table wasn't made with.
+fn file_differences(
+    alloc: Global,
+    maps: &MapsOfPlan,
+    there: &TableThere,
+) -> Result<Vec<u8>, AllocError>
+    ensures { IfOk result
+        (λ lines. lines.items ≡ files_differ maps.now (receipt_value there.now.receipt.now)) }
 {
-    if !loaded.maps.maps.is_empty() {
-        return Some(
-            "collectd: verify: plan: it names maps, and no table with maps is made again\n",
-        );
+    let mut lines = Vec::new(alloc);
+    let said: &[FileReceipt] = &there.receipt.maps;
+    match write_map_differences(&maps.files, said, &mut lines) {
+        Ok(()) => Ok(lines),
+        Err(_) => Err(AllocError),
     }
-    if names_exporter(loaded.read.context()) {
-        return Some("collectd: verify: plan: it names exporters, which no receipt tells\n");
-    }
-    None
 }
 
 fn write_again_fault<E: WriteLines>(fault: AgainFault, err: &mut E) -> io::Result<()>

@@ -2,6 +2,7 @@
 #![tactic(auto)]
 
 mod comparing;
+mod maps;
 mod names;
 mod telling;
 mod verify;

@@ -16,6 +16,7 @@ use ipfix_session::Source;
 use report_writing::{Status, Verbosity, WriteLines, write_not_had_because};
 use std::alloc::Global;
 use std::io::Write;
+use std::net::IpAddr;
 use std::rt::Clock;
 use std::sync::Wait;
 use std::thread::Threads;
@@ -30,21 +31,23 @@ pub struct VerifyJob<'a> {
     pub table: &'a str,
     /// The files that the table is made again of: without any it isn't.
     pub again: &'a [&'a str],
+    /// The exporter that is told of each of these, if one is, by its place.
+    pub exporters: &'a [Option<IpAddr>],
     /// The files of elements that are given, as a receipt tells them.
     pub element_files: &'a [FileReceipt],
     pub verbosity: Verbosity,
 }
 
-/// Compares a table with its receipt, by its octets and their SHA-256. With files it makes the table again of these, by the
-/// plan, the format and the export time in the receipt and by `elements`, those of the files that are given, and compares
-/// what they give with it: the files with the inputs by their octets, whatever their names or order, and the tables octet
-/// for octet. It isn't made again by files of elements that haven't the octets of those in the receipt, nor if its plan
-/// names maps or exporters: then a line says so.
+/// Compares a table with its receipt, by its octets and their SHA-256. With files it makes the table again of these, by
+/// the plan, the format and the export time in the receipt and by `elements`, those of the files that are given, and
+/// compares what they give with it: the files with the inputs by their octets and exporters, whatever their names or
+/// order, and the tables octet for octet. Its maps are those of the files that the receipt names. It isn't made again
+/// by files of elements or of maps that haven't the octets of those in the receipt: then a line says so.
 ///
-/// The receipt is read first, then the table, then the plan, and the files are opened last. The status is `Well` if nothing
-/// differs, and `SessionFault` if anything does; `NotOpened` if a text or a file can't be had, the text of the receipt
-/// isn't one, or that of its plan; `Failed` if memory runs out, or the table can't be made of the files. `err` has the
-/// lines that say so.
+/// The receipt is read first, then the table, then the plan, then the files of maps, and the files are opened last. The
+/// status is `Well` if nothing differs, and `SessionFault` if anything does; `NotOpened` if a text or a file can't be
+/// had, the text of the receipt isn't one, or that of its plan; `Failed` if memory runs out, or the table can't be made
+/// of the files. `err` has the lines that say so.
 pub fn run_verify<
     T: ReadText,
     S: Source + Send + Drop,
@@ -89,7 +92,9 @@ pub fn run_verify<
         receipt: &receipt,
         table: &table,
     };
-    compare_files(rt, alloc, files, elements, job, &there, progress, err)
+    compare_files(
+        rt, alloc, texts, files, elements, job, &there, progress, err,
+    )
 }
 
 // The receipt that octets are the text of.

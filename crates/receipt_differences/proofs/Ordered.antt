@@ -9,11 +9,11 @@ use Rattle.std.proofs.lemmas.List.{get_or-drop, get_or-take, length-drop, length
 use Rattle.std.proofs.lemmas.List.Elements.{All-weaker}
 use Rattle.std.proofs.lemmas.List.Sorted.{sum_by-IsPermutation}
 use Rattle.std.proofs.lemmas.List.Sums.{sum_by-cons, sum_by-take-drop}
-use Rattle.table_receipts.specs.Values.{InputValue, input_value}
+use Rattle.table_receipts.specs.Values.{ExporterValue, InputValue, input_value}
 use Rattle.table_receipts.specs.declared.receipt.InputReceipt.{InputReceipt}
-use Rattle.receipt_differences.specs.Inputs.{count_like, file_differs, gave_other, has_octets, input_differs}
+use Rattle.receipt_differences.specs.Inputs.{count_like, count_octets, file_differs, gave_other, has_octets, input_differs, is_like}
 use Rattle.receipt_differences.specs.Orders.{mark, values_of}
-use Rattle.receipt_differences.proofs.Silent.{and_parts, count_none, octets_are}
+use Rattle.receipt_differences.proofs.Silent.{and_parts, count_none, octets_are, parts_are}
 
 count_map : {X Y : Type 0} (p : Y → Bool) (value : X → Y) (xs : List X) → count_by p (map value xs) ≡ count_by (λ x. p (value x)) xs
 count_map p value [] = refl
@@ -34,16 +34,22 @@ flat_same f g each (x ∷ xs) = ap (λ l. l ++ flat_map f xs) (each x) ∙ ap (�
 
 module _ (inputs files : List InputReceipt) (own others : List (Bor InputReceipt)) (of_inputs : IsPermutation inputs (map (λ i. i.now) own)) (of_files : IsPermutation files (map (λ i. i.now) others)) where
   like_own : (i : InputValue) → count_like i (values_of own) ≡ count_like i (map input_value inputs)
-  like_own i = counted (has_octets i.file.octets i.file.digest) inputs own of_inputs
+  like_own i = counted (is_like i.file.octets i.file.digest i.exporter) inputs own of_inputs
 
   like_others : (i : InputValue) → count_like i (values_of others) ≡ count_like i (map input_value files)
-  like_others i = counted (has_octets i.file.octets i.file.digest) files others of_files
+  like_others i = counted (is_like i.file.octets i.file.digest i.exporter) files others of_files
+
+  octets_own : (i : InputValue) → count_octets i (values_of own) ≡ count_octets i (map input_value inputs)
+  octets_own i = counted (has_octets i.file.octets i.file.digest) inputs own of_inputs
+
+  octets_others : (i : InputValue) → count_octets i (values_of others) ≡ count_octets i (map input_value files)
+  octets_others i = counted (has_octets i.file.octets i.file.digest) files others of_files
 
   input_same : (i : InputValue) → input_differs (values_of own) (values_of others) i ≡ input_differs (map input_value inputs) (map input_value files) i
-  input_same i = rw (like_own i, like_others i, counted (gave_other i) files others of_files) refl
+  input_same i = rw (like_own i, like_others i, octets_own i, octets_others i, counted (gave_other i) files others of_files) refl
 
   file_same : (f : InputValue) → file_differs (values_of own) (values_of others) f ≡ file_differs (map input_value inputs) (map input_value files) f
-  file_same f = rw (like_own f, like_others f) refl
+  file_same f = rw (like_own f, like_others f, octets_own f, octets_others f) refl
 
   -- what is told by the ordered ones
   pub told_of_inputs : flat_map (λ (i : InputReceipt). input_differs (values_of own) (values_of others) (input_value i)) inputs
@@ -65,6 +71,9 @@ among p digest same some ordered all =
 
 pub octets_same : (octets : ℕ) (digest : List ℕ) (i : InputValue) → has_octets octets digest i ≡ true → i.file.digest ≡ digest
 octets_same octets digest i is = (octets_are octets digest i is).1
+
+pub like_same : (octets : ℕ) (digest : List ℕ) (exporter : ExporterValue) (i : InputValue) → is_like octets digest exporter i ≡ true → i.file.digest ≡ digest
+like_same octets digest exporter i is = (parts_are octets digest exporter i is).1
 
 pub other_same : (i f : InputValue) → gave_other i f ≡ true → f.file.digest ≡ i.file.digest
 other_same i f is = octets_same i.file.octets i.file.digest f (and_parts _ _ is).0

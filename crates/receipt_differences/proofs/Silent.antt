@@ -7,11 +7,11 @@ use Rattle.std.proofs.lemmas.List.Elements.{All-cons, All-head, All-nil, All-tai
 use Rattle.std.proofs.lemmas.List.Sums.{sum_by-cons}
 use Rattle.std.proofs.lemmas.Slice.Eq.{bytes_eq-Decides}
 use Rattle.sha2.specs.Sha256.{sha256}
-use Rattle.table_receipts.specs.Values.{InputValue, TableValue}
+use Rattle.table_receipts.specs.Values.{ExporterValue, not_asked, unknown, address, InputValue, TableValue}
 use Rattle.receipt_differences.specs.DifferenceLines.{named_line, line_start, number_differs, number_line, other_line, other_unless}
 use Rattle.receipt_differences.specs.Differences.{IsTableOf, table_differs}
 use Rattle.receipt_differences.specs.Remade.{again_line, text_differs}
-use Rattle.receipt_differences.specs.Inputs.{AreMatched, HaveSameInputs, count_like, file_differs, gave_other, has_octets, input_differs, inputs_differ, report_differs}
+use Rattle.receipt_differences.specs.Inputs.{AreMatched, HaveSameInputs, count_like, exporter_same, file_differs, gave_other, has_octets, input_differs, inputs_differ, is_like, missing_of, report_differs}
 
 -- ---- no lines at all
 
@@ -166,16 +166,36 @@ octets_are octets digest i is =
     let parts = and_parts (i.file.octets == octets) (bytes_eq i.file.digest digest) is in
     ((Decides-eqb i.file.octets octets).0 parts.0, (bytes_eq-Decides i.file.digest digest).0 parts.1)
 
-enough_like : (octets : ℕ) (digest : List ℕ) (all others : List InputValue) (i : InputValue) → count_like i all ≤ count_like i others
-    → has_octets octets digest i ≡ true → count_by (has_octets octets digest) all ≤ count_by (has_octets octets digest) others
-enough_like octets digest all others i enough is =
-    let same = octets_are octets digest i is in
-    subst (λ (n : ℕ). count_by (has_octets n digest) all ≤ count_by (has_octets n digest) others) same.0
-    (subst (λ (d : List ℕ). count_by (has_octets i.file.octets d) all ≤ count_by (has_octets i.file.octets d) others) same.1 enough)
+same_exporter : (e f : ExporterValue) → exporter_same e f ≡ true → e ≡ f
+same_exporter not_asked not_asked is = refl
+same_exporter not_asked unknown is = absurd cc
+same_exporter not_asked (address b) is = absurd cc
+same_exporter unknown not_asked is = absurd cc
+same_exporter unknown unknown is = refl
+same_exporter unknown (address b) is = absurd cc
+same_exporter (address a) not_asked is = absurd cc
+same_exporter (address a) unknown is = absurd cc
+same_exporter (address a) (address b) is = ap address ((bytes_eq-Decides a b).0 is)
+
+-- nor an input that has this exporter
+pub parts_are : (octets : ℕ) (digest : List ℕ) (exporter : ExporterValue) (i : InputValue) → is_like octets digest exporter i ≡ true
+    → (i.file.octets ≡ octets) × (i.file.digest ≡ digest) × (i.exporter ≡ exporter)
+parts_are octets digest exporter i is =
+    let parts = and_parts (has_octets octets digest i) (exporter_same i.exporter exporter) is in
+    let same = octets_are octets digest i parts.0 in
+    (same.0, same.1, same_exporter i.exporter exporter parts.1)
+
+enough_like : (octets : ℕ) (digest : List ℕ) (exporter : ExporterValue) (all others : List InputValue) (i : InputValue) → count_like i all ≤ count_like i others
+    → is_like octets digest exporter i ≡ true → count_by (is_like octets digest exporter) all ≤ count_by (is_like octets digest exporter) others
+enough_like octets digest exporter all others i enough is =
+    let same = parts_are octets digest exporter i is in
+    subst (λ (n : ℕ). count_by (is_like n digest exporter) all ≤ count_by (is_like n digest exporter) others) same.0
+    (subst (λ (d : List ℕ). count_by (is_like i.file.octets d exporter) all ≤ count_by (is_like i.file.octets d exporter) others) same.1
+    (subst (λ (e : ExporterValue). count_by (is_like i.file.octets i.file.digest e) all ≤ count_by (is_like i.file.octets i.file.digest e) others) same.2 enough))
 
 input_silent : (inputs files : List InputValue) (i : InputValue) → input_differs inputs files i ≡ [] → (count_like i inputs ≤ count_like i files) × All (λ f. gave_other i f ≡ false) files
 input_silent inputs files i e =
-    let parts = else_silent (nat_lt (count_like i files) (count_like i inputs)) (named_line (codes "input") i.file.name (codes ": no FILE for it\n")) (report_differs files i) (named_said _ _ _) e in
+    let parts = else_silent (nat_lt (count_like i files) (count_like i inputs)) (named_line (codes "input") i.file.name (missing_of inputs files i (codes ": no FILE for it\n"))) (report_differs files i) (named_said _ _ _) e in
     let report = else_silent (nat_lt 0 (count_by (gave_other i) files)) (named_line (codes "input") i.file.name (codes ": another report\n")) [] (named_said _ _ _) parts.1 in
     let none : count_by (gave_other i) files ≤ 0 = not_less 0 (count_by (gave_other i) files) report.0 in
     (not_less (count_like i files) (count_like i inputs) parts.0, none_counted (gave_other i) files (omega arith))
@@ -183,29 +203,29 @@ input_silent inputs files i e =
 silent_input : (inputs files : List InputValue) (i : InputValue) → count_like i inputs ≤ count_like i files → All (λ f. gave_other i f ≡ false) files → input_differs inputs files i ≡ []
 silent_input inputs files i enough none =
     let count : count_by (gave_other i) files ≡ 0 = count_none (gave_other i) files none in
-    silent_else (nat_lt (count_like i files) (count_like i inputs)) (named_line (codes "input") i.file.name (codes ": no FILE for it\n")) (report_differs files i)
+    silent_else (nat_lt (count_like i files) (count_like i inputs)) (named_line (codes "input") i.file.name (missing_of inputs files i (codes ": no FILE for it\n"))) (report_differs files i)
     (less_not (count_like i files) (count_like i inputs) enough)
     (silent_else (nat_lt 0 (count_by (gave_other i) files)) (named_line (codes "input") i.file.name (codes ": another report\n")) [] (less_not 0 (count_by (gave_other i) files) (omega arith)) refl)
 
 file_silent : (inputs files : List InputValue) (f : InputValue) → file_differs inputs files f ≡ [] → count_like f files ≤ count_like f inputs
 file_silent inputs files f e =
-    not_less (count_like f inputs) (count_like f files) (else_silent (nat_lt (count_like f inputs) (count_like f files)) (named_line (codes "file") f.file.name (codes ": no input for it\n")) [] (named_said _ _ _) e).0
+    not_less (count_like f inputs) (count_like f files) (else_silent (nat_lt (count_like f inputs) (count_like f files)) (named_line (codes "file") f.file.name (missing_of files inputs f (codes ": no input for it\n"))) [] (named_said _ _ _) e).0
 
 silent_file : (inputs files : List InputValue) (f : InputValue) → count_like f files ≤ count_like f inputs → file_differs inputs files f ≡ []
 silent_file inputs files f enough =
-    silent_else (nat_lt (count_like f inputs) (count_like f files)) (named_line (codes "file") f.file.name (codes ": no input for it\n")) [] (less_not (count_like f inputs) (count_like f files) enough) refl
+    silent_else (nat_lt (count_like f inputs) (count_like f files)) (named_line (codes "file") f.file.name (missing_of files inputs f (codes ": no input for it\n"))) [] (less_not (count_like f inputs) (count_like f files) enough) refl
 
 all_so : {X : Type 0} (P : X → Type 0) → ((x : X) → P x) → (xs : List X) → All P xs
 all_so P each [] = All-nil P
 all_so P each (x ∷ xs) = All-cons P x xs (each x) (all_so P each xs)
 
 one_each : (inputs files : List InputValue) → All (λ i. input_differs inputs files i ≡ []) inputs → All (λ f. file_differs inputs files f ≡ []) files → AreMatched inputs files
-one_each inputs files of_inputs of_files = λ octets digest.
-    let p = has_octets octets digest in
+one_each inputs files of_inputs of_files = λ octets digest exporter.
+    let p = is_like octets digest exporter in
     let first : count_by p inputs ≤ count_by p files = at_most p inputs files (All-weaker (λ i. input_differs inputs files i ≡ []) (λ i. p i ≡ true → count_by p inputs ≤ count_by p files)
-    (λ i silent. enough_like octets digest inputs files i (input_silent inputs files i silent).0) inputs of_inputs) in
+    (λ i silent. enough_like octets digest exporter inputs files i (input_silent inputs files i silent).0) inputs of_inputs) in
     let second : count_by p files ≤ count_by p inputs = at_most p files inputs (All-weaker (λ f. file_differs inputs files f ≡ []) (λ f. p f ≡ true → count_by p files ≤ count_by p inputs)
-    (λ f silent. enough_like octets digest files inputs f (file_silent inputs files f silent)) files of_files) in
+    (λ f silent. enough_like octets digest exporter files inputs f (file_silent inputs files f silent)) files of_files) in
     omega arith
 
 pub same_inputs : (inputs files : List InputValue) → (inputs_differ inputs files ≡ []) ↔ HaveSameInputs inputs files
@@ -222,7 +242,7 @@ same_inputs inputs files = (
       empty_both (flat_map (input_differs inputs files) inputs) (flat_map (file_differs inputs files) files)
       (silent_flat (input_differs inputs files) inputs
       (All-weaker (λ i. All (λ f. gave_other i f ≡ false) files) (λ i. input_differs inputs files i ≡ [])
-      (λ i none. let level = same.matched i.file.octets i.file.digest in silent_input inputs files i (omega (arith, level)) none) inputs same.reports))
+      (λ i none. let level = same.matched i.file.octets i.file.digest i.exporter in silent_input inputs files i (omega (arith, level)) none) inputs same.reports))
       (silent_flat (file_differs inputs files) files
-      (all_so (λ f. file_differs inputs files f ≡ []) (λ f. let level = same.matched f.file.octets f.file.digest in silent_file inputs files f (omega (arith, level))) files)),
+      (all_so (λ f. file_differs inputs files f ≡ []) (λ f. let level = same.matched f.file.octets f.file.digest f.exporter in silent_file inputs files f (omega (arith, level))) files)),
 )

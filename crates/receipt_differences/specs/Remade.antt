@@ -1,7 +1,7 @@
 -- How a table that was made again differs from what a receipt says.
 use Rattle.std.specs.Prelude.{◌==◌, ◌&&◌, bytes_eq, not, ℕ, Bool, true, false, List, [], ◌∷◌, ◌++◌, codes, if◌then◌else◌}
 use Rattle.table_receipts.specs.Values.{FileValue, ReceiptValue}
-use Rattle.receipt_differences.specs.DifferenceLines.{other_unless}
+use Rattle.receipt_differences.specs.DifferenceLines.{named_line, other_line, other_unless}
 use Rattle.receipt_differences.specs.Differences.{counts_differ, rows_differ}
 use Rattle.receipt_differences.specs.Inputs.{inputs_differ}
 
@@ -39,5 +39,12 @@ files_same (f ∷ fs) (g ∷ gs) = file_same f g && files_same fs gs
 abbrev pub elements_differ : List FileValue → List FileValue → List ℕ
 elements_differ found said = other_unless (files_same found said) (codes "files of elements")
 
+-- of a map that has its place; the name is the one in the receipt
+abbrev pub map_differs : FileValue → FileValue → List ℕ
+map_differs found said = if file_same found said then [] else named_line (codes "map") said.name (codes ": not that of the receipt\n")
+
 abbrev pub maps_differ : List FileValue → List FileValue → List ℕ
-maps_differ found said = other_unless (files_same found said) (codes "files of maps")
+maps_differ [] [] = []
+maps_differ [] (s ∷ ss) = other_line (codes "files of maps")
+maps_differ (f ∷ fs) [] = other_line (codes "files of maps")
+maps_differ (f ∷ fs) (s ∷ ss) = map_differs f s ++ maps_differ fs ss

@@ -7,18 +7,18 @@ ghost use Rattle.report_writing.specs.Writing.{Tells};
 ghost use Rattle.table_receipts.specs.Values.{InputValue, input_value};
 ghost use Rattle.table_receipts.specs.declared.receipt.InputReceipt.{InputReceipt as Input};
 ghost use Rattle.receipt_differences.specs.DifferenceLines.{line_start, named_line};
-ghost use Rattle.receipt_differences.specs.Inputs.{file_differs, gave_other, has_octets, input_differs, inputs_differ, report_differs};
+ghost use Rattle.receipt_differences.specs.Inputs.{count_like as likes, file_differs, gave_other, has_octets, input_differs, inputs_differ, missing_of, report_differs};
 ghost use Rattle.receipt_differences.specs.Orders.{IsOrderOf, mark_of, values_of};
 
 use crate::order::like;
-use crate::reports::{has_octets_of, has_report_of};
+use crate::reports::{has_octets_of, has_report_of, is_like_it};
 use report_writing::{Origin, WriteLines, write_origin};
 use std::io;
 use table_receipts::{FileReceipt, InputReceipt};
 
 /// Writes a line for each input that a receipt tells of for which there is no file, or whose file gave something else, and
-/// then for each file for which there is no input. They are matched by their octets, whatever their names; `own` and
-/// `others` are the inputs and the files in the order of their digests.
+/// then for each file for which there is no input. They are matched by their octets and their exporters, whatever their
+/// names; `own` and `others` are the inputs and the files in the order of their digests.
 pub fn write_input_differences<E: WriteLines>(
     inputs: &[InputReceipt],
     files: &[InputReceipt],
@@ -64,8 +64,8 @@ fn write_input<E: WriteLines>(
     ensures { Tells E.contents E.failed err.old err.new result (input_differs
         (values_of own.now) (values_of others.now) (input_value input.now)) }
 {
-    if is_lacking(&input.file, own, others) {
-        write_named("input", &input.file, ": no FILE for it\n", err)
+    if is_lacking(input, own, others) {
+        write_missing("input", input, own, others, ": no FILE for it\n", err)
     } else {
         write_other_report(input, others, err)
     }
@@ -87,15 +87,47 @@ fn write_other_report<E: WriteLines>(
     }
 }
 
+// Whether fewer of the others have the same octets and the same exporter.
+fn is_lacking(input: &InputReceipt, own: &[&InputReceipt], others: &[&InputReceipt]) -> bool
+    requires own { IsNonDecreasingBy mark_of own.now }
+    requires others { IsNonDecreasingBy mark_of others.now }
+    ensures { result ≡ nat_lt (likes (input_value input.now) (values_of others.now))
+        (likes (input_value input.now) (values_of own.now)) }
+{
+    count_like(input, others) < count_like(input, own)
+}
+
+// Writes what the others lack: one with the same octets, which `none` says, or one with the same exporter, too.
+fn write_missing<E: WriteLines>(
+    what: &str,
+    input: &InputReceipt,
+    own: &[&InputReceipt],
+    others: &[&InputReceipt],
+    none: &str,
+    err: &mut E,
+) -> io::Result<()>
+    requires own { IsNonDecreasingBy mark_of own.now }
+    requires others { IsNonDecreasingBy mark_of others.now }
+    ensures { Tells E.contents E.failed err.old err.new result
+        (named_line what.now (string_bytes input.now.file.name)
+        (missing_of (values_of own.now) (values_of others.now) (input_value input.now) none.now)) }
+{
+    if lacks_octets(&input.file, own, others) {
+        write_named(what, &input.file, none, err)
+    } else {
+        write_named(what, &input.file, ": another exporter\n", err)
+    }
+}
+
 // Whether fewer of the others have the same octets.
-fn is_lacking(file: &FileReceipt, own: &[&InputReceipt], others: &[&InputReceipt]) -> bool
+fn lacks_octets(file: &FileReceipt, own: &[&InputReceipt], others: &[&InputReceipt]) -> bool
     requires own { IsNonDecreasingBy mark_of own.now }
     requires others { IsNonDecreasingBy mark_of others.now }
     ensures { result ≡ nat_lt
         (count_by (has_octets file.now.octets file.now.sha256) (values_of others.now))
         (count_by (has_octets file.now.octets file.now.sha256) (values_of own.now)) }
 {
-    count_like(file, others) < count_like(file, own)
+    count_octets(file, others) < count_octets(file, own)
 }
 
 // Writes the lines of the files.
@@ -127,16 +159,16 @@ fn write_file<E: WriteLines>(
     ensures { Tells E.contents E.failed err.old err.new result (file_differs
         (values_of own.now) (values_of others.now) (input_value file.now)) }
 {
-    if is_lacking(&file.file, others, own) {
-        write_named("file", &file.file, ": no input for it\n", err)
+    if is_lacking(file, others, own) {
+        write_missing("file", file, others, own, ": no input for it\n", err)
     } else {
         Ok(())
     }
 }
 
-// Writes a line of the input or the file of this name.
+/// Writes a line of the input or the file of this name.
 #[tactic(auto, unfolding(crate::specs::DifferenceLines::named_line))]
-fn write_named<E: WriteLines>(
+pub fn write_named<E: WriteLines>(
     what: &str,
     file: &FileReceipt,
     end: &str,
@@ -158,15 +190,29 @@ fn write_start<E: WriteLines>(what: &str, err: &mut E) -> io::Result<()>
     write!(err, "collectd: verify: {what}")
 }
 
+// How many have the same octets and the same exporter.
+fn count_like(input: &InputReceipt, ordered: &[&InputReceipt]) -> usize
+    requires { IsNonDecreasingBy mark_of ordered.now }
+    ensures { result ≡ likes (input_value input.now) (values_of ordered.now) }
+{
+    count_like_among(input, like(ordered, &input.file))
+}
+
+fn count_like_among(input: &InputReceipt, some: &[&InputReceipt]) -> usize
+    ensures { result ≡ likes (input_value input.now) (values_of some.now) }
+{
+    some.iter().filter(|other| is_like_it(input, other)).count()
+}
+
 // How many have the same octets.
-fn count_like(file: &FileReceipt, ordered: &[&InputReceipt]) -> usize
+fn count_octets(file: &FileReceipt, ordered: &[&InputReceipt]) -> usize
     requires { IsNonDecreasingBy mark_of ordered.now }
     ensures { result ≡ count_by (has_octets file.now.octets file.now.sha256) (values_of ordered.now) }
 {
-    count_among(file, like(ordered, file))
+    count_octets_among(file, like(ordered, file))
 }
 
-fn count_among(file: &FileReceipt, some: &[&InputReceipt]) -> usize
+fn count_octets_among(file: &FileReceipt, some: &[&InputReceipt]) -> usize
     ensures { result ≡ count_by (has_octets file.now.octets file.now.sha256) (values_of some.now) }
 {
     some.iter()

@@ -4,7 +4,7 @@ ghost use Rattle.std.specs.Prelude.{◌≡◌, map};
 ghost use Rattle.report_writing.specs.Writing.{Tells};
 ghost use Rattle.table_receipts.specs.Values.{file_value, receipt_value};
 ghost use Rattle.receipt_differences.specs.Orders.{IsOrderOf};
-ghost use Rattle.receipt_differences.specs.Remade.{again_line, bool_same, elements_differ, file_same, files_same, maps_differ, remade_differs, text_differs};
+ghost use Rattle.receipt_differences.specs.Remade.{again_line, bool_same, elements_differ, file_same, files_same, remade_differs, text_differs};
 
 use crate::inputs::write_input_differences;
 use crate::numbers::{write_count_differences, write_other_unless};
@@ -14,7 +14,7 @@ use std::io;
 use table_receipts::{FileReceipt, InputReceipt, Receipt};
 
 /// Writes a line for each thing that the receipt of a table which was made again doesn't tell as another receipt does: its
-/// inputs, matched by their octets, how many records are of each class, its rows and what they add up to, and whether
+/// inputs, matched by their octets and exporters, how many records are of each class, its rows and what they add up to, and whether
 /// it is complete. `own` and `others` are the inputs of the other receipt and its own in the order of their digests.
 pub fn write_remade_differences<E: WriteLines>(
     found: &Receipt,
@@ -80,18 +80,6 @@ pub fn write_element_differences<E: WriteLines>(
     write_other_unless(are_same_files(found, said), "files of elements", err)
 }
 
-/// Writes a line unless the files of maps have the octets of those that a receipt tells of, in their order.
-pub fn write_map_differences<E: WriteLines>(
-    found: &[FileReceipt],
-    said: &[FileReceipt],
-    err: &mut E,
-) -> io::Result<()>
-    ensures { Tells E.contents E.failed err.old err.new result
-        (maps_differ (map file_value found.now) (map file_value said.now)) }
-{
-    write_other_unless(are_same_files(found, said), "files of maps", err)
-}
-
 fn are_same_files(found: &[FileReceipt], said: &[FileReceipt]) -> bool
     ensures { result ≡ files_same (map file_value found.now) (map file_value said.now) }
 {
@@ -110,7 +98,8 @@ fn are_same_files(found: &[FileReceipt], said: &[FileReceipt]) -> bool
     rest.is_empty()
 }
 
-fn is_same_file(file: &FileReceipt, other: &FileReceipt) -> bool
+/// Whether two files have the same octets, by their number and digest.
+pub fn is_same_file(file: &FileReceipt, other: &FileReceipt) -> bool
     ensures { result ≡ file_same (file_value file.now) (file_value other.now) }
 {
     file.octets == other.octets && file.sha256 == other.sha256

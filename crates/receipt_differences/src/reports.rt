@@ -1,16 +1,37 @@
-//! What the sessions of inputs gave, compared.
+//! The octets and the exporters of inputs, and what their sessions gave, compared.
 
 ghost use Rattle.std.specs.Prelude.{◌≡◌, ◌&&◌, option_map, string_bytes};
-ghost use Rattle.table_receipts.specs.Values.{input_value};
-ghost use Rattle.receipt_differences.specs.Inputs.{domain_same, domains_same, fault_same, has_octets, report_same};
+ghost use Rattle.table_receipts.specs.Values.{exporter_value, input_value};
+ghost use Rattle.receipt_differences.specs.Inputs.{domain_same, domains_same, exporter_same, fault_same, has_octets, is_like, report_same};
 
-use table_receipts::{DomainReceipt, FileReceipt, InputReceipt};
+use table_receipts::{DomainReceipt, ExporterReceipt, FileReceipt, InputReceipt};
 
 /// Whether two files have the same octets, by their number and digest.
 pub fn has_octets_of(file: &FileReceipt, other: &InputReceipt) -> bool
     ensures { result ≡ has_octets file.now.octets file.now.sha256 (input_value other.now) }
 {
     other.file.octets == file.octets && other.file.sha256 == file.sha256
+}
+
+/// Whether two inputs have the same octets, and the same exporter.
+pub fn is_like_it(input: &InputReceipt, other: &InputReceipt) -> bool
+    ensures { result ≡ is_like input.now.file.octets input.now.file.sha256
+        (exporter_value input.now.exporter) (input_value other.now) }
+{
+    has_octets_of(&input.file, other) && is_same_exporter(&other.exporter, &input.exporter)
+}
+
+fn is_same_exporter(exporter: &ExporterReceipt, other: &ExporterReceipt) -> bool
+    ensures { result ≡ exporter_same (exporter_value exporter.now) (exporter_value other.now) }
+{
+    match (exporter, other) {
+        (ExporterReceipt::NotAsked, ExporterReceipt::NotAsked) => true,
+        (ExporterReceipt::Unknown, ExporterReceipt::Unknown) => true,
+        (ExporterReceipt::Address(text), ExporterReceipt::Address(other)) => {
+            text.as_str() == other.as_str()
+        }
+        _ => false,
+    }
 }
 
 /// Whether the sessions of two inputs gave the same.

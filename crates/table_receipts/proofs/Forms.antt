@@ -3,13 +3,13 @@ use Rattle.std.proofs.Common.{◌≡◌, ℕ, ◌≤◌, List, [], ◌∷◌, re
 use Rattle.std.specs.Prelude.{◌^◌, Bool, true, false, nat_lt, if◌then◌else◌, map, Option, Some, None, decimal}
 use Rattle.std.proofs.lemmas.Bool.{ltb-true}
 use Rattle.json.specs.Json.{Json, number, string}
-use Rattle.json.specs.Tree.{depth, items_depth, HasNumbers, ItemsHaveNumbers}
+use Rattle.json.specs.Tree.{depth, items_depth, members_depth, HasNumbers, ItemsHaveNumbers, MembersHaveNumbers}
 use Rattle.json.specs.Value.{items_of}
 use Rattle.json.proofs.Printed.Decimals.{IsNumber-decimal}
 use Rattle.table_receipts.specs.declared.receipt.DomainReceipt.{DomainReceipt}
 use Rattle.table_receipts.specs.declared.receipt.RecordCounts.{RecordCounts}
-use Rattle.table_receipts.specs.Values.{FileValue, InputValue, SumValue, TableValue, ReceiptValue}
-use Rattle.table_receipts.specs.Objects.{number_json, file_json, domain_json, fault_json, input_json, counts_json, sum_json, table_json, plan_json}
+use Rattle.table_receipts.specs.Values.{ExporterValue, not_asked, unknown, address, FileValue, InputValue, SumValue, TableValue, ReceiptValue}
+use Rattle.table_receipts.specs.Objects.{number_json, file_json, domain_json, exporter_members, fault_json, input_json, members_of, counts_json, sum_json, table_json, plan_json}
 use Rattle.table_receipts.specs.Texts.{receipt_json}
 
 -- a value whose numbers are numbers, and that nests no deeper
@@ -55,6 +55,15 @@ fault_good : (o : Option (List ℕ)) → IsGood 0 (fault_json o)
 fault_good None = record { numbers = tt; nests = omega arith }
 fault_good (Some name) = record { numbers = tt; nests = omega arith }
 
+record AreFlat (e : ExporterValue) : Type 0 where
+  pub numbers : MembersHaveNumbers (members_of (exporter_members e))
+  pub nests : members_depth (members_of (exporter_members e)) ≤ 0
+
+exporter_good : (e : ExporterValue) → AreFlat e
+exporter_good not_asked = record { numbers = tt; nests = omega arith }
+exporter_good unknown = record { numbers = (tt, tt); nests = omega arith }
+exporter_good (address text) = record { numbers = (tt, tt); nests = omega arith }
+
 input_good : (i : InputValue) → IsGood 3 (input_json i)
 unfolding input_json
 input_good i =
@@ -63,9 +72,10 @@ input_good i =
     let records = number_good i.records in
     let fault = fault_good i.fault in
     let domains = list_good 1 domain_json domain_good i.domains in
+    let exporter = exporter_good i.exporter in
     record {
-      numbers = (tt, (octets.numbers, (tt, (messages.numbers, (records.numbers, (fault.numbers, (domains.numbers, tt)))))));
-      nests = omega (arith, octets.nests, messages.nests, records.nests, fault.nests, domains.nests);
+      numbers = (tt, (octets.numbers, (tt, (messages.numbers, (records.numbers, (fault.numbers, (domains.numbers, exporter.numbers)))))));
+      nests = omega (arith, octets.nests, messages.nests, records.nests, fault.nests, domains.nests, exporter.nests);
     }
 
 counts_good : (c : RecordCounts) → IsGood 1 (counts_json c)

@@ -12,9 +12,9 @@ pub domain_same : (f g : DomainReceipt) → f.domain ≡ g.domain → f.lost ≡
 domain_same f g a b c d e =
     let whole : record { domain = f.domain; lost = f.lost; backward = f.backward; unaccounted = f.unaccounted; unknown_sets = f.unknown_sets } ≡ g = rw (a, b, c, d, e) refl in whole
 
-pub input_same : (f g : InputValue) → f.file ≡ g.file → f.messages ≡ g.messages → f.records ≡ g.records → f.fault ≡ g.fault → f.domains ≡ g.domains → f ≡ g
-input_same f g a b c d e =
-    let whole : record { file = f.file; messages = f.messages; records = f.records; fault = f.fault; domains = f.domains } ≡ g = rw (a, b, c, d, e) refl in whole
+pub input_same : (f g : InputValue) → f.file ≡ g.file → f.messages ≡ g.messages → f.records ≡ g.records → f.fault ≡ g.fault → f.domains ≡ g.domains → f.exporter ≡ g.exporter → f ≡ g
+input_same f g a b c d e h =
+    let whole : record { file = f.file; messages = f.messages; records = f.records; fault = f.fault; domains = f.domains; exporter = f.exporter } ≡ g = rw (a, b, c, d, e, h) refl in whole
 
 pub counts_same : (f g : RecordCounts) → f.used ≡ g.used → f.options ≡ g.options → f.untimed ≡ g.untimed → f.backward ≡ g.backward → f.unkeyed ≡ g.unkeyed → f.too_long ≡ g.too_long → f ≡ g
 counts_same f g a b c d e h =

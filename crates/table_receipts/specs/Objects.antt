@@ -10,7 +10,7 @@ use Rattle.table_receipts.specs.declared.receipt.DomainReceipt.{DomainReceipt}
 use Rattle.table_receipts.specs.declared.receipt.RecordCounts.{RecordCounts}
 use Rattle.table_receipts.specs.declared.receipt.TableFormat.{TableFormat}
 use Rattle.table_receipts.specs.declared.receipt.TableFormat.TheVariants.{Csv, Ipfix, Json as JsonLines}
-use Rattle.table_receipts.specs.Values.{FileValue, InputValue, SumValue, TableValue, ReceiptValue}
+use Rattle.table_receipts.specs.Values.{ExporterValue, not_asked, unknown, address, FileValue, InputValue, SumValue, TableValue, ReceiptValue}
 
 -- members of an object: each a name and a value, in this order
 abbrev pub members_of : List (List ℕ × Json) → Members
@@ -62,8 +62,14 @@ report_members i =
     ∷ (codes "domains", list_json domain_json i.domains)
     ∷ []
 
+-- who exported it, where the plan asks for that
+abbrev pub exporter_members : ExporterValue → List (List ℕ × Json)
+exporter_members not_asked = []
+exporter_members unknown = (codes "exporter", null) ∷ []
+exporter_members (address text) = (codes "exporter", string text) ∷ []
+
 unfoldable pub input_json : InputValue → Json
-input_json i = object_of (file_members i.file ++ report_members i)
+input_json i = object_of (file_members i.file ++ (report_members i ++ exporter_members i.exporter))
 
 unfoldable pub counts_json : RecordCounts → Json
 counts_json c = object_of (

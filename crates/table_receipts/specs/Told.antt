@@ -1,12 +1,27 @@
 -- What the members of an object tell.
-use Rattle.std.specs.Prelude.{◌≡◌, codes, Some}
+use Rattle.std.specs.Prelude.{◌≡◌, codes, Option, Some, None}
 use Rattle.json.specs.Find.{get}
-use Rattle.json.specs.Json.{Json, string}
-use Rattle.table_receipts.specs.Values.{FileValue}
-use Rattle.table_receipts.specs.Objects.{digest_json, number_json}
+use Rattle.json.specs.Json.{Json, null, string}
+use Rattle.table_receipts.specs.Values.{ExporterValue, not_asked, unknown, address, FileValue, InputValue}
+use Rattle.table_receipts.specs.Objects.{digest_json, domain_json, fault_json, list_json, number_json}
 
 -- members tell a file
 pub record TellsFile (j : Json) (f : FileValue) : Type 0 where
   pub name : get (codes "name") j ≡ Some (string f.name)
   pub octets : get (codes "octets") j ≡ Some (number_json f.octets)
   pub digest : get (codes "sha256") j ≡ Some (digest_json f.digest)
+
+-- the member that tells who exported an input
+abbrev pub exporter_json : ExporterValue → Option Json
+exporter_json not_asked = None
+exporter_json unknown = Some null
+exporter_json (address text) = Some (string text)
+
+-- members tell an input
+pub record TellsInput (j : Json) (i : InputValue) : Type 0 where
+  pub file : TellsFile j i.file
+  pub messages : get (codes "messages") j ≡ Some (number_json i.messages)
+  pub records : get (codes "records") j ≡ Some (number_json i.records)
+  pub fault : get (codes "fault") j ≡ Some (fault_json i.fault)
+  pub domains : get (codes "domains") j ≡ Some (list_json domain_json i.domains)
+  pub exporter : get (codes "exporter") j ≡ exporter_json i.exporter

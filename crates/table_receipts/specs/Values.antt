@@ -3,6 +3,8 @@ use Rattle.std.specs.Prelude.{◌≡◌, ◌<◌, ◌^◌, ℕ, Bool, List, Opti
 use Rattle.hex.specs.Hex.{IsBytes}
 use Rattle.table_receipts.specs.declared.receipt.FileReceipt.{FileReceipt}
 use Rattle.table_receipts.specs.declared.receipt.DomainReceipt.{DomainReceipt}
+use Rattle.table_receipts.specs.declared.receipt.ExporterReceipt.{ExporterReceipt}
+use Rattle.table_receipts.specs.declared.receipt.ExporterReceipt.TheVariants.{NotAsked, Unknown, Address}
 use Rattle.table_receipts.specs.declared.receipt.InputReceipt.{InputReceipt}
 use Rattle.table_receipts.specs.declared.receipt.RecordCounts.{RecordCounts}
 use Rattle.table_receipts.specs.declared.receipt.TableFormat.{TableFormat}
@@ -15,12 +17,19 @@ pub record FileValue : Type 0 where
   pub octets : ℕ
   pub digest : List ℕ
 
+-- who exported an input: nothing is said of it; it was not known; or the text of an address
+pub data ExporterValue : Type 0 where
+  not_asked : ExporterValue
+  unknown : ExporterValue
+  address : (text : List ℕ) → ExporterValue
+
 pub record InputValue : Type 0 where
   pub file : FileValue
   pub messages : ℕ
   pub records : ℕ
   pub fault : Option (List ℕ)
   pub domains : List DomainReceipt
+  pub exporter : ExporterValue
 
 pub record SumValue : Type 0 where
   pub name : List ℕ
@@ -50,9 +59,20 @@ pub record ReceiptValue : Type 0 where
 abbrev pub file_value : FileReceipt → FileValue
 file_value f = record { name = string_bytes f.name; octets = f.octets; digest = f.sha256 }
 
+abbrev pub exporter_value : ExporterReceipt → ExporterValue
+exporter_value NotAsked = not_asked
+exporter_value Unknown = unknown
+exporter_value (Address text) = address (string_bytes text)
+
 abbrev pub input_value : InputReceipt → InputValue
-input_value i =
-    record { file = file_value i.file; messages = i.messages; records = i.records; fault = option_map string_bytes i.fault; domains = i.domains.items }
+input_value i = record {
+  file = file_value i.file;
+  messages = i.messages;
+  records = i.records;
+  fault = option_map string_bytes i.fault;
+  domains = i.domains.items;
+  exporter = exporter_value i.exporter;
+}
 
 abbrev pub sum_value : CounterSum → SumValue
 sum_value s = record { name = string_bytes s.name; total = s.sum }

@@ -5,9 +5,9 @@ ghost use Rattle.std.specs.Prelude.{◌≡◌, ℕ, List, Option, Some, All, IfO
 ghost use Rattle.json.specs.Find.{get};
 ghost use Rattle.json.specs.Value.{value_view};
 ghost use Rattle.table_receipts.specs.Objects.{counts_json, domain_json, fault_json, file_json, format_name, input_json, list_json, sum_json, table_json};
-ghost use Rattle.table_receipts.specs.Told.{TellsFile};
+ghost use Rattle.table_receipts.specs.Told.{TellsFile, exporter_json};
 ghost use Rattle.table_receipts.specs.Texts.{receipt_json};
-ghost use Rattle.table_receipts.specs.Values.{FileValue, FitsCounts, FitsDomain, FitsFile, FitsInput, FitsReceipt, FitsSum, FitsTable, InputValue, ReceiptValue, SumValue, TableValue, file_value, input_value, receipt_value, sum_value, table_value};
+ghost use Rattle.table_receipts.specs.Values.{ExporterValue, FileValue, FitsCounts, FitsDomain, FitsFile, FitsInput, FitsReceipt, FitsSum, FitsTable, InputValue, ReceiptValue, SumValue, TableValue, exporter_value, file_value, input_value, receipt_value, sum_value, table_value};
 ghost use Rattle.table_receipts.specs.declared.receipt.DomainReceipt.{DomainReceipt as Domain};
 ghost use Rattle.table_receipts.specs.declared.receipt.RecordCounts.{RecordCounts as Counts};
 ghost use Rattle.table_receipts.specs.declared.receipt.TableFormat.{TableFormat as Format};
@@ -16,8 +16,8 @@ use crate::looking_up::{
     count_of, digest_of, flag_of, list_of, member_of, number_of, small_of, text_of,
 };
 use crate::receipt::{
-    CounterSum, DomainReceipt, FileReceipt, InputReceipt, Receipt, RecordCounts, TableFormat,
-    TableReceipt,
+    CounterSum, DomainReceipt, ExporterReceipt, FileReceipt, InputReceipt, Receipt, RecordCounts,
+    TableFormat, TableReceipt,
 };
 use json::Value;
 use std::alloc::{AllocError, Global};
@@ -88,6 +88,21 @@ fn fault_of(alloc: Global, object: &Value<'_>) -> Result<Option<String>, AllocEr
     }
 }
 
+// Who exported an input.
+fn exporter_of(alloc: Global, object: &Value<'_>) -> Result<ExporterReceipt, AllocError>
+    ensures { (e : ExporterValue) → get (codes "exporter") (value_view object.now) ≡ exporter_json e
+        → IfOk result (λ exporter. exporter_value exporter ≡ e) }
+{
+    match object.get("exporter") {
+        Some(Value::String(text)) => {
+            let address = String::from_str(alloc, text)?;
+            Ok(ExporterReceipt::Address(address))
+        }
+        Some(_) => Ok(ExporterReceipt::Unknown),
+        None => Ok(ExporterReceipt::NotAsked),
+    }
+}
+
 fn input_of(alloc: Global, object: &Value<'_>) -> Result<InputReceipt, AllocError>
     ensures { (i : InputValue) → FitsInput i → value_view object.now ≡ input_json i
         → IfOk result (λ input. input_value input ≡ i) }
@@ -98,6 +113,7 @@ fn input_of(alloc: Global, object: &Value<'_>) -> Result<InputReceipt, AllocErro
         records: count_of(object, "records"),
         fault: fault_of(alloc, object)?,
         domains: domains_of(alloc, object)?,
+        exporter: exporter_of(alloc, object)?,
     })
 }
 

@@ -5,11 +5,12 @@ ghost use Rattle.json.specs.Json.{boolean, string};
 ghost use Rattle.json.specs.Token.{key};
 ghost use Rattle.json.specs.Tree.{json_tokens};
 ghost use Rattle.table_receipts.specs.Appending.{Appends};
-ghost use Rattle.table_receipts.specs.Values.{file_value, input_value, sum_value, table_value};
-ghost use Rattle.table_receipts.specs.Objects.{counts_json, digest_json, domain_json, fault_json, file_json, file_members, format_name, input_json, list_json, member_tokens, number_json, report_members, row_members, sum_json, table_json, text_members};
+ghost use Rattle.table_receipts.specs.Values.{exporter_value, file_value, input_value, sum_value, table_value};
+ghost use Rattle.table_receipts.specs.Objects.{counts_json, digest_json, domain_json, exporter_members, fault_json, file_json, file_members, format_name, input_json, list_json, member_tokens, number_json, report_members, row_members, sum_json, table_json, text_members};
 
 use crate::receipt::{
-    CounterSum, DomainReceipt, FileReceipt, InputReceipt, RecordCounts, TableFormat, TableReceipt,
+    CounterSum, DomainReceipt, ExporterReceipt, FileReceipt, InputReceipt, RecordCounts,
+    TableFormat, TableReceipt,
 };
 use itoa::Buffer;
 use json::Writer;
@@ -144,6 +145,21 @@ fn write_report_members(writer: &mut Writer, input: &InputReceipt) -> Result<(),
     write_domains(writer, &input.domains)
 }
 
+// Writes the member that tells who exported an input, if there is one.
+fn write_exporter(writer: &mut Writer, exporter: &ExporterReceipt) -> Result<(), AllocError>
+    ensures { Appends result writer.old writer.new
+        (member_tokens (exporter_members (exporter_value exporter.now))) }
+{
+    match exporter {
+        ExporterReceipt::NotAsked => Ok(()),
+        ExporterReceipt::Unknown => {
+            writer.key("exporter")?;
+            writer.null()
+        }
+        ExporterReceipt::Address(text) => write_text_member(writer, "exporter", text.as_str()),
+    }
+}
+
 #[tactic(auto, unfolding(crate::specs::Objects::input_json))]
 fn write_input(alloc: Global, writer: &mut Writer, input: &InputReceipt) -> Result<(), AllocError>
     ensures { Appends result writer.old writer.new
@@ -152,6 +168,7 @@ fn write_input(alloc: Global, writer: &mut Writer, input: &InputReceipt) -> Resu
     writer.begin_object()?;
     write_file_members(alloc, writer, &input.file)?;
     write_report_members(writer, input)?;
+    write_exporter(writer, &input.exporter)?;
     writer.end_object()
 }
 

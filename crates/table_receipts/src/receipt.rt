@@ -37,6 +37,18 @@ pub struct InputReceipt {
     pub fault: Option<String>,
     /// Its observation domains, in the order in which they appeared.
     pub domains: Vec<DomainReceipt>,
+    pub exporter: ExporterReceipt,
+}
+
+/// Who exported an input.
+#[derive(Debug, Drop)]
+pub enum ExporterReceipt {
+    /// The plan doesn't ask for it, and the receipt says nothing of it.
+    NotAsked,
+    /// The plan asks for it, and it was not known.
+    Unknown,
+    /// Its address, as tables have it under the key `exporter`.
+    Address(String),
 }
 
 /// How many data records of all inputs are of each class.

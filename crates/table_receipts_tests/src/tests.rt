@@ -4,7 +4,7 @@ use crate::example::{TEXT, receipt};
 use std::alloc::{AllocError, Global};
 use std::str;
 use std::test::*;
-use table_receipts::{ReceiptFault, TableFormat, read_receipt, write_receipt};
+use table_receipts::{ExporterReceipt, ReceiptFault, TableFormat, read_receipt, write_receipt};
 
 #[test]
 fn is_written_as_its_text(rt: HostRuntime) -> Result<(), Fail> {
@@ -31,6 +31,23 @@ fn reads_back(rt: HostRuntime) -> Result<(), Fail> {
     assert_eq!(rt;
         numbers,
         Some((u64::MAX, 9007199254740991, 9007199254740992))
+    );
+    let mut exporters = Vec::new(alloc);
+    for input in &receipt.inputs {
+        exporters.push(match &input.exporter {
+            ExporterReceipt::NotAsked => "not asked",
+            ExporterReceipt::Unknown => "unknown",
+            ExporterReceipt::Address(text) => text.as_str(),
+        })?;
+    }
+    assert_eq!(rt;
+        exporters.as_slice(),
+        [
+            "not asked",
+            "unknown",
+            "2001:0db8:0000:0000:0000:0000:0000:0001"
+        ]
+        .as_slice()
     );
     assert_eq!(rt; receipt.records.too_long, 6);
     assert_eq!(rt; receipt.table.format, TableFormat::Ipfix);

@@ -25,7 +25,7 @@ verified_of seen job made said table sources origins remade is silent =
     let one = both_empty (table_differs said.table table) (remade_differs found said ++ text_differs remade.text.items table) silent in
     let two = both_empty (remade_differs found said) (text_differs remade.text.items table) one.1 in
     let three = both_empty (inputs_differ said.inputs found.inputs) (counts_differ found.records said.records ++ (rows_differ found.table said.table ++ other_unless (bool_same found.complete said.complete) (codes "complete"))) two.0 in
-    let inputs : found.inputs ≡ inputs_of origins (fulls_in is.collected.sessions.items) is.digests = ap (λ (r : ReceiptValue). r.inputs) is.is_made.is.value in
+    let inputs : found.inputs ≡ inputs_of job origins (fulls_in is.collected.sessions.items) is.digests = ap (λ (r : ReceiptValue). r.inputs) is.is_made.is.value in
     record {
       table_is = (its_table said.table table).0 one.0;
       collected = is.collected;

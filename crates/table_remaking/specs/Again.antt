@@ -1,16 +1,14 @@
 -- How the table of a receipt was made again, and compared.
-use Rattle.std.specs.Prelude.{◌≡◌, ◌||◌, ℕ, Bool, List, [], ◌++◌, None}
+use Rattle.std.specs.Prelude.{◌≡◌, ℕ, List, [], ◌++◌, option_copied}
 use Rattle.std.specs.List.{AllZip}
 use Rattle.std.specs.Option.{option_map}
-use Rattle.element_registry.specs.Registries.{Known}
 use Rattle.flow_collect.specs.Contexts.{records_in_context, sources_of}
 use Rattle.flow_collect.specs.InFull.{FullSerialAnswer, IsGivenInContext, fulls_in}
 use Rattle.flow_collect.specs.Texts.{AreTexts}
 use Rattle.flow_export.specs.declared.format.Format.{Format}
 use Rattle.flow_export.specs.declared.format.Format.TheVariants.{Csv, Json, Ipfix}
-use Rattle.flow_filtered_plan.specs.FilteredPlans.{context_of, filter_of}
-use Rattle.flow_filtered_plan.specs.declared.filtered_plan.FilteredPlan.{FilteredPlan}
-use Rattle.flow_table.specs.declared.context.Context.{Context}
+use Rattle.flow_filtered_plan.specs.FilteredPlans.{filter_of}
+use Rattle.flow_plan_maps.specs.Wants.{wanted_context, wanted_options}
 use Rattle.ipfix_session.specs.Given.{IsPrefix}
 use Rattle.ipfix_session.specs.Sources.{SourceView}
 use Rattle.output_tables.specs.TableTexts.{export_text}
@@ -32,6 +30,7 @@ use Rattle.command_receipt.specs.Remade.{IsNotRemade, IsRemade}
 use Rattle.command_receipt.specs.declared.making.MadeWith.{MadeWith}
 use Rattle.command_receipt.specs.declared.remaking.Remade.{Remade}
 use Rattle.command_receipt.specs.declared.remaking.RemakeFault.{RemakeFault}
+use Rattle.table_remaking.specs.declared.again.MadeBy.{MadeBy}
 
 -- ---- what it is made by
 
@@ -40,20 +39,17 @@ format_of formats.Csv = Csv
 format_of formats.Json = Json
 format_of formats.Ipfix = Ipfix
 
--- a run that has this plan, the format and the export time of a receipt, and no maps and exporters
-pub record IsJobOf (known : List Known) (read : FilteredPlan) (said : TableValue) (job : CollectJob) : Type 0 where
-  pub names : job.elements.now ≡ known
-  pub plan : job.plan.now ≡ read.plan
+-- a run that has this plan, with its maps, these exporters, and the format and the export time of a receipt
+pub record IsJobOf (by : MadeBy) (said : TableValue) (job : CollectJob) : Type 0 where
+  pub names : job.elements.now ≡ by.loaded.elements
+  pub plan : job.plan.now ≡ by.loaded.read.plan
   pub engine : job.engine ≡ Lots 1
   pub output : job.output ≡ record { format = format_of said.format; time = said.time }
-  pub wanted : job.wanted ≡ context_of read
-  pub maps : job.maps ≡ None
-  pub filter : option_map (λ f. f.now) job.filter ≡ filter_of read
-  pub exporters : job.exporters.now ≡ []
-
--- a key or a condition names who exported, which no receipt tells
-abbrev pub names_exporter : Context → Bool
-names_exporter c = c.exporter || (c.exporter_ipv4_address || c.exporter_ipv6_address)
+  pub wanted : job.wanted ≡ wanted_context by.loaded.read by.loaded.maps
+  pub options : job.options ≡ wanted_options by.loaded.read
+  pub maps : option_copied job.maps ≡ by.maps
+  pub filter : option_map (λ f. f.now) job.filter ≡ filter_of by.loaded.read
+  pub exporters : job.exporters.now ≡ by.exporters.items
 
 -- ---- what differs
 
@@ -62,8 +58,9 @@ abbrev pub again_differs : ReceiptValue → List ℕ → ReceiptValue → List �
 again_differs said table found text = table_differs said.table table ++ (remade_differs found said ++ text_differs text table)
 
 -- the table has the octets and the SHA-256 of its receipt; it was made again of these sources, of which the headline says what they
--- gave; of the receipt's inputs and these there is one of each for one of the other, by octets and SHA-256, which gave the same; and
--- the table is the text of the aggregate of the records that they gave: of each the first of those that its whole text gives
+-- gave, each with its exporter; of the receipt's inputs and these there is one of each for one of the other, by octets, SHA-256 and
+-- exporter, which gave the same; and the table is the text of the aggregate of the records that they gave: of each the first of those
+-- that its whole text gives
 pub record IsVerified {S : Type 0} (seen : S → SourceView) (job : CollectJob) (said : ReceiptValue) (table : List ℕ) (sources : List S) (origins : List Origin) : Type 0 where
   pub table_is : IsTableOf said.table table
   pub collected : FullSerialAnswer S
@@ -72,14 +69,14 @@ pub record IsVerified {S : Type 0} (seen : S → SourceView) (job : CollectJob) 
       → AllZip IsPrefix collects.headline.records (records_in_context (in_context job sources origins) texts)
   pub digests : List (List ℕ)
   pub are_digests : AreDigestsOf seen sources (fulls_in collected.sessions.items) digests
-  pub same : HaveSameInputs said.inputs (inputs_of origins (fulls_in collected.sessions.items) digests)
+  pub same : HaveSameInputs said.inputs (inputs_of job origins (fulls_in collected.sessions.items) digests)
   pub text : table ≡ export_text job.elements.now job.output job.plan.now collected.table
 
-module _ {S : Type 0} (seen : S → SourceView) (known : List Known) (read : FilteredPlan) (said : ReceiptValue) (sources : List S) (origins : List Origin) where
+module _ {S : Type 0} (seen : S → SourceView) (by : MadeBy) (said : ReceiptValue) (sources : List S) (origins : List Origin) where
   -- the table was made again of these sources, and these lines are what differs
   pub record IsCompared (table lines : List ℕ) : Type 0 where
     pub job : CollectJob
-    pub is_job : IsJobOf known read said.table job
+    pub is_job : IsJobOf by said.table job
     pub made : MadeWith
     pub remade : Remade
     pub is_remade : IsRemade seen job made sources origins remade
@@ -90,5 +87,5 @@ module _ {S : Type 0} (seen : S → SourceView) (known : List Known) (read : Fil
   -- it wasn't made again, for this reason
   pub record IsNotMade (fault : RemakeFault) : Type 0 where
     pub job : CollectJob
-    pub is_job : IsJobOf known read said.table job
+    pub is_job : IsJobOf by said.table job
     pub not_remade : IsNotRemade seen job sources origins fault

@@ -1,15 +1,14 @@
 -- Why a table wasn't compared with the one that is made again.
 use Rattle.std.specs.Prelude.{List}
-use Rattle.element_registry.specs.Registries.{Known}
-use Rattle.flow_filtered_plan.specs.declared.filtered_plan.FilteredPlan.{FilteredPlan}
 use Rattle.ipfix_session.specs.Sources.{SourceView}
 use Rattle.report_writing.specs.declared.origin.Origin.{Origin}
 use Rattle.table_receipts.specs.Values.{ReceiptValue}
 use Rattle.table_remaking.specs.Again.{IsNotMade}
 use Rattle.table_remaking.specs.declared.again.AgainFault.{AgainFault}
+use Rattle.table_remaking.specs.declared.again.MadeBy.{MadeBy}
 use Rattle.table_remaking.specs.declared.again.AgainFault.TheVariants.{NotMade, OutOfMemory}
 
 -- want of memory comes at any time
-abbrev pub IsFaultOf : {S : Type 0} → (S → SourceView) → List Known → FilteredPlan → ReceiptValue → List S → List Origin → AgainFault → Type 0
-IsFaultOf seen known read said sources origins (NotMade fault) = IsNotMade seen known read said sources origins fault
-IsFaultOf seen known read said sources origins OutOfMemory = Unit {0}
+abbrev pub IsFaultOf : {S : Type 0} → (S → SourceView) → MadeBy → ReceiptValue → List S → List Origin → AgainFault → Type 0
+IsFaultOf seen by said sources origins (NotMade fault) = IsNotMade seen by said sources origins fault
+IsFaultOf seen by said sources origins OutOfMemory = Unit {0}

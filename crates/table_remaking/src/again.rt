@@ -4,13 +4,14 @@ ghost use Rattle.std.specs.Prelude.{◌≡◌, IfErr, IfOk};
 ghost use Rattle.report_writing.specs.Writing.{Tells};
 ghost use Rattle.table_receipts.specs.Values.{receipt_value, table_value};
 ghost use Rattle.receipt_differences.specs.Orders.{IsOrderOf};
-ghost use Rattle.table_remaking.specs.Again.{IsCompared, IsJobOf, IsNotMade, again_differs, format_of as format, names_exporter as names};
+ghost use Rattle.table_remaking.specs.Again.{IsCompared, IsJobOf, IsNotMade, again_differs, format_of as format};
 ghost use Rattle.table_remaking.specs.Faults.{IsFaultOf};
 
 use command_collect::{CollectJob, Engine};
 use command_receipt::{MadeWith, Remade, RemakeFault, remake};
 use flow_export::Format;
-use flow_table::Context;
+use flow_maps::Maps;
+use flow_plan_maps::{wanted_context, wanted_options};
 use input_sources::LoadedPlan;
 use ipfix_session::Source;
 use output_tables::Output;
@@ -20,6 +21,7 @@ use receipt_differences::{
 use report_writing::{NOTHING_MORE, Origin, WriteLines};
 use std::alloc::{AllocError, Global};
 use std::io;
+use std::net::IpAddr;
 use std::sync::Wait;
 use std::thread::Threads;
 use table_receipts::{InputReceipt, Receipt, TableFormat, TableReceipt};
@@ -31,6 +33,17 @@ pub struct TableThere<'a> {
     pub table: &'a [u8],
 }
 
+/// What the table of a receipt is made again by.
+#[derive(Drop)]
+pub struct MadeBy {
+    /// The plan in the receipt.
+    pub loaded: LoadedPlan,
+    /// The maps that the plan names, if it names some.
+    pub maps: Option<Maps>,
+    /// The exporter that is told of each source, if one is, by its place.
+    pub exporters: Vec<Option<IpAddr>>,
+}
+
 /// Why a table wasn't compared with the one that is made again.
 #[derive(Clone, Copy, Debug, PartialEq, Eq)]
 pub enum AgainFault {
@@ -40,22 +53,22 @@ pub enum AgainFault {
     OutOfMemory,
 }
 
-/// Makes the table of a receipt again of these sources, by the plan that was loaded from the receipt, which has no maps,
-/// and answers a line for each thing that differs: none if nothing does.
+/// Makes the table of a receipt again of these sources, by its plan, its maps and these exporters, and answers a line for
+/// each thing that differs: none if nothing does.
 pub fn compare_again<S: Source + Send + Drop, R: Threads + Wait + Sync>(
     rt: &R,
     alloc: Global,
     sources: Vec<S>,
     origins: &[Origin],
-    loaded: &LoadedPlan,
+    by: &MadeBy,
     there: &TableThere,
 ) -> Result<Vec<u8>, AgainFault>
-    ensures compared { IfOk result (λ lines. IsCompared S.seen loaded.now.elements loaded.now.read
+    ensures compared { IfOk result (λ lines. IsCompared S.seen by.now
         (receipt_value there.now.receipt.now) sources.items origins.now there.now.table.now lines.items) }
-    ensures fault { IfErr result (IsFaultOf S.seen loaded.now.elements loaded.now.read
+    ensures fault { IfErr result (IsFaultOf S.seen by.now
         (receipt_value there.now.receipt.now) sources.items origins.now) }
 {
-    let job = collect_job(loaded, &there.receipt.table);
+    let job = collect_job(by, &there.receipt.table);
     match remake(rt, alloc, sources, origins, &job, made_with_nothing(alloc)) {
         Ok(remade) => match lines_of(alloc, there, &remade) {
             Ok(lines) => Ok(lines),
@@ -76,9 +89,10 @@ fn made_with_nothing(alloc: Global) -> MadeWith {
 }
 
 // What a run is to do that makes the table again.
-fn collect_job<'a>(loaded: &'a LoadedPlan, said: &TableReceipt) -> CollectJob<'a>
-    ensures { IsJobOf loaded.now.elements loaded.now.read (table_value said.now) result }
+fn collect_job<'a>(by: &'a MadeBy, said: &TableReceipt) -> CollectJob<'a>
+    ensures { IsJobOf by.now (table_value said.now) result }
 {
+    let loaded = &by.loaded;
     CollectJob {
         elements: &loaded.elements,
         plan: &loaded.read.plan,
@@ -88,10 +102,11 @@ fn collect_job<'a>(loaded: &'a LoadedPlan, said: &TableReceipt) -> CollectJob<'a
             time: said.time,
         },
         verbosity: NOTHING_MORE,
-        wanted: loaded.read.context(),
-        maps: None,
+        wanted: wanted_context(&loaded.read, &loaded.maps),
+        options: wanted_options(&loaded.read),
+        maps: by.maps.as_ref(),
         filter: loaded.read.conditions(),
-        exporters: &[],
+        exporters: by.exporters.as_slice(),
     }
 }
 
@@ -103,13 +118,6 @@ fn format_of(said: TableFormat) -> Format
         TableFormat::Json => Format::Json,
         TableFormat::Ipfix => Format::Ipfix,
     }
-}
-
-/// Whether the keys or the conditions of a plan name who exported: no receipt tells that, so its table can't be made again.
-pub fn names_exporter(context: Context) -> bool
-    ensures { result ≡ names context }
-{
-    context.exporter || context.exporter_ipv4_address || context.exporter_ipv6_address
 }
 
 // The lines of what differs.

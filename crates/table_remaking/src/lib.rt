@@ -3,4 +3,4 @@
 
 mod again;
 
-pub use again::{AgainFault, TableThere, compare_again, names_exporter};
+pub use again::{AgainFault, MadeBy, TableThere, compare_again};

@@ -1,15 +1,15 @@
-use Rattle.std.proofs.Common.{ℕ, List, inl, inr, subst, sym}
-use Rattle.report_writing.specs.Told.{AreToldTo}
-use Rattle.table_receipts.specs.Values.{receipt_value}
-use Rattle.command_verify.specs.Again.{ComparesAlone}
+use Rattle.std.proofs.Common.{◌≡◌, ◌∙◌, ℕ, inl, inr, subst, sym}
+use Rattle.std.specs.Prelude.{◌==◌, false, true}
+use Rattle.command_verify.proofs.Empty.{empty_of, filled_of}
 use Rattle.command_verify.proofs.comparing.compare_loaded.Goals as goal
 
-pub returns-in-Some-clause-compares : goal.returns-in-Some-clause-compares
-returns-in-Some-clause-compares g c =
-    let told = AreToldTo g.E.WriteLines.contents g.E.WriteLines.failed c.args.err.now c.compare_alone.new.err in
-    let said = receipt_value c.args.there.now.receipt.now in
-    let compares = subst (λ (l : List ℕ). ComparesAlone said c.args.there.now.table.now c.compare_alone.result l told) c.as_bytes.ensures.value c.compare_alone.ensures.compares in
-    inl (c.in-Some.line.now, sym c.in-Some.ensures, compares)
+pub returns-then-is_empty-clause-compares : goal.returns-then-is_empty-clause-compares
+returns-then-is_empty-clause-compares g c =
+    let maps = c.args.loaded.maps.maps in
+    let none = empty_of maps.items (subst (λ (n : ℕ). (n == 0) ≡ true) maps.ok.0 (sym c.is_empty.ensures ∙ c.if-is_empty.true)) in
+    inl (none, c.open_with.ensures.opens)
 
-pub returns-in-None-clause-compares : goal.returns-in-None-clause-compares
-returns-in-None-clause-compares g c = inr (sym c.in-None.ensures, c.open_files.ensures.opens)
+pub returns-else-is_empty-clause-compares : goal.returns-else-is_empty-clause-compares
+returns-else-is_empty-clause-compares g c =
+    let maps = c.args.loaded.maps.maps in
+    inr (filled_of maps.items (subst (λ (n : ℕ). (n == 0) ≡ false) maps.ok.0 (sym c.is_empty.ensures ∙ c.if-is_empty.false)), c.compare_mapped.ensures.compares)
