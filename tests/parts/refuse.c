@@ -4,10 +4,11 @@
 // what the system's libraries ask for counts, too. With REFUSE_WHAT=reads, writes, threads, accepts or limits calls
 // that read, write, start a thread, accept a connection or set an option of a socket, as its limits are, fail in place of
 // those; with files, directories, syncs, names, erasures those that open a file, make a folder, sync one, give a second name
-// or take one; with privileges those that give a second name, as where a file system has none. With REFUSE_WHAT=octets
-// nothing fails, and each read and write moves one octet. With REFUSE_WHAT=interruptions every other call that reads,
-// writes or accepts a connection is interrupted. Each time a letter is written to descriptor 9, if that is open. A program
-// that still runs after twenty seconds gets SIGALRM.
+// or another one, or take one; with privileges those that give a second name, as where a file system has none. With
+// REFUSE_WHAT=octets nothing fails, and each read and write moves one octet. With REFUSE_WHAT=interruptions every other call
+// that reads, writes or accepts a connection is interrupted. With REFUSE_END the program ends in place of a failure, as if it
+// was killed. Each time a letter is written to descriptor 9, if that is open. A program that still runs after twenty seconds
+// gets SIGALRM.
 //
 // The toolchain's clang builds it, and has no headers, so that all that is called is declared here.
 
@@ -24,7 +25,7 @@ extern void *dlsym(void *, const char *);
 extern int *__errno_location(void);
 
 enum { READ = 0, WRITE = 1, RECEIVE = 45, SET_OPTION = 54, ACCEPT = 288 };
-enum { SYNC = 74, MAKE_FOLDER = 83, LINK = 86, UNLINK = 87, OPEN = 257 };
+enum { SYNC = 74, RENAME = 82, MAKE_FOLDER = 83, LINK = 86, UNLINK = 87, OPEN = 257, END = 231 };
 enum { NOT_ALLOWED = 1, INTERRUPTED = 4, DEVICE = 5, AGAIN = 11, NO_MEMORY = 12, TOO_MANY = 24, NO_SPACE = 28, SECONDS = 20 };
 enum { HERE = -100 };
 
@@ -32,6 +33,7 @@ enum { HERE = -100 };
 static char what = 'm';
 static long first;
 static int goes_on;
+static int ends;
 static long calls;
 
 __attribute__((constructor)) static void start(void) {
@@ -41,6 +43,7 @@ __attribute__((constructor)) static void start(void) {
   alarm(SECONDS);
   first = strtol(word, &rest, 10);
   goes_on = *rest == '.';
+  ends = getenv("REFUSE_END") != 0;
   word = getenv("REFUSE_WHAT");
   if (word) what = *word;
 }
@@ -52,6 +55,7 @@ static int is_refused(char kind, int error) {
   long call = __atomic_add_fetch(&calls, 1, __ATOMIC_SEQ_CST);
   if (call < first || (call > first && !goes_on)) return 0;
   tell();
+  if (ends) syscall(END, 137);
   *__errno_location() = error;
   return 1;
 }
@@ -128,6 +132,8 @@ int fsync(int of) { return is_refused('s', DEVICE) ? -1 : (int)syscall(SYNC, of)
 int link(const char *from, const char *to) {
   return is_refused('n', DEVICE) || is_refused('p', NOT_ALLOWED) ? -1 : (int)syscall(LINK, from, to);
 }
+
+int rename(const char *from, const char *to) { return is_refused('n', DEVICE) ? -1 : (int)syscall(RENAME, from, to); }
 
 int unlink(const char *path) { return is_refused('e', DEVICE) ? -1 : (int)syscall(UNLINK, path); }
 

@@ -9,7 +9,7 @@ use Rattle.cli_words.specs.declared.chosen.Chosen.{Chosen}
 use Rattle.cli_words.specs.declared.subcommands.Subcommand.TheVariants as command
 use Rattle.cli_inputs.specs.Formats.{form_word, format_word, interval_word}
 use Rattle.cli_inputs.specs.declared.arguments.Arguments.{Arguments}
-use Rattle.cli_inputs.specs.declared.arguments.Arguments.TheVariants.{Dump, Files, Tcp, Record, Finish, Merge, Verify, Elements, Explain}
+use Rattle.cli_inputs.specs.declared.arguments.Arguments.TheVariants.{Dump, Files, Tcp, Record, Finish, Tables, Merge, Verify, Elements, Explain}
 use Rattle.cli_inputs.specs.declared.arguments.DumpArguments.{DumpArguments}
 use Rattle.cli_inputs.specs.declared.arguments.TableArguments.{TableArguments}
 use Rattle.cli_inputs.specs.declared.arguments.CollectArguments.{CollectArguments}
@@ -17,6 +17,7 @@ use Rattle.cli_inputs.specs.declared.arguments.FilesArguments.{FilesArguments}
 use Rattle.cli_inputs.specs.declared.arguments.TcpArguments.{TcpArguments}
 use Rattle.cli_inputs.specs.declared.arguments.RecordArguments.{RecordArguments}
 use Rattle.cli_inputs.specs.declared.arguments.FinishArguments.{FinishArguments}
+use Rattle.cli_inputs.specs.declared.arguments.TablesArguments.{TablesArguments}
 use Rattle.cli_inputs.specs.declared.arguments.MergeArguments.{MergeArguments}
 use Rattle.cli_inputs.specs.declared.arguments.VerifyArguments.{VerifyArguments}
 use Rattle.cli_inputs.specs.declared.arguments.ElementsArguments.{ElementsArguments}
@@ -89,6 +90,15 @@ module _ (chosen : Chosen) where
   pub record IsFinish (told : FinishArguments) : Type 0 where
     pub folder : text_given chosen (codes "folder") ≡ Some told.folder.now
 
+  pub record IsTables (told : TablesArguments) : Type 0 where
+    pub from : text_given chosen (codes "from") ≡ Some told.from.now
+    pub into : text_given chosen (codes "into") ≡ Some told.into.now
+    pub table : IsTable told.table
+    pub workers : IsNumberGiven chosen (codes "workers") (Some told.workers)
+    pub every : IsNumberGiven chosen (codes "every") (Some told.every)
+    pub grace : IsNumberGiven chosen (codes "grace") (Some told.grace)
+    pub follow : IsFlagGiven chosen (codes "follow") told.follow
+
   pub record IsMerge (told : MergeArguments) : Type 0 where
     pub table : IsTable told.table
     pub files : map (λ path. path.now) told.paths.now ≡ texts_given chosen (codes "file")
@@ -103,6 +113,7 @@ module _ (chosen : Chosen) where
     pub receipt : text_given chosen (codes "receipt") ≡ Some told.receipt.now
     pub table : option_map (λ path. path.now) told.table ≡ text_given chosen (codes "table")
     pub again : map (λ path. path.now) told.again.now ≡ texts_given chosen (codes "again")
+    pub exporters : map (λ word. word.now) told.exporters.now ≡ texts_given chosen (codes "exporter")
     pub elements : map (λ path. path.now) told.element_files.now ≡ texts_given chosen (codes "elements")
     pub verbose : IsFlagGiven chosen (codes "verbose") told.verbosity.verbose
     pub strict : told.verbosity.strict ≡ false
@@ -121,6 +132,7 @@ module _ (chosen : Chosen) where
   IsGiven (Tcp told) = (chosen.command ≡ command.Tcp) × IsTcp told
   IsGiven (Record told) = (chosen.command ≡ command.Record) × IsRecord told
   IsGiven (Finish told) = (chosen.command ≡ command.Finish) × IsFinish told
+  IsGiven (Tables told) = (chosen.command ≡ command.Tables) × IsTables told
   IsGiven (Merge told) = (chosen.command ≡ command.Merge) × IsMerge told
   IsGiven (Verify told) = (chosen.command ≡ command.Verify) × IsVerify told
   IsGiven (Elements told) = (chosen.command ≡ command.Elements) × IsElements told

@@ -1,4 +1,5 @@
 -- What public contracts cite.
+pub mod Folders
 pub mod Formats
 pub mod Given
 pub mod MapFiles

@@ -1,14 +1,10 @@
--- The maps of a plan, and what is said of their files.
+-- The maps of a plan.
 use Rattle.std.specs.Prelude.{◌≡◌, ◌==◌, ℕ, Bool, false, List, [], ◌∷◌, ◌++◌, map, Option, Some, None, if◌then◌else◌, string_bytes}
 use Rattle.std.specs.Path.{rsplit_once, slash}
 use Rattle.report_writing.specs.declared.reason.Reason.{Reason}
 use Rattle.report_writing.specs.declared.status.Status.{Status}
 use Rattle.report_writing.specs.declared.status.Status.TheVariants.{Well, SessionFault, NotOpened, Failed}
 use Rattle.report_writing.specs.declared.verbosity.Verbosity.{Verbosity}
-use Rattle.table_receipts.specs.Values.{FileValue, file_value}
-use Rattle.table_receipts.specs.declared.receipt.FileReceipt.{FileReceipt}
-use Rattle.flow_maps.specs.declared.maps.Maps.{Maps}
-use Rattle.flow_plan_maps.specs.Keys.{map_key_value}
 use Rattle.flow_plan_maps.specs.declared.named.NamedKey.{NamedKey}
 use Rattle.flow_plan_maps.specs.declared.named.NamedMap.{NamedMap}
 use Rattle.flow_plan_maps.specs.declared.named.PlanMaps.{PlanMaps}
@@ -16,7 +12,8 @@ use Rattle.flow_collect.specs.declared.fault.CollectFault.TheVariants.{OutOfMemo
 use Rattle.command_collect.specs.CollectLines.{collect_fault_line}
 use Rattle.input_sources.specs.MapsLoaded.{AreMapsOf, TellsNoMaps}
 use Rattle.input_sources.specs.declared.maps.LoadedMap.{LoadedMap}
-use Rattle.cli_inputs.specs.declared.plan_maps.MapsOfPlan.{MapsOfPlan}
+use Rattle.receipt_maps.specs.MapsTold.{AreMapsWith}
+use Rattle.receipt_maps.specs.declared.maps.MapsOfPlan.{MapsOfPlan}
 
 -- ---- their paths
 
@@ -39,28 +36,6 @@ path_from other file = if is_absolute file then file else folder_of other ++ fil
 -- the files of maps are named from the plan's folder
 abbrev pub map_paths : List ℕ → List NamedMap → List (List ℕ)
 map_paths plan maps = map (λ (m : NamedMap). path_from plan (string_bytes m.file)) maps
-
--- ---- what is said of them
-
--- a file, by its path and the text that gave its map
-abbrev pub file_told : List ℕ → LoadedMap → FileValue
-file_told path m = record { name = path; octets = m.octets; digest = m.sha256 }
-
-abbrev pub files_told : List (List ℕ) → List LoadedMap → List FileValue
-files_told [] loaded = []
-files_told (path ∷ paths) [] = []
-files_told (path ∷ paths) (m ∷ loaded) = file_told path m ∷ files_told paths loaded
-
--- what these files gave, with these keys
-abbrev pub AreWith : List (List ℕ) → List LoadedMap → List NamedKey → Option Maps → List FileReceipt → Type 0
-AreWith paths loaded keys None files = ⊥
-AreWith paths loaded keys (Some maps) files =
-    (maps.maps.items ≡ map (λ (m : LoadedMap). m.map) loaded)
-    × (map map_key_value maps.keys.items ≡ map (λ (k : NamedKey). map_key_value k.key) keys)
-    × (map file_value files ≡ files_told paths loaded)
-
-abbrev pub AreMapsWith : List (List ℕ) → List LoadedMap → List NamedKey → MapsOfPlan → Type 0
-AreMapsWith paths loaded keys m = AreWith paths loaded keys m.maps m.files.items
 
 module _ (Has : List ℕ → List ℕ → Type 0) (plan : List ℕ) where
   -- of a plan that names none there are none; else each path has a text that gave its map, and that is what is said of its file

@@ -1,16 +1,17 @@
 //! What the words of each command say.
 
 ghost use Rattle.std.specs.Prelude.{◌≡◌, IfSome, IsSome};
-ghost use Rattle.cli_inputs.specs.Given.{IsCollect, IsDump, IsFiles, IsFinish, IsGiven, IsMerge, IsRecord, IsTable, IsTcp, IsDurationGiven, IsVerbosity, IsVerify};
+ghost use Rattle.cli_inputs.specs.Given.{IsCollect, IsDump, IsFiles, IsFinish, IsGiven, IsMerge, IsRecord, IsTable, IsTables, IsTcp, IsDurationGiven, IsVerbosity, IsVerify};
 ghost use Rattle.cli_words.specs.Arguments.{OneNumber, reading_of};
 
 use crate::formats::{dump_form, merge_interval, table_format};
 use cli_words::{
     AGAIN, Argument, BUFFER, Chosen, DIRECT, DUMP_FORMAT, ELEMENTS, EVERY, EXPORTER, FAULT,
-    FILES_FROM, FLOW_FILES, FOLDER, FROM, IDLE, INCOMPLETE, INTO, LISTEN, MERGE_INTO, PEERS, PLAN,
-    PROGRESS, RECEIPT, RECEIPT_FILE, RECEIPT_OF, RECEIPTS, RECORD_IDLE, RECORD_LISTEN,
-    RECORD_SESSIONS, RECORD_VERBOSE, REORDER, RING, SESSIONS, STRICT, Subcommand, TABLE,
-    TABLE_FILES, TABLE_FORMAT, TEMPLATES, TIME, UDP, VERBOSE, WORD, WORKERS, ZONE,
+    FILES_FROM, FLOW_FILES, FOLDER, FOLLOW, FROM, GRACE, IDLE, INCOMPLETE, INTO, LISTEN,
+    MERGE_INTO, PEERS, PERIODS_FROM, PLAN, PROGRESS, RECEIPT, RECEIPT_FILE, RECEIPT_OF, RECEIPTS,
+    RECORD_IDLE, RECORD_LISTEN, RECORD_SESSIONS, RECORD_VERBOSE, RECORDED_EVERY, REORDER, RING,
+    SESSIONS, STRICT, Subcommand, TABLE, TABLE_FILES, TABLE_FORMAT, TABLES_INTO, TEMPLATES, TIME,
+    UDP, VERBOSE, WORD, WORKERS, ZONE,
 };
 use flow_collect::Pool;
 use ipfix_dump::Form;
@@ -28,6 +29,7 @@ pub enum Arguments<'m, 'w> {
     Tcp(TcpArguments<'m, 'w>),
     Record(RecordArguments<'m, 'w>),
     Finish(FinishArguments<'w>),
+    Tables(TablesArguments<'m, 'w>),
     Merge(MergeArguments<'m, 'w>),
     Verify(VerifyArguments<'m, 'w>),
     Elements(ElementsArguments<'m, 'w>),
@@ -131,6 +133,21 @@ pub struct FinishArguments<'w> {
     pub folder: &'w str,
 }
 
+/// What `tables` is told.
+#[derive(Clone, Copy)]
+pub struct TablesArguments<'m, 'w> {
+    /// The folder of the recordings, and that of the tables.
+    pub from: &'w str,
+    pub into: &'w str,
+    pub table: TableArguments<'m, 'w>,
+    pub workers: usize,
+    /// How many seconds a period has, and for how many after its end it is left alone.
+    pub every: u64,
+    pub grace: u64,
+    /// Whether it goes on for ever.
+    pub follow: bool,
+}
+
 /// What `merge` is told.
 #[derive(Clone, Copy)]
 pub struct MergeArguments<'m, 'w> {
@@ -156,6 +173,8 @@ pub struct VerifyArguments<'m, 'w> {
     pub table: Option<&'w str>,
     /// The paths of the files that the table is made again of.
     pub again: &'m [&'w str],
+    /// The words FILE=ADDRESS that tell whose files these are, as they were given.
+    pub exporters: &'m [&'w str],
     /// The paths of files of elements, in the order in which they are read.
     pub element_files: &'m [&'w str],
     pub verbosity: Verbosity,
@@ -187,6 +206,7 @@ pub fn read_arguments<'m, 'w>(chosen: Chosen<'m, 'w>) -> Option<Arguments<'m, 'w
         Subcommand::Tcp => Some(Arguments::Tcp(read_tcp(chosen)?)),
         Subcommand::Record => Some(Arguments::Record(read_record(chosen)?)),
         Subcommand::Finish => Some(Arguments::Finish(read_finish(chosen)?)),
+        Subcommand::Tables => Some(Arguments::Tables(read_tables(chosen)?)),
         Subcommand::Merge => Some(Arguments::Merge(read_merge(chosen)?)),
         Subcommand::Verify => Some(Arguments::Verify(read_verify(chosen)?)),
         Subcommand::Elements => Some(Arguments::Elements(ElementsArguments {
@@ -317,6 +337,24 @@ fn read_finish<'m, 'w>(chosen: Chosen<'m, 'w>) -> Option<FinishArguments<'w>>
     })
 }
 
+fn read_tables<'m, 'w>(chosen: Chosen<'m, 'w>) -> Option<TablesArguments<'m, 'w>>
+    ensures told { IfSome result (IsTables chosen.entry) }
+    ensures each { (told : TablesArguments) → IsTables chosen.entry told → IsSome result }
+{
+    let workers = chosen.number(WORKERS)?;
+    let every = chosen.number(RECORDED_EVERY)?;
+    let grace = chosen.number(GRACE)?;
+    Some(TablesArguments {
+        from: chosen.text(PERIODS_FROM)?,
+        into: chosen.text(TABLES_INTO)?,
+        table: read_table(chosen)?,
+        workers: workers as usize,
+        every: u64::from(every),
+        grace: u64::from(grace),
+        follow: chosen.is_given(FOLLOW),
+    })
+}
+
 fn read_merge<'m, 'w>(chosen: Chosen<'m, 'w>) -> Option<MergeArguments<'m, 'w>>
     ensures told { IfSome result (IsMerge chosen.entry) }
     ensures each { (told : MergeArguments) → IsMerge chosen.entry told → IsSome result }
@@ -345,6 +383,7 @@ fn read_verify<'m, 'w>(chosen: Chosen<'m, 'w>) -> Option<VerifyArguments<'m, 'w>
         receipt: chosen.text(RECEIPT_FILE)?,
         table: chosen.text(TABLE),
         again: chosen.texts(AGAIN),
+        exporters: chosen.texts(EXPORTER),
         element_files: chosen.texts(ELEMENTS),
         verbosity: Verbosity {
             verbose: chosen.is_given(VERBOSE),

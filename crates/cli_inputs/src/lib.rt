@@ -3,8 +3,10 @@
 
 mod arguments;
 mod exporters;
+mod folder_line;
 mod formats;
 mod inputs;
+mod jobs;
 mod listed_files;
 mod listening;
 mod part_receipts;
@@ -19,16 +21,18 @@ mod zones;
 pub use arguments::{
     Arguments, CollectArguments, DumpArguments, ElementsArguments, ExplainArguments,
     FilesArguments, FinishArguments, MergeArguments, RecordArguments, ShowProgress, TableArguments,
-    TcpArguments, VerifyArguments, read_arguments,
+    TablesArguments, TcpArguments, VerifyArguments, read_arguments,
 };
 pub use exporters::{check_exporters, place_exporters};
+pub use folder_line::tell_folder;
 pub use inputs::{
     Collecting, buffered_output, load_table_plan, prepare_collecting, progress_writer, table_output,
 };
+pub use jobs::collect_job;
 pub use listed_files::{all_paths, check_paths, read_list};
 pub use listening::listen_on;
 pub use part_receipts::{check_receipts, receipt_paths};
-pub use plan_maps::{MapsOfPlan, load_plan_maps};
+pub use plan_maps::load_plan_maps;
 pub use progress_output::ProgressOutput;
 pub use receipt_place::{CompareFiles, is_of_part};
 pub use receipts::{KnownElements, PlanMade, ReceiptTo, load_known, load_plan_made, merged_place};

@@ -4,31 +4,17 @@ ghost use Rattle.std.specs.Prelude.{◌≡◌, ◌++◌, IfErr, IfOk, OnOk, map,
 ghost use Rattle.std.specs.Option.{option_map};
 ghost use Rattle.std.specs.Path.{rsplit_once, slash};
 ghost use Rattle.report_writing.specs.Told.{AreToldTo};
-ghost use Rattle.table_receipts.specs.Values.{file_value};
-ghost use Rattle.input_sources.specs.declared.maps.LoadedMap.{LoadedMap as Loaded};
 ghost use Rattle.command_collect.specs.CollectLines.{collect_fault_line};
-ghost use Rattle.cli_inputs.specs.MapFiles.{AreMapsOfPlan, AreMapsWith, HasNoMaps, file_told, files_told, folder_of, is_absolute, map_paths, path_from};
+ghost use Rattle.cli_inputs.specs.MapFiles.{AreMapsOfPlan, HasNoMaps, folder_of, is_absolute, map_paths, path_from};
 
 use command_collect::write_collect_fault;
 use flow_collect::CollectFault;
-use flow_maps::Maps;
-use flow_plan_maps::{NamedKey, NamedMap, PlanMaps, map_keys};
+use flow_plan_maps::{NamedMap, PlanMaps};
 use input_files::ReadText;
-use input_sources::{LoadedMap, load_maps};
-use prefix_numbers::PrefixMap;
+use input_sources::load_maps;
+use receipt_maps::{MapsOfPlan, maps_with};
 use report_writing::{Status, Verbosity, WriteLines};
 use std::alloc::{AllocError, Global};
-use std::collections::VecDeque;
-use table_receipts::FileReceipt;
-
-/// The maps of a plan, and what a receipt says of their files.
-#[derive(Drop)]
-pub struct MapsOfPlan {
-    /// The maps, and the plan's keys that look something up in them, if it names maps.
-    pub maps: Option<Maps>,
-    /// The file of each map, in the plan's order.
-    pub files: Vec<FileReceipt>,
-}
 
 /// The maps that the plan of a path names, from the texts of their files. If a file can't be had, or has a fault, the
 /// answer is `NotOpened`, and if memory runs out beside that, `Failed`; `err` has a line.
@@ -79,68 +65,6 @@ fn without_memory<E: WriteLines>(err: &mut E) -> Status
 {
     let _ = write_collect_fault(CollectFault::OutOfMemory, err);
     Status::Failed
-}
-
-// What was loaded from files of these paths, with the keys that look something up.
-fn maps_with(
-    alloc: Global,
-    paths: &[&str],
-    loaded: Vec<LoadedMap>,
-    keys: &[NamedKey],
-) -> Result<MapsOfPlan, AllocError>
-    ensures { IfOk result (AreMapsWith (map (λ p. p.now) paths.now) loaded.items keys.now) }
-{
-    let files = files_of(alloc, paths, &loaded)?;
-    let keys = map_keys(alloc, keys)?;
-    let maps = maps_in(alloc, loaded)?;
-    Ok(MapsOfPlan {
-        maps: Some(Maps { maps, keys }),
-        files,
-    })
-}
-
-// What a receipt says of files of these paths.
-fn files_of(
-    alloc: Global,
-    mut paths: &[&str],
-    mut loaded: &[LoadedMap],
-) -> Result<Vec<FileReceipt>, AllocError>
-    ensures { IfOk result (λ files. map file_value files.items
-        ≡ files_told (map (λ p. p.now) paths.entry.now) loaded.entry.now) }
-{
-    let mut files = Vec::new(alloc);
-    while let [path, later @ ..] = paths {
-        let [map, rest @ ..] = loaded else {
-            return Ok(files);
-        };
-        files.push(file_of(alloc, path, map)?)?;
-        paths = later;
-        loaded = rest;
-    }
-    Ok(files)
-}
-
-fn file_of(alloc: Global, path: &str, loaded: &LoadedMap) -> Result<FileReceipt, AllocError>
-    ensures { IfOk result (λ file. file_value file ≡ file_told path.now loaded.now) }
-{
-    Ok(FileReceipt {
-        name: String::from_str(alloc, path)?,
-        octets: loaded.octets,
-        sha256: loaded.sha256,
-    })
-}
-
-// The maps without what is said of their files.
-fn maps_in(alloc: Global, loaded: Vec<LoadedMap>) -> Result<Vec<PrefixMap>, AllocError>
-    ensures { IfOk result (λ maps. maps.items ≡ map (λ (l : Loaded). l.map) loaded.items) }
-{
-    let mut waiting = VecDeque::from_vec(loaded);
-    let mut maps = Vec::new(alloc);
-    while let Some(next) = waiting.pop_front() {
-        let LoadedMap { map, .. } = next;
-        maps.push(map)?;
-    }
-    Ok(maps)
 }
 
 // The paths of the files of a plan's maps.

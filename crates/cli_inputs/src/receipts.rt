@@ -4,7 +4,7 @@ ghost use Rattle.std.specs.Prelude.{⊤};
 
 use crate::arguments::{CollectArguments, TableArguments};
 use crate::inputs::{load_from, load_table_plan};
-use crate::plan_maps::{MapsOfPlan, load_plan_maps};
+use crate::plan_maps::load_plan_maps;
 use crate::receipt_place::is_of_part;
 use cli_words::VERSION;
 use command_receipt::{MadeWith, ReceiptFault, RunFault, SystemPlace, write_run_fault};
@@ -12,6 +12,7 @@ use element_registry::Elements;
 use flow_maps::Maps;
 use input_files::{ReadText, load_elements};
 use input_sources::LoadedPlan;
+use receipt_maps::MapsOfPlan;
 use report_writing::{CheckedWriter, Reason, Status, Verbosity, write_not_had_because};
 use sha2::{Digest, Sha256};
 use std::alloc::{AllocError, Global};
@@ -79,14 +80,7 @@ pub fn load_with_receipt<'r>(
             receipt: None,
         });
     };
-    let Ok(texts) = KeptTexts::of(rt, table.element_files, Some(table.plan)) else {
-        return Err(without_memory(err));
-    };
-    let loaded = load_from(rt, &texts, table).ok_or(Status::NotOpened)?;
-    let MapsOfPlan { maps, files } = load_maps_of(rt, table, &loaded)?;
-    let Ok(made) = texts.made(rt.alloc(), files) else {
-        return Err(without_memory(err));
-    };
+    let PlanMade { loaded, maps, made } = load_plan_made(rt, table, err)?;
     let place = make_place(rt, path, table.verbosity, err)?;
     Ok(PlanAndReceipt {
         loaded,
@@ -131,14 +125,17 @@ pub fn merged_place<'r>(
     Ok(Some(place))
 }
 
-/// A plan, and what a receipt says of it.
+/// A plan, its maps, and what a receipt says of them.
 #[derive(Drop)]
 pub struct PlanMade {
     pub loaded: LoadedPlan,
+    /// The plan's maps, if it names some.
+    pub maps: Option<Maps>,
     pub made: MadeWith,
 }
 
-/// Loads the plan that parts are merged under, with what their receipts have to say of it.
+/// Loads the plan and its maps, each file once, with what receipts of its tables say of them. If that can't be, standard error
+/// has a line.
 pub fn load_plan_made(
     rt: &HostRuntime,
     table: &TableArguments,
@@ -148,9 +145,9 @@ pub fn load_plan_made(
         return Err(without_memory(err));
     };
     let loaded = load_from(rt, &texts, table).ok_or(Status::NotOpened)?;
-    let MapsOfPlan { files, .. } = load_maps_of(rt, table, &loaded)?;
+    let MapsOfPlan { maps, files } = load_maps_of(rt, table, &loaded)?;
     match texts.made(rt.alloc(), files) {
-        Ok(made) => Ok(PlanMade { loaded, made }),
+        Ok(made) => Ok(PlanMade { loaded, maps, made }),
         Err(AllocError) => Err(without_memory(err)),
     }
 }

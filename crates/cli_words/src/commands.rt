@@ -11,6 +11,7 @@ use crate::options::{
     MERGE_RECEIPT, MERGE_STRICT, PLAN, PROGRESS, RECEIPT, RECEIPT_OF, RECEIPTS, RING, STRICT,
     TABLE, TABLE_FORMAT, TIME, VERBOSE, WORKERS, ZONE,
 };
+use crate::period_options::{FOLLOW, GRACE, PERIODS_FROM, RECORDED_EVERY, TABLES_INTO};
 
 /// A command.
 #[derive(Clone, Copy)]
@@ -94,6 +95,28 @@ pub const FINISH: CommandWords = CommandWords {
     own: &[FOLDER],
 };
 
+pub const TABLES: CommandWords = CommandWords {
+    about: "Makes the tables of the finished periods of a folder of recordings that have none yet",
+    example: "A table is TABLES/PLAN/YYYY-MM-DD/HHMMSS.csv, the beginning of its period in UTC, where PLAN is the name of\n\
+        the plan's file without .toml. Its receipt stands beside it. A period that has a further file is made again.\n\n\
+        Example:\n  collectd tables --from recordings --into tables --plan plan.toml",
+    shared: &[],
+    own: &[
+        PERIODS_FROM,
+        TABLES_INTO,
+        PLAN,
+        ELEMENTS,
+        WORKERS,
+        TABLE_FORMAT,
+        TIME,
+        RECORDED_EVERY,
+        GRACE,
+        FOLLOW,
+        VERBOSE,
+        STRICT,
+    ],
+};
+
 pub const MERGE: CommandWords = CommandWords {
     about: "Adds up tables that were written as IPFIX and writes the table of all of them",
     example: "Example:\n  collectd merge --plan plan.toml one.ipfix two.ipfix > table.csv",
@@ -119,7 +142,7 @@ pub const VERIFY: CommandWords = CommandWords {
     about: "Compares a table with its receipt, and with the one that files give",
     example: "Example:\n  collectd verify table.csv.receipt --again one.ipfix two.ipfix",
     shared: &[],
-    own: &[TABLE, AGAIN, ELEMENTS, VERBOSE, RECEIPT_FILE],
+    own: &[TABLE, AGAIN, EXPORTER, ELEMENTS, VERBOSE, RECEIPT_FILE],
 };
 
 pub const LIST_ELEMENTS: CommandWords = CommandWords {

@@ -8,6 +8,7 @@ mod commands;
 mod format_words;
 mod listen_options;
 mod options;
+mod period_options;
 mod showing;
 mod subcommands;
 mod words;
@@ -25,6 +26,7 @@ pub use options::{
     PROGRESS, RECEIPT, RECEIPT_OF, RECEIPTS, RING, STRICT, TABLE, TABLE_FORMAT, TIME, VERBOSE,
     WORKERS, ZONE,
 };
+pub use period_options::{FOLLOW, GRACE, PERIODS_FROM, RECORDED_EVERY, TABLES_INTO};
 pub use showing::show;
 pub use subcommands::Subcommand;
 pub use words::{VERSION, matches_of};

@@ -11,6 +11,7 @@ pub enum Subcommand {
     Tcp,
     Record,
     Finish,
+    Tables,
     Merge,
     Verify,
     Elements,
@@ -19,12 +20,13 @@ pub enum Subcommand {
 
 impl Subcommand {
     /// All of them, in the order of the help.
-    pub const ALL: [Subcommand; 9] = [
+    pub const ALL: [Subcommand; 10] = [
         Subcommand::Dump,
         Subcommand::Files,
         Subcommand::Tcp,
         Subcommand::Record,
         Subcommand::Finish,
+        Subcommand::Tables,
         Subcommand::Merge,
         Subcommand::Verify,
         Subcommand::Elements,
@@ -41,6 +43,7 @@ impl Subcommand {
             Subcommand::Tcp => "tcp",
             Subcommand::Record => "record",
             Subcommand::Finish => "finish",
+            Subcommand::Tables => "tables",
             Subcommand::Merge => "merge",
             Subcommand::Verify => "verify",
             Subcommand::Elements => "elements",
@@ -59,6 +62,7 @@ impl Subcommand {
             "tcp" => Some(Subcommand::Tcp),
             "record" => Some(Subcommand::Record),
             "finish" => Some(Subcommand::Finish),
+            "tables" => Some(Subcommand::Tables),
             "merge" => Some(Subcommand::Merge),
             "verify" => Some(Subcommand::Verify),
             "elements" => Some(Subcommand::Elements),

@@ -2,7 +2,7 @@
 
 use crate::arguments::Argument;
 use crate::commands::{
-    CommandWords, DUMP, EXPLAIN, FILES, FINISH, LIST_ELEMENTS, MERGE, RECORD, TCP, VERIFY,
+    CommandWords, DUMP, EXPLAIN, FILES, FINISH, LIST_ELEMENTS, MERGE, RECORD, TABLES, TCP, VERIFY,
 };
 use crate::subcommands::Subcommand;
 use clap::{ArgMatches, Command, Error};
@@ -56,6 +56,7 @@ fn words_of(named: Subcommand) -> CommandWords {
         Subcommand::Tcp => TCP,
         Subcommand::Record => RECORD,
         Subcommand::Finish => FINISH,
+        Subcommand::Tables => TABLES,
         Subcommand::Merge => MERGE,
         Subcommand::Verify => VERIFY,
         Subcommand::Elements => LIST_ELEMENTS,

@@ -1,16 +1,14 @@
 //! The commands. Each answers how it ended; an error says how if the library was not called.
 
 ghost use Rattle.std.specs.Prelude.{◌≡◌, MatchBool};
-ghost use Rattle.std.specs.Option.{ForSome, option_map};
-ghost use Rattle.flow_filtered_plan.specs.FilteredPlans.{filter_of};
-ghost use Rattle.flow_plan_maps.specs.Wants.{wanted_context as context_wanted};
+ghost use Rattle.std.specs.Option.{ForSome};
 ghost use Rattle.flow_merge.specs.RowRecords.{AreOrdered, CanTakeRows};
 
 use cli_inputs::{
     CollectArguments, Collecting, DumpArguments, FilesArguments, KnownElements, MergeArguments,
     PlanMade, ProgressOutput, ReceiptTo, TableArguments, TcpArguments, VerifyArguments, all_paths,
-    buffered_output, check_exporters, check_paths, check_receipts, listen_on, load_known,
-    load_plan_made, load_table_plan, merged_place, place_exporters, prepare_collecting,
+    buffered_output, check_exporters, check_paths, check_receipts, collect_job, listen_on,
+    load_known, load_plan_made, load_table_plan, merged_place, place_exporters, prepare_collecting,
     progress_writer, read_list, receipt_paths, table_output, write_refused_output, zone_borders,
 };
 use command_collect::{
@@ -23,15 +21,12 @@ use command_receipt::{Ended, Receipted, SystemPlace, run_files_receipted, run_tc
 use command_verify::{VerifyJob, run_verify, table_of_receipt};
 use flow_collect::{CollectFault, Pool};
 use flow_export::Intervals;
-use flow_maps::Maps;
-use flow_plan_maps::wanted_context;
 use input_sources::{FilesInTurn, LoadedPlan, OpenSource, SystemFiles, SystemListener, WithReason};
 use ipfix_dump::DumpFault;
 use ipfix_session::{FromReader, Source};
 use report_writing::{CheckedWriter, Origin, Status, Verbosity};
 use std::alloc::{AllocError, Global};
 use std::io::{BufWriter, Stderr, Stdout};
-use std::net::IpAddr;
 use std::rt::Clock;
 use std::sync::Wait;
 use std::thread::Threads;
@@ -99,7 +94,7 @@ pub fn files<R: Clock + Threads + Wait + Sync>(
         terminal,
     } = prepare_collecting(rt, &collect, &mut err)?;
     let engine = engine_of(direct, collect.pool);
-    let job = collect_job(&loaded, maps.as_ref(), &collect, engine, &exporters);
+    let job = collect_job(&loaded, maps.as_ref(), &collect.table, engine, &exporters);
     let progress = progress_writer(collect.progress, &terminal, rt);
     let to = TableTo { out, receipt };
     let TableWritten { status, out } = if direct {
@@ -221,7 +216,7 @@ pub fn tcp<R: Clock + Threads + Wait + Sync>(
         count: sessions,
         idle,
     };
-    let job = collect_job(&loaded, maps.as_ref(), &collect, engine, &[]);
+    let job = collect_job(&loaded, maps.as_ref(), &collect.table, engine, &[]);
     let progress = progress_writer(collect.progress, &terminal, rt);
     let to = TableTo { out, receipt };
     let TableWritten { status, out } = collect_connections(
@@ -320,7 +315,7 @@ fn merge_parts(
 {
     let table = &arguments.table;
     let alloc = rt.alloc();
-    let PlanMade { loaded, made } = load_plan_made(rt, table, err)?;
+    let PlanMade { loaded, made, .. } = load_plan_made(rt, table, err)?;
     let Ok(receipts) = receipt_paths(alloc, arguments.paths, arguments.receipts_of) else {
         return Err(without_memory(err));
     };
@@ -383,6 +378,7 @@ pub fn verify<R: Clock + Threads + Wait + Sync>(
         receipt,
         table,
         again,
+        exporters,
         element_files,
         verbosity,
     } = *arguments;
@@ -394,11 +390,16 @@ pub fn verify<R: Clock + Threads + Wait + Sync>(
     };
     let mut err = rt.stderr();
     check_paths(again, None, &mut err)?;
+    check_exporters(again, exporters, &mut err)?;
+    let Ok(exporters) = place_exporters(rt.alloc(), again, exporters) else {
+        return Err(without_memory(&mut err));
+    };
     let KnownElements { elements, files } = load_known(rt, element_files, verbosity, &mut err)?;
     let job = VerifyJob {
         receipt,
         table,
         again,
+        exporters: &exporters,
         element_files: &files,
         verbosity,
     };
@@ -447,40 +448,6 @@ fn merge_job<'a>(
         intervals,
         output: table.output,
         verbosity: table.verbosity,
-    }
-}
-
-// What a run is to do with what this engine collects.
-fn collect_job<'a>(
-    loaded: &'a LoadedPlan,
-    maps: Option<&'a Maps>,
-    collect: &CollectArguments,
-    engine: Engine,
-    exporters: &'a [Option<IpAddr>],
-) -> CollectJob<'a>
-    // It names the plan's keys and counters by the elements that the plan was read with.
-    ensures names { result.elements.now ≡ loaded.now.elements }
-    ensures plan { result.plan.now ≡ loaded.now.read.plan }
-    // It wants what these keys, the plan's conditions and its maps name of context, and these conditions are its filter.
-    ensures wanted { result.wanted ≡ context_wanted loaded.now.read loaded.now.maps }
-    ensures filter { option_map (λ f. f.now) result.filter ≡ filter_of loaded.now.read }
-    ensures maps { result.maps ≡ maps.entry }
-    ensures exporters { result.exporters.now ≡ exporters.now }
-    // The rest is as the command is told.
-    ensures engine { result.engine ≡ engine }
-    ensures output { result.output ≡ collect.now.table.output }
-    ensures verbosity { result.verbosity ≡ collect.now.table.verbosity }
-{
-    CollectJob {
-        elements: &loaded.elements,
-        plan: &loaded.read.plan,
-        engine,
-        output: collect.table.output,
-        verbosity: collect.table.verbosity,
-        wanted: wanted_context(&loaded.read, &loaded.maps),
-        maps,
-        filter: loaded.read.conditions(),
-        exporters,
     }
 }
 

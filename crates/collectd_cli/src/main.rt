@@ -8,6 +8,7 @@ use clap::ArgMatches;
 use cli_inputs::{Arguments, read_arguments};
 use cli_words::{Chosen, matches_of, show};
 use command_record::{finish, record};
+use command_tables::tables;
 use report_writing::Status;
 use std::process::ExitCode;
 use std::rt::Clock;
@@ -63,6 +64,7 @@ fn run_command<R: Clock + Threads + Wait + Sync>(
         Some(Arguments::Tcp(arguments)) => commands::tcp(threads, rt, &arguments),
         Some(Arguments::Record(arguments)) => record(threads, rt, &arguments),
         Some(Arguments::Finish(arguments)) => finish(rt, &arguments),
+        Some(Arguments::Tables(arguments)) => tables(threads, rt, &arguments),
         Some(Arguments::Merge(arguments)) => commands::merge(rt, &arguments),
         Some(Arguments::Verify(arguments)) => commands::verify(threads, rt, &arguments),
         Some(Arguments::Elements(arguments)) => guides::elements(rt, &arguments),

@@ -1,5 +1,4 @@
 -- What inner functions cite.
 pub mod Beginning
 pub mod Finishing
-pub mod Folders
 pub mod Watching

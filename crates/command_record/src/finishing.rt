@@ -3,8 +3,7 @@
 ghost use Rattle.std.specs.Prelude.{◌≡◌};
 ghost use Rattle.command_record.specs.Finishing.{finish_status};
 
-use crate::folder_line::tell_folder;
-use cli_inputs::FinishArguments;
+use cli_inputs::{FinishArguments, tell_folder};
 use recording_connections::finish_recordings;
 use report_writing::Status;
 

@@ -5,7 +5,6 @@
 mod beginning;
 mod descriptors;
 mod finishing;
-mod folder_line;
 mod recording;
 mod system;
 mod watching;

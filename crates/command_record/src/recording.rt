@@ -5,9 +5,8 @@ ghost use Rattle.std.specs.Duration.{as_nanos};
 
 use crate::beginning::{Intake, write_beginning};
 use crate::descriptors::{descriptor_limit, peers_within, write_descriptors};
-use crate::folder_line::tell_folder;
 use crate::system::{Sockets, run_recorder};
-use cli_inputs::{RecordArguments, WITH_REASONS, listen_on};
+use cli_inputs::{RecordArguments, WITH_REASONS, listen_on, tell_folder};
 use network_prefixes::{PeerFilter, Prefix, PrefixFault};
 use recording_connections::{OpenRecordings, RecordOrder, open_recordings};
 use recording_datagrams::{PeerLimits, SystemSocket};

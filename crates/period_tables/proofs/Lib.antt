@@ -1,3 +1,1 @@
-pub mod KeptBeside
 pub mod OutcomeLemmas
-pub mod Rounds

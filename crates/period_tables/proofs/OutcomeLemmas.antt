@@ -1,10 +1,11 @@
--- What became of a period whose table was due.
-use Rattle.std.proofs.Common.{◌≡◌, ℕ, List, Some, sym, subst, ◌∙◌}
+-- What became of a period of which the table was due.
+use Rattle.std.proofs.Common.{◌≡◌, ◌⊎◌, ℕ, Bool, List, Some, sym, subst, ◌∙◌}
 use Rattle.std.specs.declared.alloc.Global.{Global}
 use Rattle.std.specs.declared.string.String.{String}
 use Rattle.recording_periods.specs.declared.due_tables.TableState.TheVariants as table
 use Rattle.period_tables.specs.Listings.{ListsNext}
-use Rattle.period_tables.specs.Outcomes.{IsDueOutcome, IsFinishedOutcome, IsLookedAt, KeepsOthers, Views}
+use Rattle.period_tables.specs.Outcomes.{IsDueOutcome, IsFinishedOutcome, IsLookedAt, KeepsIts, KeepsOthers, Views}
+use Rattle.period_tables.specs.Standing.{IsPutAt}
 use Rattle.period_tables.specs.declared.desk.Desk.{Desk}
 use Rattle.period_tables.specs.declared.outcome.Outcome.{Outcome}
 use Rattle.period_tables.specs.declared.outcome.Outcome.TheVariants.{NotOver, HeldUp, UpToDate, FileGone, Made, NotRead, NotMade, NotPut}
@@ -14,6 +15,12 @@ module _ {F M T : Type 0} (views : Views F M T)
     (looked : IsLookedAt views begins old mid files table.Due) where
   others_kept : KeepsOthers views begins mid.tables new.tables → KeepsOthers views begins old.tables new.tables
   others_kept kept = subst (λ t. KeepsOthers views begins t new.tables) tables kept
+
+  made_before : (text receipt : List ℕ) (fault : Bool) → views.makes.is_table_of mid.maker new.maker begins files text receipt fault → views.makes.is_table_of old.maker new.maker begins files text receipt fault
+  made_before text receipt fault made = subst (λ m. views.makes.is_table_of m new.maker begins files text receipt fault) maker made
+
+  still_made : views.makes.as_before mid.maker new.maker → views.makes.as_before old.maker new.maker
+  still_made same = subst (λ m. views.makes.as_before m new.maker) maker same
 
   still_looked : IsLookedAt views begins old new files table.Due
   still_looked = record {
@@ -25,23 +32,38 @@ module _ {F M T : Type 0} (views : Views F M T)
     state_is = looked.state_is;
   }
 
+  due_before : (outcome : Outcome) → IsDueOutcome views begins files outcome mid new → IsDueOutcome views begins files outcome old new
+  due_before NotOver h = absurd h
+  due_before (HeldUp held) h = absurd h
+  due_before UpToDate h = absurd h
+  due_before (FileGone gone) h = absurd h
+  due_before (NotRead reason) h = absurd h
+  due_before (Made fault) h = record {
+    text = h.text;
+    receipt = h.receipt;
+    made = made_before h.text h.receipt fault h.made;
+    stands = h.stands;
+    others = others_kept h.others;
+    as_before = still_made h.as_before;
+  }
+  due_before (NotMade status) h = (h.0 ∙ tables, still_made h.1, subst (λ m. views.makes.not_made m new.maker begins files status) maker h.2)
+  due_before (NotPut reason) h = record {
+    text = h.text;
+    receipt = h.receipt;
+    fault = h.fault;
+    made = made_before h.text h.receipt h.fault h.made;
+    left = subst (λ t. IsPutAt (views.table_at new.tables begins) (views.receipt_at new.tables begins) h.text h.receipt ⊎ KeepsIts views begins t new.tables) tables h.left;
+    others = others_kept h.others;
+    as_before = still_made h.as_before;
+    why = h.why;
+  }
+
   pub finished_outcome : (outcome : Outcome) → IsDueOutcome views begins files outcome mid new → IsFinishedOutcome views begins outcome old new
   finished_outcome NotOver h = absurd h
   finished_outcome (HeldUp held) h = absurd h
   finished_outcome UpToDate h = absurd h
   finished_outcome (FileGone gone) h = absurd h
   finished_outcome (NotRead reason) h = absurd h
-  finished_outcome (Made fault) h = record {
-    files = files;
-    looked_at = still_looked;
-    is_made = record {
-      text = h.0.text;
-      receipt = h.0.receipt;
-      made = subst (λ m. views.is_table_of m begins files h.0.text h.0.receipt) maker h.0.made;
-      stands = h.0.stands;
-      receipt_stands = h.0.receipt_stands;
-    };
-    others = others_kept h.1;
-  }
-  finished_outcome (NotMade status) h = (h.0 ∙ tables, files, still_looked, h.1)
-  finished_outcome (NotPut reason) h = (others_kept h.0, h.1)
+  finished_outcome (Made fault) h = (files, still_looked, due_before (Made fault) h)
+  finished_outcome (NotMade status) h = (files, still_looked, due_before (NotMade status) h)
+  finished_outcome (NotPut reason) h = (files, still_looked, due_before (NotPut reason) h)

@@ -1,10 +1,10 @@
 -- What became of the tables of periods.
-use Rattle.std.specs.Prelude.{◌≡◌, ◌⊎◌, ℕ, List, [], ◌∷◌, Option, None, Some, option_map, string_bytes}
+use Rattle.std.specs.Prelude.{◌≡◌, ◌⊎◌, ℕ, Bool, List, Option, None, Some, option_map, string_bytes}
 use Rattle.std.specs.Borrow.{Bor}
 use Rattle.std.specs.declared.alloc.Global.{Global}
+use Rattle.std.specs.declared.io.ErrorKind.{ErrorKind}
 use Rattle.std.specs.declared.string.String.{String}
 use Rattle.std.specs.declared.vec.Vec.{Vec}
-use Rattle.recording_names.specs.declared.period.Period.{Period}
 use Rattle.recording_periods.specs.FinishedPeriods.{IsFinished, IsPeriodState}
 use Rattle.recording_periods.specs.PeriodFiles.{AreFilesOf}
 use Rattle.recording_periods.specs.TableStates.{IsTableState}
@@ -14,37 +14,32 @@ use Rattle.recording_periods.specs.declared.finished_period.PeriodRule.{PeriodRu
 use Rattle.recording_periods.specs.declared.finished_period.PeriodState.TheVariants as period
 use Rattle.report_writing.specs.declared.reason.Reason.{Reason}
 use Rattle.report_writing.specs.declared.reason.Reason.TheVariants.{OutOfMemory}
-use Rattle.report_writing.specs.declared.status.Status.{Status}
+use Rattle.ipfix_session.specs.Sources.{SourceView}
+use Rattle.period_collect.specs.MadeTables.{Makes, makes_of}
+use Rattle.period_collect.specs.declared.maker.TableMaker.{TableMaker}
 use Rattle.period_tables.specs.Listings.{Listing, ListsNext}
-use Rattle.period_tables.specs.Standing.{IsKeptBeside, NamesFiles}
+use Rattle.period_tables.specs.Standing.{IsKeptAt, IsKeptBeside, IsPutAt, NamesFiles}
 use Rattle.period_tables.specs.declared.desk.Desk.{Desk}
 use Rattle.period_tables.specs.declared.outcome.Outcome.{Outcome}
 use Rattle.period_tables.specs.declared.outcome.Outcome.TheVariants.{NotOver, HeldUp, UpToDate, FileGone, Made, NotRead, NotMade, NotPut}
-
--- one after another, with an answer for each
-abbrev pub Steps : {State A B : Type 0} → (A → B → State → State → Type 0) → List A → List B → State → State → Type 0
-Steps Step [] [] before after = before ≡ after
-Steps {State} Step (a ∷ as') (b ∷ bs) before after = (between : State) × Step a b before between × Steps Step as' bs between after
-Steps Step as' bs before after = ⊥
 
 -- what contracts see of a folder of recordings, of what makes tables, and of a place of tables
 pub record Views (F M T : Type 0) : Type 1 where
   pub listed : F → Option (List Listing)
   pub not_listed : F → Option ℕ → Reason → Type 0
-  pub is_table_of : M → ℕ → List (String Global) → List ℕ → List ℕ → Type 0
-  pub not_made : M → ℕ → List (String Global) → Status → Type 0
+  pub makes : Makes M
   pub table_at : T → ℕ → List ℕ → Type 0
   pub receipt_at : T → ℕ → Option (List ℕ) → Type 0
   pub not_put : T → ℕ → Reason → Type 0
 
--- by the words of their traits
-abbrev pub views_of : {F M T : Type 0} → (F → Option (List Listing)) → (F → Option ℕ → Reason → Type 0) → (M → ℕ → List (String Global) → List ℕ → List ℕ → Type 0) → (M → ℕ → List (String Global) → Status → Type 0)
-    → (T → ℕ → List ℕ → Type 0) → (T → ℕ → Option (List ℕ) → Type 0) → (T → ℕ → Reason → Type 0) → Views F M T
-views_of listed not_listed is_table_of not_made table_at receipt_at not_put = record {
+-- by the words of their traits, and of those of the sources of tables, of what opens them, and of where lines go
+abbrev pub views : {F T S O E : Type 0} → (F → Option (List Listing)) → (F → Option ℕ → Reason → Type 0)
+    → (S → SourceView) → (S → Option ErrorKind) → (O → List ℕ → S → Type 0) → (O → List ℕ → Option ℕ → Type 0) → (O → List ℕ → Reason → Type 0) → (O → Option (List S)) → (E → Option (List ℕ)) → (E → Type 0)
+    → (T → ℕ → List ℕ → Type 0) → (T → ℕ → Option (List ℕ) → Type 0) → (T → ℕ → Reason → Type 0) → Views F (TableMaker S O E) T
+views listed not_listed seen failure opens sizes refuses coming contents failed table_at receipt_at not_put = record {
   listed = listed;
   not_listed = not_listed;
-  is_table_of = is_table_of;
-  not_made = not_made;
+  makes = makes_of seen failure opens sizes refuses coming contents failed;
   table_at = table_at;
   receipt_at = receipt_at;
   not_put = not_put;
@@ -56,55 +51,66 @@ IsGoneOutcome path (FileGone gone) = path ≡ string_bytes gone
 IsGoneOutcome path (NotRead reason) = reason ≡ OutOfMemory
 IsGoneOutcome path outcome = ⊥
 
-module _ {F M T : Type 0} (views : Views F M T) where
+module _ {F M T : Type 0} (sees : Views F M T) where
   -- a period's folder was listed: these are its finished files, and the receipt of its table says so of its state
   pub record IsLookedAt (begins : ℕ) (before after : Desk F M T) (files : List (String Global)) (state : TableState) : Type 0 where
     pub names : List (String Global)
-    pub lists : ListsNext (views.listed before.folder) (views.listed after.folder) (record { period = Some begins; names = names })
+    pub lists : ListsNext (sees.listed before.folder) (sees.listed after.folder) (record { period = Some begins; names = names })
     pub files_of : AreFilesOf names files
     pub paths : Option (Vec (String Global) Global)
-    pub receipt : NamesFiles (views.receipt_at before.tables begins) paths
+    pub receipt : NamesFiles (sees.receipt_at before.tables begins) paths
     pub state_is : IsTableState files (option_map (λ v. v.items) paths) state
+
+  -- the table and the receipt of a period are as they were
+  abbrev pub KeepsIts : ℕ → T → T → Type 0
+  KeepsIts begins before after = IsKeptAt begins (sees.table_at before) (sees.table_at after) (sees.receipt_at before) (sees.receipt_at after)
 
   -- nothing but the table and the receipt of one period is otherwise
   abbrev pub KeepsOthers : ℕ → T → T → Type 0
-  KeepsOthers begins before after = IsKeptBeside begins (views.table_at before) (views.table_at after) (views.receipt_at before) (views.receipt_at after)
+  KeepsOthers begins before after = IsKeptBeside begins (sees.table_at before) (sees.table_at after) (sees.receipt_at before) (sees.receipt_at after)
 
-  -- the table of these files, and exactly these, stands, and then its receipt
-  pub record IsMade (begins : ℕ) (files : List (String Global)) (before after : Desk F M T) : Type 0 where
+  -- the table of these files, and exactly these, was made, and is there with its receipt
+  pub record IsMade (begins : ℕ) (files : List (String Global)) (fault : Bool) (before after : Desk F M T) : Type 0 where
     pub text : List ℕ
     pub receipt : List ℕ
-    pub made : views.is_table_of before.maker begins files text receipt
-    pub stands : views.table_at after.tables begins text
-    pub receipt_stands : views.receipt_at after.tables begins (Some receipt)
-
-  -- of a finished period whose table was due
-  pub record IsMadeOf (begins : ℕ) (before after : Desk F M T) : Type 0 where
-    pub files : List (String Global)
-    pub looked_at : IsLookedAt begins before after files table.Due
-    pub is_made : IsMade begins files before after
+    pub made : sees.makes.is_table_of before.maker after.maker begins files text receipt fault
+    pub stands : IsPutAt (sees.table_at after.tables begins) (sees.receipt_at after.tables begins) text receipt
     pub others : KeepsOthers begins before.tables after.tables
+    pub as_before : sees.makes.as_before before.maker after.maker
 
-  -- of one whose table was due, of these files
+  -- it was made, and putting it failed: it is there with its receipt, or what was there before
+  pub record IsNotPut (begins : ℕ) (files : List (String Global)) (reason : Reason) (before after : Desk F M T) : Type 0 where
+    pub text : List ℕ
+    pub receipt : List ℕ
+    pub fault : Bool
+    pub made : sees.makes.is_table_of before.maker after.maker begins files text receipt fault
+    pub left : IsPutAt (sees.table_at after.tables begins) (sees.receipt_at after.tables begins) text receipt ⊎ KeepsIts begins before.tables after.tables
+    pub others : KeepsOthers begins before.tables after.tables
+    pub as_before : sees.makes.as_before before.maker after.maker
+    pub why : sees.not_put after.tables begins reason
+
+  -- of a period of which the table of these files was due
   abbrev pub IsDueOutcome : ℕ → List (String Global) → Outcome → Desk F M T → Desk F M T → Type 0
-  IsDueOutcome begins files (Made fault) before after = IsMade begins files before after × KeepsOthers begins before.tables after.tables
-  IsDueOutcome begins files (NotMade status) before after = (after.tables ≡ before.tables) × views.not_made after.maker begins files status
-  IsDueOutcome begins files (NotPut reason) before after = KeepsOthers begins before.tables after.tables × views.not_put after.tables begins reason
+  IsDueOutcome begins files (Made fault) before after = IsMade begins files fault before after
+  IsDueOutcome begins files (NotMade status) before after = (after.tables ≡ before.tables) × sees.makes.as_before before.maker after.maker × sees.makes.not_made before.maker after.maker begins files status
+  IsDueOutcome begins files (NotPut reason) before after = IsNotPut begins files reason before after
   IsDueOutcome begins files outcome before after = ⊥
+
+  -- the tables are as they were, and nothing was asked of what makes them
+  abbrev pub IsUntouched : Desk F M T → Desk F M T → Type 0
+  IsUntouched before after = (after.tables ≡ before.tables) × (after.maker ≡ before.maker)
 
   -- of a period that is finished
   abbrev pub IsFinishedOutcome : ℕ → Outcome → Desk F M T → Desk F M T → Type 0
   IsFinishedOutcome begins NotOver before after = ⊥
   IsFinishedOutcome begins (HeldUp held) before after = ⊥
-  IsFinishedOutcome begins UpToDate before after = (after.tables ≡ before.tables) × (files : List (String Global)) × IsLookedAt begins before after files table.UpToDate
+  IsFinishedOutcome begins UpToDate before after = IsUntouched before after × (files : List (String Global)) × IsLookedAt begins before after files table.UpToDate
   IsFinishedOutcome begins (FileGone gone) before after =
-      (after.tables ≡ before.tables) × (files : List (String Global)) × (path : Bor (List ℕ)) × (path.now ≡ string_bytes gone) × IsLookedAt begins before after files (table.Gone path)
-  IsFinishedOutcome begins (Made fault) before after = IsMadeOf begins before after
+      IsUntouched before after × (files : List (String Global)) × (path : Bor (List ℕ)) × (path.now ≡ string_bytes gone) × IsLookedAt begins before after files (table.Gone path)
   IsFinishedOutcome begins (NotRead reason) before after =
-      (after.tables ≡ before.tables) × (views.not_listed after.folder (Some begins) reason ⊎ views.not_put after.tables begins reason ⊎ (reason ≡ OutOfMemory))
-  IsFinishedOutcome begins (NotMade status) before after =
-      (after.tables ≡ before.tables) × (files : List (String Global)) × IsLookedAt begins before after files table.Due × views.not_made after.maker begins files status
-  IsFinishedOutcome begins (NotPut reason) before after = KeepsOthers begins before.tables after.tables × views.not_put after.tables begins reason
+      IsUntouched before after × (sees.not_listed after.folder (Some begins) reason ⊎ sees.not_put after.tables begins reason ⊎ (reason ≡ OutOfMemory))
+  IsFinishedOutcome begins outcome before after =
+      (files : List (String Global)) × IsLookedAt begins before after files table.Due × IsDueOutcome begins files outcome before after
 
   -- of any period
   abbrev pub IsOutcome : PeriodRule → ℕ → List (String Global) → ℕ → Outcome → Desk F M T → Desk F M T → Type 0
@@ -113,11 +119,15 @@ module _ {F M T : Type 0} (views : Views F M T) where
       (name : Bor (List ℕ)) × (name.now ≡ string_bytes held) × IsPeriodState rule now unfinished begins (period.HeldUp name) × (after ≡ before)
   IsOutcome rule now unfinished begins outcome before after = IsFinished rule now unfinished begins × IsFinishedOutcome begins outcome before after
 
-  -- a round: what isn't finished was listed first, and then there is an outcome of each period, in their order
-  pub record IsRound (rule : PeriodRule) (now : ℕ) (periods : List Period) (outcomes : List Outcome) (before after : Desk F M T) : Type 0 where
+  -- what isn't finished was listed first, and then the period was taken
+  pub record IsTaken (rule : PeriodRule) (now begins : ℕ) (outcome : Outcome) (before after : Desk F M T) : Type 0 where
     pub unfinished : List (String Global)
     pub begun : Desk F M T
-    pub lists : ListsNext (views.listed before.folder) (views.listed begun.folder) (record { period = None; names = unfinished })
+    pub lists : ListsNext (sees.listed before.folder) (sees.listed begun.folder) (record { period = None; names = unfinished })
     pub same_maker : begun.maker ≡ before.maker
     pub same_tables : begun.tables ≡ before.tables
-    pub steps : Steps (λ (p : Period) outcome. IsOutcome rule now unfinished p.begins outcome) periods outcomes begun after
+    pub outcome_is : IsOutcome rule now unfinished begins outcome begun after
+
+  -- it wasn't: what isn't finished couldn't be listed, or memory ran out
+  abbrev pub IsNotTaken : Reason → Desk F M T → Desk F M T → Type 0
+  IsNotTaken reason before after = IsUntouched before after × (sees.not_listed after.folder None reason ⊎ (reason ≡ OutOfMemory))

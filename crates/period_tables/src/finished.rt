@@ -3,17 +3,18 @@
 ghost use Rattle.std.specs.Prelude.{◌≡◌};
 ghost use Rattle.std.specs.Option.{option_map};
 ghost use Rattle.recording_periods.specs.TableStates.{IsTableState};
-ghost use Rattle.period_tables.specs.Outcomes.{IsDueOutcome, IsFinishedOutcome, IsGoneOutcome, views_of};
+ghost use Rattle.period_tables.specs.Outcomes.{IsDueOutcome, IsFinishedOutcome, IsGoneOutcome, views};
 
 use crate::desk::Desk;
-use crate::maker::MakeTable;
 use crate::outcome::Outcome;
 use crate::place::TablePlace;
-use crate::putting::put_made;
 use crate::recordings::Recordings;
+use input_sources::OpenSource;
+use ipfix_session::Source;
+use period_collect::{TableMaker, make_table};
 use recording_names::Period;
 use recording_periods::{TableState, finished_files, table_state};
-use report_writing::Reason;
+use report_writing::{Reason, WriteLines};
 use std::alloc::{AllocError, Global};
 use std::rt::Clock;
 use std::sync::Wait;
@@ -22,12 +23,20 @@ use std::thread::Threads;
 /// Makes the table of a finished period if it is due.
 pub(crate) fn take_finished<
     F: Recordings,
-    M: MakeTable,
+    S: Source + Send + Drop,
+    O: OpenSource<S>,
+    E: WriteLines,
     T: TablePlace,
     R: Clock + Threads + Wait + Sync,
->(threads: &R, desk: &mut Desk<F, M, T>, alloc: Global, period: Period) -> Outcome
+>(
+    threads: &R,
+    desk: &mut Desk<F, TableMaker<'_, S, O, E>, T>,
+    alloc: Global,
+    period: Period,
+) -> Outcome
     ensures { IsFinishedOutcome
-        (views_of F.listed F.refuses M.is_table_of M.refuses T.table T.receipt T.refuses)
+        (views F.listed F.refuses S.seen S.failure O.opens O.sizes
+        O.refuses O.coming E.contents E.failed T.table T.receipt T.refuses)
         period.begins result desk.old desk.new }
 {
     let names = match desk.folder.files(period) {
@@ -70,22 +79,30 @@ fn file_gone(alloc: Global, path: &str) -> Outcome
 }
 
 // Makes the table of these files, and puts it.
-fn make_due<F: Recordings, M: MakeTable, T: TablePlace, R: Clock + Threads + Wait + Sync>(
+fn make_due<
+    F: Recordings,
+    S: Source + Send + Drop,
+    O: OpenSource<S>,
+    E: WriteLines,
+    T: TablePlace,
+    R: Clock + Threads + Wait + Sync,
+>(
     threads: &R,
-    desk: &mut Desk<F, M, T>,
+    desk: &mut Desk<F, TableMaker<'_, S, O, E>, T>,
     period: Period,
     files: &[String],
 ) -> Outcome
     ensures outcome { IsDueOutcome
-        (views_of F.listed F.refuses M.is_table_of M.refuses T.table T.receipt T.refuses)
+        (views F.listed F.refuses S.seen S.failure O.opens O.sizes
+        O.refuses O.coming E.contents E.failed T.table T.receipt T.refuses)
         period.begins files.now result desk.old desk.new }
     ensures folder { desk.new.folder ≡ desk.old.folder }
 {
-    let made = match desk.maker.make(threads, period, files) {
+    let made = match make_table(threads, &mut desk.maker, period, files) {
         Ok(made) => made,
         Err(status) => return Outcome::NotMade(status),
     };
-    match put_made(&mut desk.tables, period, &made) {
+    match desk.tables.put(period, &made.text, &made.receipt) {
         Ok(()) => Outcome::Made(made.had_fault),
         Err(reason) => Outcome::NotPut(reason),
     }

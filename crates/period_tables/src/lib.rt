@@ -1,19 +1,15 @@
-//! The tables of the periods of a folder of recordings: one round over its periods makes the table of each that is finished and
-//! has none of exactly its files.
+//! The tables of the periods of a folder of recordings: if a period is finished and has no table of exactly its files, it is made.
 #![tactic(auto)]
 
 mod desk;
 mod finished;
-mod maker;
 mod outcome;
 mod place;
-mod putting;
 mod recordings;
-mod round;
+mod taking;
 
 pub use desk::Desk;
-pub use maker::{MadeTable, MakeTable};
 pub use outcome::Outcome;
 pub use place::TablePlace;
 pub use recordings::Recordings;
-pub use round::take_round;
+pub use taking::take_period;

@@ -13,7 +13,7 @@ pub enum Outcome {
     UpToDate,
     /// The file of this path, of which the table was made, is gone.
     FileGone(String),
-    /// The table was made. It says whether a session had a fault.
+    /// The table was made. It says whether a session has a fault.
     Made(bool),
     /// The folder of the period, or the receipt of its table, can't be read.
     NotRead(Reason),

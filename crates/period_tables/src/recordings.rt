@@ -12,7 +12,7 @@ pub trait Recordings {
     /// What was listed, in this order, if it shows that.
     ghost listed: { Self → Option (List Listing) };
 
-    /// Whether it doesn't list the folder of a period, by its beginning, or that of what isn't finished, for this reason.
+    /// Whether it can't list the folder of a period, by its beginning, or that of unfinished files, for this reason.
     ghost refuses: { Self → Option ℕ → Reason → Type 0 };
 
     /// The names in the folder of what isn't finished.

@@ -1,3 +1,4 @@
 -- What contracts cite.
+pub mod FoundPeriods
 pub mod PlanNames
 pub mod ReceiptFiles

@@ -1,6 +1,7 @@
 //! Folders of recordings and of tables on the disk, as the periods of one become the tables of the other.
 #![tactic(auto)]
 
+mod found_periods;
 mod plan_names;
 mod plan_tables;
 mod receipt_files;

@@ -1,11 +1,10 @@
 //! The tables of a plan in a folder on the disk.
 
-ghost use Rattle.std.specs.Prelude.{⊤};
-
-use crate::receipt_files::files_in_receipt;
+use crate::plan_names::table_path;
+use crate::receipt_files::{files_in_receipt, is_receipt_of};
 use period_tables::TablePlace;
 use recording_folder::Folder;
-use recording_names::{Period, period_name};
+use recording_names::Period;
 use report_writing::Reason;
 use std::alloc::AllocError;
 use std::fs::{self, OpenFile, OpenOptions};
@@ -16,6 +15,9 @@ const TEXT: &str = "text";
 
 /// What is appended to the path of a table for that of its receipt.
 const RECEIPT: &str = ".receipt";
+
+/// What is appended to the path of a receipt as long as its table may not have its name yet.
+const NEXT: &str = ".next";
 
 /// The file in the folder of a plan's tables that has the plan's text.
 const PLAN: &str = ".plan";
@@ -36,14 +38,13 @@ pub struct PlanTables<'r> {
 /// Why the tables of a plan can't be put into a folder.
 #[derive(Debug, Drop)]
 pub enum PlanFault {
-    /// Those that stand are of another plan of that name.
+    /// Those that are there are of another plan of that name.
     OtherPlan,
     NotHad(io::Error),
 }
 
 impl<'r> PlanTables<'r> {
-    /// The folder of the tables of a plan of this name and this text, whose names have this ending. It is made where it isn't
-    /// there.
+    /// The tables of a plan of this name and this text, with names of this ending. Their folder is made if it isn't there.
     pub fn open(
         rt: &'r HostRuntime,
         folder: Folder,
@@ -81,13 +82,7 @@ impl<'r> PlanTables<'r> {
         }
     }
 
-    /// The path of the table of a period.
-    pub fn table_path(&self, period: Period) -> Result<String, AllocError> {
-        let name = period_name(self.rt.alloc(), period)?;
-        format!(in self.rt.alloc(); "{}/{}.{}", self.path.as_str(), name.as_str(), self.ending)
-    }
-
-    // The path of its receipt.
+    // The path of the receipt of a period.
     fn receipt_path(&self, period: Period) -> Result<String, AllocError> {
         let table = self.table_path(period)?;
         format!(in self.rt.alloc(); "{}{RECEIPT}", table.as_str())
@@ -95,6 +90,7 @@ impl<'r> PlanTables<'r> {
 
     // The text of the receipt of a period, if it has one.
     fn receipt_text(&self, period: Period) -> io::Result<Option<String>> {
+        self.settle(period)?;
         let path = self.receipt_path(period)?;
         match fs::read_to_string(self.rt, path.as_str()) {
             Ok(text) => Ok(Some(text)),
@@ -103,14 +99,44 @@ impl<'r> PlanTables<'r> {
         }
     }
 
-    // Takes the receipt of a period away, if it has one.
-    fn take_receipt_away(&self, period: Period) -> io::Result<()> {
-        let path = self.receipt_path(period)?;
-        match fs::remove_file(self.rt, path.as_str()) {
-            Ok(()) => self.sync_down_to(path.as_str()),
-            Err(error) if error.kind() == ErrorKind::NotFound => Ok(()),
+    // Ends what a run that stopped began for a period: if the next receipt is that of the table that is there, it becomes the
+    // receipt, and otherwise it is removed.
+    fn settle(&self, period: Period) -> io::Result<()> {
+        let receipt = self.receipt_path(period)?;
+        let next = format!(in self.rt.alloc(); "{}{NEXT}", receipt.as_str())?;
+        let text = match fs::read_to_string(self.rt, next.as_str()) {
+            Ok(text) => text,
+            Err(error) if error.kind() == ErrorKind::NotFound => return Ok(()),
+            Err(error) => return Err(error),
+        };
+        if self.stands_with(period, text.as_str())? {
+            fs::rename(self.rt, next.as_str(), receipt.as_str())?;
+        } else {
+            fs::remove_file(self.rt, next.as_str())?;
+        }
+        self.sync_down_to(receipt.as_str())
+    }
+
+    // Whether this text is the receipt of the table of a period.
+    fn stands_with(&self, period: Period, receipt_text: &str) -> io::Result<bool> {
+        let path = self.table_path(period)?;
+        match fs::read(self.rt, path.as_str()) {
+            Ok(table) => Ok(is_receipt_of(self.rt.alloc(), receipt_text, &table)?),
+            Err(error) if error.kind() == ErrorKind::NotFound => Ok(false),
             Err(error) => Err(error),
         }
+    }
+
+    // Puts the table of a period and its receipt: the receipt whole under another name, then the table, and then the receipt
+    // gets its name.
+    fn put_both(&self, period: Period, text: &[u8], receipt_text: &[u8]) -> io::Result<()> {
+        let table = self.table_path(period)?;
+        let receipt = self.receipt_path(period)?;
+        let next = format!(in self.rt.alloc(); "{}{NEXT}", receipt.as_str())?;
+        self.put_text(next.as_str(), receipt_text)?;
+        self.put_text(table.as_str(), text)?;
+        fs::rename(self.rt, next.as_str(), receipt.as_str())?;
+        self.sync_down_to(receipt.as_str())
     }
 
     // Puts a text under a path: whole, or nothing.
@@ -154,11 +180,20 @@ impl<'r> PlanTables<'r> {
 }
 
 impl<'r> TablePlace for PlanTables<'r> {
+    ghost use Rattle.std.specs.Prelude.{⊤, string_bytes};
+    ghost use Rattle.tables_folder.specs.PlanNames.{IsTablePath};
+
     ghost table = { λ _ _ _. ⊤ };
 
     ghost receipt = { λ _ _ _. ⊤ };
 
+    ghost path = { λ tables begins path. IsTablePath (string_bytes tables.path) tables.ending.now begins path };
+
     ghost refuses = { λ _ _ _. ⊤ };
+
+    fn table_path(&self, period: Period) -> Result<String, AllocError> {
+        table_path(self.rt.alloc(), &self.path, period, self.ending)
+    }
 
     fn receipt_files(&mut self, period: Period) -> Result<Option<Vec<String>>, Reason> {
         let text = match self.receipt_text(period) {
@@ -172,27 +207,11 @@ impl<'r> TablePlace for PlanTables<'r> {
         }
     }
 
-    fn remove_receipt(&mut self, period: Period) -> Result<(), Reason> {
-        answer_of(self.take_receipt_away(period))
-    }
-
-    fn put_table(&mut self, period: Period, text: &[u8]) -> Result<(), Reason> {
-        let Ok(path) = self.table_path(period) else {
-            return Err(Reason::OutOfMemory);
-        };
-        answer_of(self.put_text(path.as_str(), text))
-    }
-
-    fn put_receipt(
-        &mut self,
-        period: Period,
-        _text: &[u8],
-        receipt_text: &[u8],
-    ) -> Result<(), Reason> {
-        let Ok(path) = self.receipt_path(period) else {
-            return Err(Reason::OutOfMemory);
-        };
-        answer_of(self.put_text(path.as_str(), receipt_text))
+    fn put(&mut self, period: Period, text: &[u8], receipt_text: &[u8]) -> Result<(), Reason> {
+        match self.put_both(period, text, receipt_text) {
+            Ok(()) => Ok(()),
+            Err(error) => Err(Reason::of(&error)),
+        }
     }
 }
 
@@ -201,12 +220,5 @@ fn reason_of_unread(error: &io::Error) -> Reason {
     match error.kind() {
         ErrorKind::InvalidData => Reason::NotValid,
         kind => Reason::by_kind(kind),
-    }
-}
-
-fn answer_of(done: io::Result<()>) -> Result<(), Reason> {
-    match done {
-        Ok(()) => Ok(()),
-        Err(error) => Err(Reason::of(&error)),
     }
 }

@@ -1,15 +1,17 @@
 //! The files that a receipt names.
 
-ghost use Rattle.std.specs.Prelude.{◌≡◌, map, string_bytes, IfErr, IfOk};
-ghost use Rattle.table_receipts.specs.Values.{input_value};
-ghost use Rattle.tables_folder.specs.ReceiptFiles.{IsFilesOf, IsNotOf};
+ghost use Rattle.std.specs.Prelude.{◌≡◌, filter, map, string_bytes, IfErr, IfOk, MatchBool};
+ghost use Rattle.table_receipts.specs.Values.{input_value, table_value};
+ghost use Rattle.period_tables.specs.Standing.{was_read as was_input_read};
+ghost use Rattle.tables_folder.specs.ReceiptFiles.{IsFilesOf, IsNotOf, IsNoReceiptOf, IsReceiptOf, tells_table};
 
 use report_writing::Reason;
+use sha2::{Digest, Sha256};
 use std::alloc::{AllocError, Global};
-use table_receipts::{InputReceipt, ReceiptFault, read_receipt};
+use table_receipts::{InputReceipt, ReceiptFault, TableReceipt, read_receipt};
 
-/// The paths of the inputs of the receipt with this text, whose table was made under a plan with that text. What is no receipt,
-/// or one of another plan, isn't valid.
+/// The paths of the inputs of the receipt with this text, of a table under a plan with that text, but for those whose session
+/// ended since a read failed or memory ran out. If the text is no receipt, or one of another plan, it isn't valid.
 pub fn files_in_receipt(alloc: Global, text: &str, plan: &str) -> Result<Vec<String>, Reason>
     ensures files { IfOk result (λ paths. IsFilesOf text.now plan.now paths.items) }
     ensures reason { IfErr result (IsNotOf text.now plan.now) }
@@ -28,16 +30,46 @@ pub fn files_in_receipt(alloc: Global, text: &str, plan: &str) -> Result<Vec<Str
     }
 }
 
-// The names of inputs.
+// The names of inputs that were read.
 fn names_of(alloc: Global, inputs: &[InputReceipt]) -> Result<Vec<String>, AllocError>
     ensures { IfOk result (λ names. map string_bytes names.items
-        ≡ map (λ i. i.file.name) (map input_value inputs.now)) }
+        ≡ map (λ i. i.file.name) (filter was_input_read (map input_value inputs.now))) }
 {
     let mut names = Vec::new(alloc);
     let mut left = inputs;
     while let Some((input, rest)) = left.split_first() {
-        names.push(input.file.name.clone()?)?;
+        if was_read(input) {
+            names.push(input.file.name.clone()?)?;
+        }
         left = rest;
     }
     Ok(names)
+}
+
+// Whether no read of an input failed, and memory didn't run out in it.
+fn was_read(input: &InputReceipt) -> bool
+    ensures { result ≡ was_input_read (input_value input.now) }
+{
+    match &input.fault {
+        Some(fault) => fault.as_str() != "ReadFailed" && fault.as_str() != "OutOfMemory",
+        None => true,
+    }
+}
+
+/// Whether this text is the receipt of a table, by the table's octets and their SHA-256.
+pub(crate) fn is_receipt_of(alloc: Global, text: &str, table: &[u8]) -> Result<bool, AllocError>
+    ensures { IfOk result (λ is. MatchBool is (IsReceiptOf text.now table.now)
+        (IsNoReceiptOf text.now table.now)) }
+{
+    match read_receipt(alloc, text) {
+        Ok(receipt) => Ok(tells(&receipt.table, table)),
+        Err(ReceiptFault::NotAReceipt) => Ok(false),
+        Err(ReceiptFault::OutOfMemory) => Err(AllocError),
+    }
+}
+
+fn tells(said: &TableReceipt, table: &[u8]) -> bool
+    ensures { result ≡ tells_table (table_value said.now) table.now }
+{
+    table.len() as u64 == said.octets && Sha256::digest(table) == said.sha256
 }

@@ -1,18 +1,17 @@
 //! A folder of recordings on the disk.
 
-ghost use Rattle.std.specs.Prelude.{⊤, None};
+ghost use Rattle.std.specs.Prelude.{⊤, None, IsSorted, IfOk};
+ghost use Rattle.std.specs.String.{string_cmp};
+ghost use Rattle.tables_folder.specs.FoundPeriods.{AreListedDays, AreListedPeriods};
 
+use crate::found_periods::{days_among, periods_among};
 use period_tables::Recordings;
 use recording_names::{Period, period_name};
-use recording_periods::read_period_at;
 use report_writing::Reason;
 use std::{fs, io};
 
 /// The folder of what isn't finished.
 const UNFINISHED: &str = "unfinished";
-
-/// The first second of a day, as the folder of a period has it.
-const MIDNIGHT: &str = "000000";
 
 /// A folder of recordings on the disk.
 #[derive(Drop)]
@@ -51,13 +50,17 @@ impl<'r> Recordings for RecordingsFolder<'r> {
     }
 }
 
-// The names in a folder that is in another one.
-fn names_in(rt: &HostRuntime, folder: &str, name: &str) -> io::Result<Vec<String>> {
+// The names in a folder that is in another one, by the order of their octets.
+fn names_in(rt: &HostRuntime, folder: &str, name: &str) -> io::Result<Vec<String>>
+    ensures { IfOk result (λ names. IsSorted string_cmp names.items) }
+{
     let path = format!(in rt.alloc(); "{folder}/{name}")?;
     list_names(rt, path.as_str())
 }
 
-fn list_names(rt: &HostRuntime, path: &str) -> io::Result<Vec<String>> {
+fn list_names(rt: &HostRuntime, path: &str) -> io::Result<Vec<String>>
+    ensures { IfOk result (λ names. IsSorted string_cmp names.items) }
+{
     let mut names = Vec::new(rt.alloc());
     for entry in fs::read_dir(rt, path)? {
         let entry = entry?;
@@ -68,23 +71,17 @@ fn list_names(rt: &HostRuntime, path: &str) -> io::Result<Vec<String>> {
 }
 
 /// The names of the days of which a folder of recordings has periods, in order.
-pub fn days_in(rt: &HostRuntime, folder: &str) -> io::Result<Vec<String>> {
-    let mut days = Vec::new(rt.alloc());
-    for name in list_names(rt, folder)? {
-        if read_period_at(name.as_str(), MIDNIGHT).is_some() {
-            days.push(name)?;
-        }
-    }
-    Ok(days)
+pub fn days_in(rt: &HostRuntime, folder: &str) -> io::Result<Vec<String>>
+    ensures { IfOk result (λ days. AreListedDays days.items) }
+{
+    let names = list_names(rt, folder)?;
+    Ok(days_among(rt.alloc(), names)?)
 }
 
 /// The periods of a day, in order.
-pub fn periods_in(rt: &HostRuntime, folder: &str, day: &str) -> io::Result<Vec<Period>> {
-    let mut periods = Vec::new(rt.alloc());
-    for name in names_in(rt, folder, day)? {
-        if let Some(period) = read_period_at(day, name.as_str()) {
-            periods.push(period)?;
-        }
-    }
-    Ok(periods)
+pub fn periods_in(rt: &HostRuntime, folder: &str, day: &str) -> io::Result<Vec<Period>>
+    ensures { IfOk result (λ periods. AreListedPeriods day.now periods.items) }
+{
+    let names = names_in(rt, folder, day)?;
+    Ok(periods_among(rt.alloc(), day, &names)?)
 }

@@ -1,0 +1,50 @@
+//! What a run of collecting is to do.
+
+ghost use Rattle.std.specs.Prelude.{◌≡◌};
+ghost use Rattle.std.specs.Option.{option_map};
+ghost use Rattle.flow_filtered_plan.specs.FilteredPlans.{filter_of};
+ghost use Rattle.flow_plan_maps.specs.Wants.{wanted_context as context_wanted, wanted_options as options_wanted};
+
+use crate::arguments::TableArguments;
+use command_collect::{CollectJob, Engine};
+use flow_maps::Maps;
+use flow_plan_maps::{wanted_context, wanted_options};
+use input_sources::LoadedPlan;
+use std::net::IpAddr;
+
+/// What a run is to do with what this engine collects.
+pub fn collect_job<'a>(
+    loaded: &'a LoadedPlan,
+    maps: Option<&'a Maps>,
+    table: &TableArguments,
+    engine: Engine,
+    exporters: &'a [Option<IpAddr>],
+) -> CollectJob<'a>
+    // It names the plan's keys and counters by the elements that the plan was read with.
+    ensures names { result.elements.now ≡ loaded.now.elements }
+    ensures plan { result.plan.now ≡ loaded.now.read.plan }
+    // It wants what these keys, the plan's conditions and its maps name of context, and these conditions are its filter.
+    ensures wanted { result.wanted ≡ context_wanted loaded.now.read loaded.now.maps }
+    // Of what options records say it wants what the plan's times need.
+    ensures options { result.options ≡ options_wanted loaded.now.read }
+    ensures filter { option_map (λ f. f.now) result.filter ≡ filter_of loaded.now.read }
+    ensures maps { result.maps ≡ maps.entry }
+    ensures exporters { result.exporters.now ≡ exporters.now }
+    // The rest is as the command is given.
+    ensures engine { result.engine ≡ engine }
+    ensures output { result.output ≡ table.now.output }
+    ensures verbosity { result.verbosity ≡ table.now.verbosity }
+{
+    CollectJob {
+        elements: &loaded.elements,
+        plan: &loaded.read.plan,
+        engine,
+        output: table.output,
+        verbosity: table.verbosity,
+        wanted: wanted_context(&loaded.read, &loaded.maps),
+        options: wanted_options(&loaded.read),
+        maps,
+        filter: loaded.read.conditions(),
+        exporters,
+    }
+}

@@ -1,0 +1,43 @@
+//! The options of the command that makes the tables of periods.
+
+use crate::arguments::{Argument, Due, LARGEST, Takes};
+
+/// The recordings of which tables are made.
+pub const PERIODS_FROM: Argument = Argument {
+    word: "from",
+    takes: Takes::Text("RECORDINGS"),
+    due: Due::Always,
+    help: "The folder of the recordings",
+};
+
+/// Where the tables are put.
+pub const TABLES_INTO: Argument = Argument {
+    word: "into",
+    takes: Takes::Text("TABLES"),
+    due: Due::Always,
+    help: "The folder of the tables, created if it does not exist",
+};
+
+/// How long the recorded periods are.
+pub const RECORDED_EVERY: Argument = Argument {
+    word: "every",
+    takes: Takes::Number("SECONDS", 1, LARGEST),
+    due: Due::Default("300"),
+    help: "The length of a period in seconds, from 1, as it was given to record",
+};
+
+/// Whether the command goes on.
+pub const FOLLOW: Argument = Argument {
+    word: "follow",
+    takes: Takes::Nothing(None),
+    due: Due::Never,
+    help: "Go on for ever, with a look at new periods each second, and at all each ten minutes",
+};
+
+/// How long after its end a period is left alone.
+pub const GRACE: Argument = Argument {
+    word: "grace",
+    takes: Takes::Number("SECONDS", 0, LARGEST),
+    due: Due::Default("10"),
+    help: "How many seconds after its end a period is left alone",
+};

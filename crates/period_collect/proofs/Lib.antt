@@ -1,0 +1,2 @@
+pub mod ExporterLists
+pub mod TablesOfRuns

@@ -1,0 +1,14 @@
+//! The table of the files of a period, and its receipt, as `files --direct --receipt` makes them.
+#![tactic(auto)]
+
+mod exporters;
+mod kept_receipt;
+mod maker;
+mod paths;
+mod period_job;
+mod table_maker;
+
+pub use kept_receipt::KeptReceipt;
+pub use maker::{MadeTable, TableMaker};
+pub use period_job::PeriodJob;
+pub use table_maker::make_table;

@@ -1,0 +1,2 @@
+pub mod NextTaken
+pub mod StepsTaken

@@ -1,0 +1,4 @@
+-- What contracts cite.
+pub mod Telling
+pub mod Rounds
+pub mod Taking

@@ -1,0 +1,12 @@
+//! Rounds over the periods of a folder of recordings: each that isn't settled is taken, and a line says what became of its table.
+#![tactic(auto)]
+
+mod periods;
+mod rounds;
+mod taking;
+mod telling;
+
+pub use periods::take_periods;
+pub use rounds::Rounds;
+pub use taking::{Round, Work};
+pub use telling::{status_of_reason, tell_unlisted, worse_of};
