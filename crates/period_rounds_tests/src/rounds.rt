@@ -5,6 +5,7 @@ use command_receipt::MadeWith;
 use element_registry::Elements;
 use flow_export::Format;
 use flow_plan::read_plan;
+use flow_table::Plan;
 use input_sources::{FileInTurn, FilesInTurn};
 use ipfix_session::FromReader;
 use output_tables::Output;
@@ -136,6 +137,14 @@ fn made_of(alloc: Global) -> Result<MadeWith, AllocError> {
     })
 }
 
+fn job_of<'a>(elements: &'a Elements, plan: &'a Plan, made: &'a MadeWith) -> PeriodJob<'a> {
+    PeriodJob {
+        recordings: "recordings",
+        collect: CollectJob::plain(elements, plan, Engine::Lots(1), CSV),
+        made,
+    }
+}
+
 // The tables of a plan with this text.
 fn tables_of<'a>(rt: &'a HostRuntime, plan: &'a str) -> Result<PlanTables<'a>, PlanFault> {
     match open_folder(rt, rt.alloc(), "tables") {
@@ -155,12 +164,7 @@ fn rounds_of<R: Clock + Threads + Wait + Sync>(
     let plan = read_plan(alloc, BY_SOURCE)?;
     let elements = Elements::built_in(alloc);
     let made = made_of(alloc)?;
-    let collect = CollectJob::plain(&elements, &plan, Engine::Lots(1), CSV);
-    let job = PeriodJob {
-        recordings: "recordings",
-        collect,
-        made: &made,
-    };
+    let job = job_of(&elements, &plan, &made);
     let mut work = work_of(rt, job, tables_of(rt, BY_SOURCE)?);
     take_all(threads, rt, &mut work, OVER)?;
     fs::remove_file(rt, UNFINISHED)?;
