@@ -20,7 +20,7 @@ use Rattle.flow_table.specs.Vectors.{vec_of}
 use Rattle.flow_table.specs.Words.{first_of, key_from, words_of_kind}
 use Rattle.flow_table.specs.declared.flat_table.FlatTable.TheInside.{Inside}
 use Rattle.flow_table.specs.declared.run.Run.{Run}
-use Rattle.flow_table.specs.declared.run.Run.TheVariants.{Two, Six, Nine, Most}
+use Rattle.flow_table.specs.declared.run.Run.TheVariants.{Two, Four, Six, Nine, Most}
 use Rattle.flow_table.specs.declared.table.Row.{Row}
 use Rattle.flow_table.specs.declared.table.Table.{Table}
 use Rattle.flow_table.proofs.RowsHeld.{places_of_values}
@@ -39,6 +39,7 @@ sums_length (suc n) f = ap suc (sums_length n (λ i. f (suc i)))
 
 run_small : (run : Run) → length (run_in run) < 2 ^ 63
 run_small (Two rows) = omega (arith, rows.ok.0, rows.ok.1, rows.small)
+run_small (Four rows) = omega (arith, rows.ok.0, rows.ok.1, rows.small)
 run_small (Six rows) = omega (arith, rows.ok.0, rows.ok.1, rows.small)
 run_small (Nine rows) = omega (arith, rows.ok.0, rows.ok.1, rows.small)
 run_small (Most rows) = omega (arith, rows.ok.0, rows.ok.1, rows.small)

@@ -5,7 +5,7 @@ use Rattle.flow_rows.specs.Rows.{Row as FlatRow}
 use Rattle.ipfix_elements.specs.declared.kind.Kind.{Kind}
 use Rattle.flow_table.specs.declared.missing.Missing.{Missing}
 use Rattle.flow_table.specs.declared.run.Run.{Run}
-use Rattle.flow_table.specs.declared.run.Run.TheVariants.{Two, Six, Nine, Most}
+use Rattle.flow_table.specs.declared.run.Run.TheVariants.{Two, Four, Six, Nine, Most}
 use Rattle.flow_table.specs.declared.table.Row.{Row}
 use Rattle.flow_table.specs.declared.table.Table.{Table}
 use Rattle.flow_table.specs.declared.tally.Tally.{Tally}
@@ -27,6 +27,7 @@ value_from kinds n x = row_value (slice_index_or x.key 0 0) (key_from kinds (dro
 
 abbrev pub run_in : Run → List FlatRow
 run_in (Two rows) = rows.items
+run_in (Four rows) = rows.items
 run_in (Six rows) = rows.items
 run_in (Nine rows) = rows.items
 run_in (Most rows) = rows.items

@@ -4,7 +4,7 @@ use Rattle.std.specs.Ordering.{nat_cmp, is_eq}
 use Rattle.flow_rows.specs.Rows.{Row, SomeTooLarge, part, row, total_at}
 use Rattle.ipfix_elements.specs.declared.cell.Cell.{Cell}
 use Rattle.flow_table.specs.declared.rows.Rows.{Rows}
-use Rattle.flow_table.specs.declared.rows.Rows.TheVariants.{Two, Six, Nine, Most}
+use Rattle.flow_table.specs.declared.rows.Rows.TheVariants.{Two, Four, Six, Nine, Most}
 use Rattle.flow_table.specs.Plans.{PlanValue}
 use Rattle.flow_table.specs.Tables.{key_cmp}
 use Rattle.flow_table.specs.Totals.{IsLargeAt, Total, joined, total}
@@ -31,6 +31,7 @@ place_part interval key t k q = if is_same_interval k interval then part_at key 
 -- how many words their keys have
 abbrev pub width_of : Rows → ℕ
 width_of (Two rows) = 2
+width_of (Four rows) = 4
 width_of (Six rows) = 6
 width_of (Nine rows) = 9
 width_of (Most rows) = 17
@@ -38,12 +39,14 @@ width_of (Most rows) = 17
 -- how many numbers they have
 abbrev pub depth_of : Rows → ℕ
 depth_of (Two rows) = 2
+depth_of (Four rows) = 2
 depth_of (Six rows) = 3
 depth_of (Nine rows) = 5
 depth_of (Most rows) = 5
 
 abbrev pub rows_in : Rows → List Row
 rows_in (Two rows) = rows
+rows_in (Four rows) = rows
 rows_in (Six rows) = rows
 rows_in (Nine rows) = rows
 rows_in (Most rows) = rows

@@ -13,12 +13,14 @@ use crate::words::{count_words, padded_words};
 use flow_rows::{AddError, FlatRows, Piece};
 use std::alloc::{AllocError, Global};
 
-/// Rows by the words of an interval and a key, in the smallest of four forms that has room for them.
+/// Rows by the words of an interval and a key, in the smallest of five forms that has room for them.
 /// Their numbers are that of the flows, and then the sums of the counters.
 #[derive(Drop)]
 pub enum Rows {
     /// Two words, and one counter.
     Two(FlatRows<2, 2>),
+    /// Up to four words, and one counter: a key and an exporter.
+    Four(FlatRows<4, 2>),
     /// Up to six words, and two counters.
     Six(FlatRows<6, 3>),
     /// Up to nine words, and four counters.
@@ -82,6 +84,8 @@ impl Rows {
         let words = count_words(plan.kinds()) + 1;
         if words <= 2 && numbers <= 2 {
             Rows::Two(FlatRows::new(alloc))
+        } else if words <= 4 && numbers <= 2 {
+            Rows::Four(FlatRows::new(alloc))
         } else if words <= 6 && numbers <= 3 {
             Rows::Six(FlatRows::new(alloc))
         } else if words <= 9 {
@@ -110,6 +114,7 @@ impl Rows {
     {
         match self {
             Rows::Two(rows) => add_row(rows, interval, words, flows, sums),
+            Rows::Four(rows) => add_row(rows, interval, words, flows, sums),
             Rows::Six(rows) => add_row(rows, interval, words, flows, sums),
             Rows::Nine(rows) => add_row(rows, interval, words, flows, sums),
             Rows::Most(rows) => add_row(rows, interval, words, flows, sums),
@@ -129,6 +134,7 @@ impl Rows {
     {
         match (self, others) {
             (Rows::Two(rows), Rows::Two(others)) => Ok(Rows::Two(merge_rows(rows, others)?)),
+            (Rows::Four(rows), Rows::Four(others)) => Ok(Rows::Four(merge_rows(rows, others)?)),
             (Rows::Six(rows), Rows::Six(others)) => Ok(Rows::Six(merge_rows(rows, others)?)),
             (Rows::Nine(rows), Rows::Nine(others)) => Ok(Rows::Nine(merge_rows(rows, others)?)),
             (Rows::Most(rows), Rows::Most(others)) => Ok(Rows::Most(merge_rows(rows, others)?)),
@@ -144,6 +150,7 @@ impl Rows {
     {
         match self {
             Rows::Two(rows) => Ok(Run::Two(rows.finish()?)),
+            Rows::Four(rows) => Ok(Run::Four(rows.finish()?)),
             Rows::Six(rows) => Ok(Run::Six(rows.finish()?)),
             Rows::Nine(rows) => Ok(Run::Nine(rows.finish()?)),
             Rows::Most(rows) => Ok(Run::Most(rows.finish()?)),

@@ -16,6 +16,7 @@ use std::alloc::AllocError;
 #[derive(Drop)]
 pub enum Run {
     Two(Vec<Piece<2, 2>>),
+    Four(Vec<Piece<4, 2>>),
     Six(Vec<Piece<6, 3>>),
     Nine(Vec<Piece<9, 5>>),
     Most(Vec<Piece<17, 5>>),
@@ -73,6 +74,7 @@ impl Run {
     {
         match self {
             Run::Two(rows) => rows.len(),
+            Run::Four(rows) => rows.len(),
             Run::Six(rows) => rows.len(),
             Run::Nine(rows) => rows.len(),
             Run::Most(rows) => rows.len(),
@@ -94,6 +96,7 @@ impl Run {
     {
         match self {
             Run::Two(rows) => write_piece(&rows[index], kinds, counters, row),
+            Run::Four(rows) => write_piece(&rows[index], kinds, counters, row),
             Run::Six(rows) => write_piece(&rows[index], kinds, counters, row),
             Run::Nine(rows) => write_piece(&rows[index], kinds, counters, row),
             Run::Most(rows) => write_piece(&rows[index], kinds, counters, row),
