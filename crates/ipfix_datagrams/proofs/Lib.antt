@@ -19,6 +19,8 @@ pub mod Answered
 mod Attempting
 pub mod Kept
 pub mod Weighed
+pub mod Times
+pub mod LateIds
 pub mod Reaches
 pub mod Streams
 pub mod Once

@@ -412,19 +412,13 @@ pub record KeepsKnown (k : KnownTemplates) (ds : History) : Type 0 where
 abbrev pub IfOf : DomainsView → KnownTemplates → History → Type 0 → Type 0
 IfOf domains k ds P = Represents domains ds → KeepsKnown k ds → P
 
--- what is known beside the files in a domain, with these templates of an earlier run
-abbrev pub basis_of : KnownTemplates → BTreeMap ℕ Template → ℕ → Basis
-basis_of k resumed domain = record { resumed = values resumed; barred = barred_in k.barred domain }
+-- what is known beside the files, with these templates of an earlier run, and these ids that have none
+abbrev pub basis_of : BTreeMap ℕ Template → List ℕ → Basis
+basis_of resumed barred = record { resumed = values resumed; barred = barred }
 
 -- an id has a template again that a datagram defines
 abbrev pub barred_after : List ℕ → List ℕ → List ℕ
 barred_after barred m = filter (λ id. not (is_some (last_definition m id))) barred
-
--- a datagram of a domain was taken
-pub record KeepsAfter (old new : KnownTemplates) (m : List ℕ) (x : Message) : Type 0 where
-  pub keeps : KeepsKnown new x.domains
-  pub barred : (domain : ℕ) → barred_in new.barred domain ≡ (if domain == x.header.domain then barred_after (barred_in old.barred domain) m else barred_in old.barred domain)
-  pub budget : new.budget ≡ old.budget
 
 -- each id that has none is listed once
 abbrev pub AreOnce : (ℕ → List ℕ) → Type 0

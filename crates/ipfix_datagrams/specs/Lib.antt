@@ -1,6 +1,7 @@
 -- What public contracts cite.
 pub mod Datagrams
 pub mod Withdrawals
+pub mod Late
 pub mod Advances
 pub mod Reaches
 pub mod RecordsCame

@@ -1,5 +1,6 @@
 -- What is kept of each domain.
-use Rattle.std.specs.Prelude.{ℕ, ◌+◌, ◌%◌, ◌^◌, List, map, Some, unwrap_or}
+use Rattle.std.specs.Prelude.{ℕ, ◌+◌, ◌%◌, ◌^◌, nat_eq, List, [], map, Option, Some, unwrap_or}
+use Rattle.std.specs.Map.{lookup}
 use Rattle.ipfix_message.specs.Domains.{Message}
 use Rattle.ipfix_session.specs.Ledger.{capped, messages_of, domains_of}
 use Rattle.ipfix_datagrams.specs.declared.domain_advance.DomainAdvance.{DomainAdvance}
@@ -25,6 +26,10 @@ pub record AdvancesView : Type 0 where
 -- those of all domains, in order of first appearance
 abbrev pub reaches_of : List Message → List (ℕ × Reach)
 reaches_of ms = map (λ domain. (domain, reach_of (messages_of domain ms))) (domains_of ms)
+
+-- the sequence number after the furthest message of a domain, if one came
+abbrev pub furthest_in : List (ℕ × Reach) → ℕ → Option ℕ
+furthest_in reaches domain = (unwrap_or (lookup (nat_eq domain) reaches) (reach_of [])).furthest
 
 -- what is told of them
 abbrev pub domain_told : ℕ × Reach → DomainAdvance

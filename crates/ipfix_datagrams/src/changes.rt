@@ -130,8 +130,8 @@ fn of_id(templates: Option<&Templates>, id: u16) -> Option<&TemplateInForce>
     templates?.get(&id)
 }
 
-// The template of an id that is in force, or else withdrawn.
-fn known_of<'a>(
+/// The template of an id that is in force, or else withdrawn.
+pub fn known_of<'a>(
     id: u16,
     in_force: Option<&'a Templates>,
     withdrawn: Option<&'a Templates>,

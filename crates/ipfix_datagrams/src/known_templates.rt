@@ -1,11 +1,13 @@
 //! What is kept of a peer's templates beside those that are in force in its files.
 
-ghost use Rattle.std.specs.Prelude.{◌≡◌, ◌==◌, ◌||◌, ◌&&◌, ◌∷◌, ◌++◌, [], ℕ, List, OnOk, IfOk, nat_eq, not, is_some, filter, if◌then◌else◌};
+ghost use Rattle.std.specs.Prelude.{◌≡◌, ◌==◌, ◌||◌, ◌&&◌, ◌∷◌, ◌++◌, [], ℕ, List, None, OnOk, IfOk, nat_eq, not, is_some, filter, if◌then◌else◌};
 ghost use Rattle.std.specs.List.{IsDistinct, list_any};
 ghost use Rattle.std.specs.BTreeMap.{get};
 ghost use Rattle.std.specs.Ordering.{nat_cmp};
 ghost use Rattle.ipfix_datagrams.specs.Datagrams.{Bars, KeepsKnown, barred_in};
+ghost use Rattle.ipfix_datagrams.specs.Late.{time_at};
 
+use crate::definition_times::DefinitionTimes;
 use crate::weighing::Weights;
 use crate::withdrawn_templates::WithdrawnTemplates;
 use ipfix_message::Templates;
@@ -26,13 +28,19 @@ pub struct KnownTemplates {
     pub weights: Weights,
     /// What all may count.
     pub budget: u64,
+    /// When those that are known were defined.
+    pub times: DefinitionTimes,
+    /// For how many seconds a datagram that comes late and was sent before a definition doesn't replace it.
+    pub reorder: u64,
 }
 
 impl KnownTemplates {
     /// None is known yet.
-    pub fn new(alloc: Global, budget: u64) -> Self
+    pub fn new(alloc: Global, budget: u64, reorder: u64) -> Self
         ensures keeps { KeepsKnown result [] }
         ensures budget { result.budget ≡ budget }
+        ensures times { (domain id : ℕ) → time_at result.times domain id ≡ None }
+        ensures reorder { result.reorder ≡ reorder }
         ensures barred { (domain : ℕ) → barred_in result.barred domain ≡ [] }
     {
         KnownTemplates {
@@ -40,6 +48,8 @@ impl KnownTemplates {
             barred: BTreeMap::new(alloc),
             weights: BTreeMap::new(alloc),
             budget,
+            times: BTreeMap::new(alloc),
+            reorder,
         }
     }
 
@@ -60,8 +70,8 @@ impl KnownTemplates {
     }
 }
 
-// Puts an id among others, unless it is one of them.
-fn put_id(id: u16, all: &mut Vec<u16>) -> Result<(), AllocError>
+/// Puts an id among others, unless it is one of them.
+pub fn put_id(id: u16, all: &mut Vec<u16>) -> Result<(), AllocError>
     ensures once { IsDistinct nat_eq all.old.items → OnOk result (IsDistinct nat_eq all.new.items) }
     ensures puts { OnOk result ((q : ℕ) → list_any (λ b. b == q) all.new.items
         ≡ (list_any (λ b. b == q) all.old.items || (id == q))) }

@@ -9,7 +9,7 @@ ghost use Rattle.ipfix_message.specs.declared.fault.MessageFault.TheVariants.{Te
 ghost use Rattle.ipfix_message.specs.declared.template_record.TheConstants.{LONGEST_BODY};
 ghost use Rattle.ipfix_datagrams.specs.Attempts.{Defines, FirstReads, HasFirst, IsPlain, OrOutOfMemory};
 ghost use Rattle.ipfix_datagrams.specs.Datagrams as specs;
-ghost use Rattle.ipfix_datagrams.specs.Datagrams.{AreDefinedBefore, Basis, HasTemplateIds, IfOf, defines_template, IsReadingOf, IsRefused, KeepsKnown, Represents, barred_in, basis_of, events_of_message, withdraws_only};
+ghost use Rattle.ipfix_datagrams.specs.Datagrams.{AreDefinedBefore, Basis, HasTemplateIds, IfOf, defines_template, IsReadingOf, IsRefused, KeepsKnown, Represents, basis_of, events_of_message, withdraws_only};
 ghost use Rattle.ipfix_datagrams.specs.Readings.{AreSetsOf, IsRefusedAnyway, ReadSo};
 ghost use Rattle.ipfix_datagrams.specs.Withdrawals.{HasTemplateId};
 
@@ -158,9 +158,9 @@ fn read_first(
     }
 }
 
-// What follows a datagram's header, which gives its length in 16 bits.
+/// What follows a datagram's header, which gives its length in 16 bits.
 #[tactic(auto, using(ipfix_message::proofs::History::header_is_whole, ipfix_message::proofs::History::header_has_length))]
-fn after_header<'a>(header: &Header, datagram: &'a [u8]) -> &'a [u8]
+pub(crate) fn after_header<'a>(header: &Header, datagram: &'a [u8]) -> &'a [u8]
     requires { message_header datagram.now ≡ Ok header.now }
     ensures octets { result.now ≡ drop HEADER_LENGTH datagram.now }
     ensures room { length result.now ≤ SET_HEADER_LENGTH + LONGEST_BODY }
@@ -174,6 +174,7 @@ fn after_header<'a>(header: &Header, datagram: &'a [u8]) -> &'a [u8]
 fn again(
     alloc: Global,
     known: &KnownTemplates,
+    barred: &[u16],
     first: &Templates,
     domain: u32,
     sets: &[u8],
@@ -182,13 +183,12 @@ fn again(
     ensures again { (ds : History) (m : List ℕ) → KeepsKnown known.now ds
         → AreSetsOf sets.now first.now m → OrOutOfMemory result
         (λ defined. (id : ℕ) → get nat_cmp defined id
-        ≡ specs.again (barred_in known.now.barred domain) ds m domain id) }
+        ≡ specs.again barred.now ds m domain id) }
 {
     let Some(templates) = known.withdrawn.get(&domain) else {
         return Ok(BTreeMap::new(alloc));
     };
     let ids = set_ids(alloc, sets)?;
-    let barred = known.barred_in(domain);
     let defined = defined_again(alloc, templates, barred, first, &ids)?;
     Ok(defined)
 }
@@ -199,6 +199,7 @@ fn defined_before(
     domains: &Domains,
     known: &KnownTemplates,
     resumed: &Templates,
+    barred: &[u16],
     first: &Templates,
     domain: u32,
     sets: &[u8],
@@ -206,9 +207,9 @@ fn defined_before(
     ensures ordered { IfOk result (IsOrdered nat_cmp) }
     ensures before { (ds : History) (m : List ℕ) → IfOf domains.now known.now ds
         (AreSetsOf sets.now first.now m → OrOutOfMemory result
-        (AreDefinedBefore (basis_of known.now resumed.now domain) ds m domain)) }
+        (AreDefinedBefore (basis_of resumed.now barred.now) ds m domain)) }
 {
-    let mut defined = again(alloc, known, first, domain, sets)?;
+    let mut defined = again(alloc, known, barred, first, domain, sets)?;
     let in_force = domains.templates(domain);
     resume(
         resumed,
@@ -226,6 +227,7 @@ fn read_kept(
     domains: &Domains,
     known: &KnownTemplates,
     resumed: &Templates,
+    barred: &[u16],
     header: &Header,
     definitions: Definitions,
     datagram: &[u8],
@@ -234,7 +236,7 @@ fn read_kept(
     requires kept { withdraws_only datagram.now ≡ false }
     requires defines { Defines definitions (events_of_message datagram.now) }
     ensures ids { IfOk result (λ r. All HasTemplateId r.withdrawn.items) }
-    ensures reads { let basis = basis_of known.now resumed.now header.now.domain in
+    ensures reads { let basis = basis_of resumed.now barred.now in
         (ds : History) → IfOf domains.now known.now ds (MatchResult result
         (λ r. (x : Message) × IsReadingOf basis ds datagram.now r x)
         (IsRefused basis ds datagram.now)) }
@@ -248,9 +250,8 @@ fn read_kept(
         withdraws_only: _,
     } = definitions;
     let domain = header.domain;
-    let barred = known.barred_in(domain);
     let reading = read_first(alloc, domains, header, barred, &first, datagram)?;
-    let defined = defined_before(alloc, domains, known, resumed, &first, domain, sets)?;
+    let defined = defined_before(alloc, domains, known, resumed, barred, &first, domain, sets)?;
     let FirstReading { withdrawn, after } = reading;
     if defined.is_empty() {
         return Ok(DatagramReading {
@@ -317,7 +318,7 @@ fn within_budget(
 /// Reads a datagram after the domains of its peer and what else is kept of the peer's templates, which stay as they are. It answers
 /// whether the datagram is ignored, whether its definitions are too many for the budget, and how it is to be taken if not. With it the
 /// `resumed` templates of an earlier run are known in its domain: they are defined before it, each unless the peer's files define its
-/// id, or the datagram first defines it otherwise.
+/// id, or the datagram first defines it otherwise. The `barred` ids have no template before it.
 ///
 /// The fault is the first of these: `TooManyDomains`, and the faults of its sets in the order of its octets.
 /// `TemplateChanged` comes only where a datagram, without a withdrawal between, defines an id otherwise than it
@@ -327,12 +328,13 @@ pub fn read_datagram(
     domains: &Domains,
     known: &KnownTemplates,
     resumed: &Templates,
+    barred: &[u16],
     header: &Header,
     datagram: &[u8],
 ) -> Result<Reading, MessageFault>
     requires { message_header datagram.now ≡ Ok header.now }
     ensures ids { IfOk result HasTemplateIds }
-    ensures reads { let basis = basis_of known.now resumed.now header.now.domain in
+    ensures reads { let basis = basis_of resumed.now barred.now in
         (ds : History) → IfOf domains.now known.now ds (MatchResult result
         (specs.Answers basis known.now.budget ds datagram.now)
         (IsRefused basis ds datagram.now)) }
@@ -346,6 +348,7 @@ pub fn read_datagram(
         domains,
         known,
         resumed,
+        barred,
         header,
         definitions,
         datagram,

@@ -5,6 +5,8 @@ ghost use Rattle.std.specs.Map.{lookup};
 ghost use Rattle.ipfix_message.specs.Domains.{Message};
 ghost use Rattle.ipfix_session.specs.Ledger.{count_in};
 ghost use Rattle.ipfix_datagrams.specs.Reaches.{reach_of, reaches_of, told_of};
+ghost use Rattle.ipfix_datagrams.specs.Late.{is_before};
+ghost use Rattle.ipfix_datagrams.specs.Reaches.{furthest_in};
 ghost use Rattle.ipfix_datagrams.specs.RecordsCame.{has_records};
 
 use crate::domain_advance::DomainAdvance;
@@ -66,6 +68,16 @@ impl SequenceAdvances {
     {
         let after = self.reach(domain).after(sequence, records);
         let _ = self.reaches.insert(domain, after).unwrap();
+    }
+
+    /// Whether a sequence number of a domain is before the one after its furthest message: in the upper half after that.
+    pub fn is_before(&self, domain: u32, sequence: u32) -> bool
+        ensures { result ≡ is_before (furthest_in self.now.reaches domain) sequence }
+    {
+        match self.reach(domain).furthest {
+            Some(furthest) => sequence.wrapping_sub(furthest) >= 1 << 31,
+            None => false,
+        }
     }
 
     /// How many domains there are.

@@ -5,10 +5,13 @@ ghost use Rattle.std.specs.Option.{option_or};
 ghost use Rattle.std.specs.BTreeMap.{get};
 ghost use Rattle.std.specs.Ordering.{nat_cmp};
 ghost use Rattle.ipfix_datagrams.specs.Attempts.{with_ended};
-ghost use Rattle.ipfix_datagrams.specs.Datagrams.{KeepsAfter, KeepsKnown, KeepsWithdrawn, WeighAfter, template_at, template_in};
+ghost use Rattle.ipfix_datagrams.specs.Datagrams.{KeepsKnown, KeepsWithdrawn, WeighAfter, template_at, template_in};
+ghost use Rattle.ipfix_datagrams.specs.Late.{KeepsAfter};
 ghost use Rattle.ipfix_datagrams.specs.Readings.{ReadSo};
 
+use crate::definition_times::keep_times;
 use crate::known_templates::{KnownTemplates, drop_defined};
+use crate::moment::Moment;
 use crate::reading::DatagramReading;
 use crate::weighing::keep_weights;
 use ipfix_message::{Domains, Templates};
@@ -141,18 +144,28 @@ fn keep_withdrawn(
 
 /// Keeps, where a datagram is taken as its reading says, what is known of the peer's templates after it beside those that are in
 /// force in the files. `domains` are those of the files before it, and `domain` is that of the
-/// datagram. Out of memory, what is kept is of no use.
+/// datagram, which was taken `now`. Out of memory, what is kept is of no use.
 pub fn keep_known(
     alloc: Global,
     known: &mut KnownTemplates,
     domains: &Domains,
     domain: u32,
+    now: Moment,
     reading: &DatagramReading,
 ) -> Result<(), AllocError>
     ensures { (s : ReadSo domains.now domain reading.now) → KeepsKnown known.old s.history
         → WeighAfter reading.now.weights known.old.budget s.history s.given.domains
-        → OnOk result (KeepsAfter known.old known.new s.datagram s.given) }
+        → OnOk result (KeepsAfter known.old known.new s.history s.datagram now s.given) }
 {
+    keep_times(
+        alloc,
+        &mut known.times,
+        domain,
+        &reading.definitions,
+        domains.templates(domain),
+        known.withdrawn.get(&domain),
+        now,
+    )?;
     keep_withdrawn(alloc, &mut known.withdrawn, domains, domain, reading)?;
     keep_weights(&mut known.weights, &reading.weights)?;
     drop_defined(alloc, &mut known.barred, domain, &reading.definitions)?;

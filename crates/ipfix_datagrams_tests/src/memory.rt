@@ -16,8 +16,9 @@ fn reading_survives_refused_memory(rt: HostRuntime) -> Result<(), Fail> {
     match read_datagram(
         rt.alloc(),
         &domains,
-        &KnownTemplates::new(rt.alloc(), 16_384),
+        &KnownTemplates::new(rt.alloc(), 16_384, 0),
         &BTreeMap::new(rt.alloc()),
+        &[],
         &header,
         CHANGES_256,
     ) {

@@ -3,8 +3,8 @@
 
 use crate::octets::*;
 use ipfix_datagrams::{
-    DatagramReading, KnownTemplates, Reading, WithdrawnTemplate, append_withdrawals, keep_known,
-    read_datagram,
+    DatagramReading, KnownTemplates, Moment, Reading, WithdrawnTemplate, append_withdrawals,
+    keep_known, read_datagram,
 };
 use ipfix_message::{Decoded, Domains, MessageFault, Stamp, append_template_message, header_of};
 use ipfix_wire::Header;
@@ -37,7 +37,7 @@ fn answer(alloc: Global, domains: &Domains, datagram: &[u8]) -> Result<Reading, 
     answer_after(
         alloc,
         domains,
-        &KnownTemplates::new(alloc, BUDGET),
+        &KnownTemplates::new(alloc, BUDGET, 0),
         datagram,
     )
 }
@@ -51,7 +51,8 @@ fn answer_after(
 ) -> Result<Reading, MessageFault> {
     let header = header_of(datagram)?;
     let resumed = BTreeMap::new(alloc);
-    read_datagram(alloc, domains, known, &resumed, &header, datagram)
+    let barred = known.barred_in(header.domain);
+    read_datagram(alloc, domains, known, &resumed, barred, &header, datagram)
 }
 
 // How a datagram is taken that is not ignored.
@@ -205,9 +206,14 @@ fn take(
 ) -> Result<Decoded, Fail> {
     let header = header_of(datagram)?;
     let resumed = BTreeMap::new(alloc);
-    let read = read_datagram(alloc, domains, known, &resumed, &header, datagram)?;
+    let barred = known.barred_in(header.domain);
+    let read = read_datagram(alloc, domains, known, &resumed, barred, &header, datagram)?;
     let reading = kept(read).ok_or("ignored")?;
-    keep_known(alloc, known, domains, header.domain, &reading)?;
+    let now = Moment {
+        export_time: header.export_time,
+        second: 0,
+    };
+    keep_known(alloc, known, domains, header.domain, now, &reading)?;
     let mut message = Vec::new(alloc);
     for template in reading.withdrawn.as_slice() {
         message.clear();
@@ -235,7 +241,7 @@ fn assert_records(
     datagrams: &[(&[u8], usize)],
 ) -> Result<(), Fail> {
     let mut domains = domains_after(alloc, &[ONE_FLOW])?;
-    let mut known = KnownTemplates::new(alloc, BUDGET);
+    let mut known = KnownTemplates::new(alloc, BUDGET, 0);
     for (datagram, records) in datagrams {
         let decoded = take(alloc, &mut domains, &mut known, datagram)?;
         assert_eq!(rt; decoded.records.len(), *records);
@@ -260,7 +266,7 @@ fn defined_before(
 fn a_withdrawn_template_is_defined_again(rt: HostRuntime) -> Result<(), Fail> {
     let alloc: Global = rt.alloc();
     let mut domains = domains_after(alloc, &[ONE_FLOW])?;
-    let mut known = KnownTemplates::new(alloc, BUDGET);
+    let mut known = KnownTemplates::new(alloc, BUDGET, 0);
     let _ = take(alloc, &mut domains, &mut known, WITHDRAWS_256)?;
     for (datagram, defined) in [(NEXT_FLOW, 1), (CHANGES_256, 0), (TEMPLATE_256, 0)] {
         assert_eq!(rt; defined_before(alloc, &domains, &known, datagram)?, defined);
@@ -392,8 +398,8 @@ fn resuming(alloc: Global, datagram: &[u8]) -> Result<DatagramReading, Fail> {
     let resumed = earlier.templates(1).ok_or("no templates")?;
     let header = header_of(datagram)?;
     let domains = Domains::new(alloc);
-    let known = KnownTemplates::new(alloc, BUDGET);
-    let read = read_datagram(alloc, &domains, &known, resumed, &header, datagram)?;
+    let known = KnownTemplates::new(alloc, BUDGET, 0);
+    let read = read_datagram(alloc, &domains, &known, resumed, &[], &header, datagram)?;
     Ok(kept(read).ok_or("ignored")?)
 }
 
@@ -415,7 +421,7 @@ fn what_a_datagram_defines_is_not_resumed(rt: HostRuntime) -> Result<(), Fail> {
 
 // What becomes of a datagram with this budget, where nothing is known yet.
 fn is_too_much(alloc: Global, budget: u64, datagram: &[u8]) -> Result<bool, MessageFault> {
-    let known = KnownTemplates::new(alloc, budget);
+    let known = KnownTemplates::new(alloc, budget, 0);
     match answer_after(alloc, &Domains::new(alloc), &known, datagram)? {
         Reading::TooMuch(_) => Ok(true),
         Reading::Kept(_) => Ok(false),
@@ -436,7 +442,7 @@ fn a_template_counts_its_fields(rt: HostRuntime) -> Result<(), Fail> {
 fn a_template_that_has_no_room_is_known_no_more(rt: HostRuntime) -> Result<(), Fail> {
     let alloc: Global = rt.alloc();
     let mut domains = Domains::new(alloc);
-    let mut known = KnownTemplates::new(alloc, 28);
+    let mut known = KnownTemplates::new(alloc, 28, 0);
     let _ = take(alloc, &mut domains, &mut known, ONE_FLOW)?;
     let Reading::TooMuch(ids) = answer_after(alloc, &domains, &known, DEFINES_300_AND_CHANGES_256)?
     else {

@@ -6,7 +6,7 @@ use Rattle.std.specs.Ordering.{nat_cmp}
 use Rattle.ipfix_wire.specs.declared.header.Header.{Header}
 use Rattle.ipfix_message.specs.Domains.{DomainsView, History, Message, StandsFor, message_header}
 use Rattle.ipfix_message.specs.declared.record.Template.{Template}
-use Rattle.ipfix_datagrams.specs.Datagrams.{Answers, Basis, Fits, HasFault, IsRefused, barred_in, basis_of, IsReadingOf, Represents, WeighAfter, defines_template, preparation_of}
+use Rattle.ipfix_datagrams.specs.Datagrams.{Answers, Basis, Fits, HasFault, IsRefused, basis_of, IsReadingOf, Represents, WeighAfter, defines_template, preparation_of}
 use Rattle.ipfix_datagrams.specs.declared.reading.DatagramReading.{DatagramReading}
 use Rattle.ipfix_datagrams.specs.declared.reading.Reading.{Reading}
 use Rattle.ipfix_datagrams.specs.declared.known_templates.KnownTemplates.{KnownTemplates}
@@ -41,13 +41,9 @@ pub fits_after : (budget : ℕ) (o : Option (BTreeMap ℕ ℕ)) (ws : List (ℕ 
 fits_after budget None ws after same fits = (ws, subst (Fits budget ws) (sym same) fits)
 fits_after budget (Some vs) ws after fits none = (vs.entries, fits)
 
--- where no id is without a template
-pub answers_first : (k : KnownTemplates) (ts : BTreeMap ℕ Template) (d budget : ℕ) (m : List ℕ) (r : Reading) → k.budget ≡ budget → ((domain : ℕ) → barred_in k.barred domain ≡ []) → Answers (basis_of k ts d) k.budget [] m r → Answers (first_basis (values ts)) budget [] m r
-answers_first k ts d budget m r same none answers =
-    subst (λ (ids : List ℕ). Answers (record { resumed = values ts; barred = ids }) budget [] m r) (none d) (subst (λ (n : ℕ). Answers (basis_of k ts d) n [] m r) same answers)
-
-pub refused_first : (k : KnownTemplates) (ts : BTreeMap ℕ Template) (d : ℕ) (m : List ℕ) (f : MessageFault) → ((domain : ℕ) → barred_in k.barred domain ≡ []) → IsRefused (basis_of k ts d) [] m f → IsRefused (first_basis (values ts)) [] m f
-refused_first k ts d m f none refused = subst (λ (ids : List ℕ). IsRefused (record { resumed = values ts; barred = ids }) [] m f) (none d) refused
+-- by its budget
+pub answers_first : (k : KnownTemplates) (ts : BTreeMap ℕ Template) (budget : ℕ) (m : List ℕ) (r : Reading) → k.budget ≡ budget → Answers (basis_of ts []) k.budget [] m r → Answers (first_basis (values ts)) budget [] m r
+answers_first k ts budget m r same answers = subst (λ (n : ℕ). Answers (basis_of ts []) n [] m r) same answers
 
 -- one with a fault begins none
 has_fault : (basis : Basis) (m : List ℕ) (f : MessageFault) → IsRefused basis [] m f → f ≢ OutOfMemory → HasFault basis [] m f

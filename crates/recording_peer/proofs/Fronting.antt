@@ -317,9 +317,9 @@ datagram_fails before here s m h own left p x octets fault good taken domain f f
 abbrev pub with_sequence : Header → ℕ → Header
 with_sequence h n = record h { sequence = n }
 
-pub took_datagram : (before here : List Message) (s t : State) (m : List ℕ) (h own : Header) (resumed : Resumed) (barred : List ℕ) (q : DatagramReading) (x : Message) (old new : List ℕ) (c : MessageCount) → message_header m ≡ Ok h → IsTaken (basis_with resumed barred) (domains_after before here) m (preparation_of q) x
-    → own ≡ front_header resumed.due (before ++ here) h → (f : TookPrepared before here s own (preparation_of q) old) → Took before (here ++ f.front.given) t m old new c → TookDatagram before here t m resumed barred q x new c
-took_datagram before here s t m h own resumed barred q x old new c good taken owns f r =
+pub took_datagram : (before here : List Message) (s t : State) (m : List ℕ) (second : ℕ) (h own : Header) (resumed : Resumed) (barred : List ℕ) (q : DatagramReading) (x : Message) (old new : List ℕ) (c : MessageCount) → message_header m ≡ Ok h → IsTaken (basis_with resumed barred) (domains_after before here) m (preparation_of q) x
+    → own ≡ front_header resumed.due (before ++ here) h → (f : TookPrepared before here s own (preparation_of q) old) → Took before (here ++ f.front.given) t m old new c → TookDatagram before here t m second resumed barred q x new c
+took_datagram before here s t m second h own resumed barred q x old new c good taken owns f r =
     let p = preparation_of q in
     let xs = f.front.given in
     let ms = front_messages own f.parts p.defined in

@@ -1,6 +1,7 @@
 pub mod Fronting
 pub mod Listed
 pub mod PeerFiles
+pub mod Lateness
 pub mod Leaving
 pub mod FirstDatagrams
 pub mod Taking

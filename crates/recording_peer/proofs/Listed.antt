@@ -4,7 +4,6 @@ use Rattle.std.specs.Prelude.{◌||◌, MatchResult, option_map, unwrap_or}
 use Rattle.std.specs.Global.{Vec}
 use Rattle.std.specs.List.{IsDistinct, list_any}
 use Rattle.std.proofs.lemmas.Bool.Decides.{eqb_tells}
-use Rattle.ipfix_wire.specs.declared.header.Header.{Header}
 use Rattle.ipfix_message.specs.declared.fault.MessageFault.{MessageFault}
 use Rattle.ipfix_datagrams.specs.declared.known_templates.KnownTemplates.{KnownTemplates}
 use Rattle.ipfix_datagrams.specs.declared.reading.Reading.{Reading}
@@ -14,12 +13,12 @@ use Rattle.std.specs.Ordering.{nat_cmp, eq_by_cmp}
 use Rattle.std.specs.BTreeMap.{BTreeMap, get}
 use Rattle.ipfix_message.specs.Kept.{kept}
 use Rattle.ipfix_message.specs.declared.record.Template.{Template}
-use Rattle.ipfix_message.specs.Domains.{History, message_header}
-use Rattle.ipfix_datagrams.specs.Datagrams.{Answers as AnswersOf, AreOnce, Basis, Fits, IsRefused, KeepsKnown, KeepsWithdrawn, barred_after, barred_in, template_at}
+use Rattle.ipfix_message.specs.Domains.{History}
+use Rattle.ipfix_datagrams.specs.Datagrams.{Answers as AnswersOf, AreOnce, Fits, IsRefused, KeepsKnown, KeepsWithdrawn, barred_after, barred_in, template_at}
 use Rattle.ipfix_datagrams.proofs.Once.{once_filter, once_put}
 use Rattle.recording_peer.specs.Peers.{Resumed, basis_with, known_after_all}
-use Rattle.recording_peer.specs.Fronts.{ReadsAfter}
-use Rattle.recording_peer.specs.Recording.{BarsOnce, FiledDatagrams, KeepsListed, KnownShown, PeerView, barred_before, barred_listed, barred_shown, basis_for, known_shown, resumed_for, taken_in, template_listed}
+use Rattle.recording_peer.specs.Fronts.{ReadsWhere}
+use Rattle.recording_peer.specs.Recording.{BarsOnce, FiledDatagrams, KeepsListed, KnownShown, PeerView, barred_listed, barred_shown, known_shown, resumed_for, taken_in, template_listed}
 
 same_lookup : (test : ℕ → Bool) (id : ℕ) (es : List (ℕ × BTreeMap ℕ Template)) → option_and_then (λ ts. lookup (eq_by_cmp nat_cmp id) ts) (lookup test (kept es)) ≡ option_and_then (λ t. get nat_cmp t id) (lookup test es)
 same_lookup test id [] = refl
@@ -65,19 +64,22 @@ pub once_barred : (old new : KnownTemplates) (s : KnownShown) → known_shown ol
 once_barred old new s same once before domain =
     subst (IsDistinct eqb) (sym (barred_same new domain)) (once (λ q. subst (IsDistinct eqb) (sym (sym (barred_same old q) ∙ ap (λ (k : KnownShown). barred_shown k q) same)) (before q)) domain)
 
-pub once_again : (s t : KnownShown) (d : ℕ) (b m : List ℕ) → b ≡ barred_shown s d → ((domain : ℕ) → barred_shown t domain ≡ cond (eqb domain d) (barred_after b m) (barred_shown s domain)) → BarsOnce s → BarsOnce t
-once_again s t d b m is again before = once_put (barred_shown s) (barred_shown t) d (barred_after b m) again (λ once. once_filter _ b (subst (IsDistinct eqb) (sym is) once)) before
+pub once_again : (s t : KnownShown) (d : ℕ) (m : List ℕ) → ((domain : ℕ) → barred_shown t domain ≡ cond (eqb domain d) (barred_after (barred_shown s domain) m) (barred_shown s domain)) → BarsOnce s → BarsOnce t
+once_again s t d m again before = once_put (barred_shown s) (barred_shown t) d (barred_after (barred_shown s d) m) (λ domain. again domain ∙ here domain) (λ once. once_filter _ (barred_shown s d) once) before
+  where
+    here : (domain : ℕ) → cond (eqb domain d) (barred_after (barred_shown s domain) m) (barred_shown s domain) ≡ cond (eqb domain d) (barred_after (barred_shown s d) m) (barred_shown s domain)
+    here domain = elim (eqb_tells domain d) [
+      | inl same ↦ ap (λ (q : ℕ). cond (eqb domain d) (barred_after (barred_shown s q) m) (barred_shown s domain)) same.1
+      | inr other ↦ rw other.0 refl
+    ]
 
 -- after a datagram
-pub shown_again : (old new : KnownTemplates) (s : KnownShown) (d : ℕ) (b m : List ℕ) → known_shown old ≡ s → b ≡ barred_shown s d
+pub shown_again : (old new : KnownTemplates) (s : KnownShown) (d : ℕ) (m : List ℕ) → known_shown old ≡ s
     → ((domain : ℕ) → barred_in new.barred domain ≡ cond (eqb domain d) (barred_after (barred_in old.barred domain) m) (barred_in old.barred domain))
-    → (domain : ℕ) → barred_shown (known_shown new) domain ≡ cond (eqb domain d) (barred_after b m) (barred_shown s domain)
-shown_again old new s d b m same is again domain =
+    → (domain : ℕ) → barred_shown (known_shown new) domain ≡ cond (eqb domain d) (barred_after (barred_shown s domain) m) (barred_shown s domain)
+shown_again old new s d m same again domain =
     let before : barred_in old.barred domain ≡ barred_shown s domain = sym (barred_same old domain) ∙ ap (λ (k : KnownShown). barred_shown k domain) same in
-    barred_same new domain ∙ again domain ∙ elim (eqb_tells domain d) [
-      | inl here ↦ rw here.0 (ap (λ (ids : List ℕ). barred_after ids m) (before ∙ ap (barred_shown s) here.1 ∙ sym is))
-      | inr other ↦ rw other.0 before
-    ]
+    barred_same new domain ∙ again domain ∙ ap (λ (ids : List ℕ). cond (eqb domain d) (barred_after ids m) ids) before
 
 -- after ids were barred
 pub shown_barred : (old new : KnownTemplates) (s : KnownShown) (d : ℕ) (ids : List ℕ) → known_shown old ≡ s
@@ -89,17 +91,11 @@ shown_barred old new s d ids same bars q id =
 
 -- ---- what a datagram is read with
 
-basis_is : (s : PeerView) (k : KnownTemplates) (filed : FiledDatagrams) (m : List ℕ) (h : Header) (r : Resumed) → known_shown k ≡ s.known → message_header m ≡ Ok h → resumed_for filed m ≡ r
-    → basis_for s filed m ≡ record { resumed = r.templates; barred = barred_in k.barred h.domain }
-basis_is s k filed m h r same good is =
-    ap₂ (λ (q : Resumed) (ids : List ℕ). basis_with q ids) is
-    (ap (barred_before s.known) good ∙ ap (λ (known : KnownShown). barred_shown known h.domain) (sym same) ∙ barred_same k h.domain)
-
-pub reads_as : (s : PeerView) (k : KnownTemplates) (filed : FiledDatagrams) (m : List ℕ) (h : Header) (r : Resumed) (result : Result Reading MessageFault) → known_shown k ≡ s.known → message_header m ≡ Ok h → resumed_for filed m ≡ r
-    → MatchResult result (AnswersOf (record { resumed = r.templates; barred = barred_in k.barred h.domain }) k.budget (known_after_all (taken_in filed)) m) (IsRefused (record { resumed = r.templates; barred = barred_in k.barred h.domain }) (known_after_all (taken_in filed)) m)
-    → ReadsAfter s filed m result
-reads_as s k filed m h r result same good is reads =
+pub reads_as : (s : PeerView) (k : KnownTemplates) (filed : FiledDatagrams) (m : List ℕ) (r : Resumed) (barred : List ℕ) (result : Result Reading MessageFault) → known_shown k ≡ s.known → resumed_for filed m ≡ r
+    → MatchResult result (AnswersOf (record { resumed = r.templates; barred = barred }) k.budget (known_after_all (taken_in filed)) m) (IsRefused (record { resumed = r.templates; barred = barred }) (known_after_all (taken_in filed)) m)
+    → ReadsWhere s filed m barred result
+reads_as s k filed m r barred result same is reads =
     let ds = known_after_all (taken_in filed) in
     let budget : k.budget ≡ s.known.budget = ap (λ (known : KnownShown). known.budget) same in
-    subst (λ (n : ℕ). MatchResult result (AnswersOf (basis_for s filed m) n ds m) (IsRefused (basis_for s filed m) ds m)) budget
-    (subst (λ (b : Basis). MatchResult result (AnswersOf b k.budget ds m) (IsRefused b ds m)) (sym (basis_is s k filed m h r same good is)) reads)
+    subst (λ (n : ℕ). MatchResult result (AnswersOf (basis_with (resumed_for filed m) barred) n ds m) (IsRefused (basis_with (resumed_for filed m) barred) ds m)) budget
+    (subst (λ (q : Resumed). MatchResult result (AnswersOf (basis_with q barred) k.budget ds m) (IsRefused (basis_with q barred) ds m)) (sym is) reads)

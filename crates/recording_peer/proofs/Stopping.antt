@@ -72,12 +72,12 @@ stops_out fault first v s filed c m memory p told = record {
     of_message f = OfMessage f
 
 -- a call to write failed
-pub stops_cut : (first v after : FilesView) (s : PeerView) (t : State) (filed : FiledDatagrams) (m : List ℕ) (resumed : Resumed) (barred : List ℕ) (q : DatagramReading) (x : Message) (octets front : List ℕ) (count : MessageCount) (c : PeerTold) (p : IsPeer first v s filed)
-    → IsTaken (basis_with resumed barred) (known_after_all (taken_in filed)) m (preparation_of q) x → (k : TookDatagram (all_given (taken_before filed)) (all_given filed.here) t m resumed barred q x octets count)
+pub stops_cut : (first v after : FilesView) (s : PeerView) (t : State) (filed : FiledDatagrams) (m : List ℕ) (second : ℕ) (resumed : Resumed) (barred : List ℕ) (q : DatagramReading) (x : Message) (octets front : List ℕ) (count : MessageCount) (c : PeerTold) (p : IsPeer first v s filed)
+    → IsTaken (basis_with resumed barred) (known_after_all (taken_in filed)) m (preparation_of q) x → (k : TookDatagram (all_given (taken_before filed)) (all_given filed.here) t m second resumed barred q x octets count)
     → IsPrefix front octets → after ≡ failing (with_more v front) → c ≡ s.told → HasStopped NotWritten first after c filed m
-stops_cut first v after s t filed m resumed barred q x octets front count c p taken k begins is told =
+stops_cut first v after s t filed m second resumed barred q x octets front count c p taken k begins is told =
     let h = p.holds in
-    let u = taken_as m resumed barred (preparation_of q) k.front x in
+    let u = taken_as m second resumed barred (preparation_of q) k.front x in
     record {
       fails = ap (λ (w : FilesView). w.failed) is ∙ ap one_more p.not_failed;
       stops = inl (record {
@@ -89,7 +89,7 @@ stops_cut first v after s t filed m resumed barred q x octets front count c p ta
           taken = taken_with filed u h.taken taken;
           fronts = fronts_with filed u h.fronts k.has_front;
           file = h.file ++ k.file;
-          whole = file_with filed m resumed barred q x t octets count h.file h.last k;
+          whole = file_with filed m second resumed barred q x t octets count h.file h.last k;
           front = (begins.0, octets_with h.file k.file octets k.octets_are ∙ ap (λ (w : List ℕ). octets_of h.file ++ w) begins.1 ∙ sym (append_assoc (octets_of h.file) front begins.0));
         });
         counted = subst (λ (w : PeerTold). Counts w filed) (sym told) p.counted;

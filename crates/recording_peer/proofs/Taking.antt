@@ -21,8 +21,9 @@ use Rattle.ipfix_datagrams.specs.Datagrams.{Fits, preparation_of, Represents, Is
 use Rattle.ipfix_datagrams.specs.Reaches.{reaches_of}
 use Rattle.ipfix_datagrams.specs.declared.reading.DatagramReading.{DatagramReading}
 use Rattle.recording_peer.specs.Peers.{Resumed, Taken, basis_with, AreResumed, resumed_after, AreTaken, HasFront, HaveFronts, PeerFile, givens, known_after_all, messages_with, given_with, all_messages, all_given, sent_of, withdrawals_ignored, peer_report, peer_reports, resumption_in, resumption_of, resumptions}
+use Rattle.recording_peer.specs.Late.{never, times_of}
 use Rattle.recording_peer.specs.declared.resumption.Resumption.{Resumption}
-use Rattle.recording_peer.specs.Recording.{BarsOnce, KnownShown, PeerTold, PeerView, FiledDatagrams, none_filed, taken_before, taken_in, taken_by_file, filed_with, with_ignored, finished_now, ignored_now, ignored_still, file_finished, last_file, HasDatagram, IsLastFile, FilesHold, Counts, KeepsListed, KeepsLeft, LeftShown, left_listed, IsPeer}
+use Rattle.recording_peer.specs.Recording.{BarsOnce, KnownShown, PeerTold, PeerView, FiledDatagrams, none_filed, taken_before, taken_in, taken_by_file, filed_with, with_ignored, finished_now, ignored_now, ignored_still, file_finished, last_file, HasDatagram, IsLastFile, FilesHold, Counts, KeepsListed, KeepsLeft, LeftShown, left_listed, times_shown, IsPeer}
 use Rattle.recording_peer.specs.Fronts.{TookDatagram, taken_as}
 use Rattle.std.specs.BTreeMap.{BTreeMap}
 use Rattle.recording_resumption.specs.declared.earlier_domain.EarlierDomain.{EarlierDomain}
@@ -31,8 +32,8 @@ use Rattle.recording_peer.proofs.PeerFiles.{files_here, givens-append, all_given
 
 -- ---- the first file
 
-pub peer_first : (v : FilesView) (s : PeerView) → IsEmpty v.contents → s.ended ≡ None → Keeps s.recorder [] [] → Counted s.told.counts [] [] → s.told.ignored ≡ 0 → s.told.advances ≡ [] → s.told.resumed ≡ [] → KeepsListed s.known.withdrawn [] → Fits s.known.budget s.known.weights [] → BarsOnce s.known → (earlier : BTreeMap ℕ EarlierDomain) → s.earlier ≡ left_listed earlier.entries → IsPeer v v s (none_filed earlier)
-peer_first v s empty on keeps counted nor none none_resumed withdrawn fits once earlier left = record {
+pub peer_first : (v : FilesView) (s : PeerView) → IsEmpty v.contents → s.ended ≡ None → Keeps s.recorder [] [] → Counted s.told.counts [] [] → s.told.ignored ≡ 0 → s.told.advances ≡ [] → s.told.resumed ≡ [] → KeepsListed s.known.withdrawn [] → Fits s.known.budget s.known.weights [] → BarsOnce s.known → times_shown s.known ≡ never → (earlier : BTreeMap ℕ EarlierDomain) → s.earlier ≡ left_listed earlier.entries → IsPeer v v s (none_filed earlier)
+peer_first v s empty on keeps counted nor none none_resumed withdrawn fits once times earlier left = record {
   holds = record {
     taken = tt;
     resumed = tt;
@@ -54,6 +55,7 @@ peer_first v s empty on keeps counted nor none none_resumed withdrawn fits once 
   fits = fits;
   once = once;
   left = subst (λ (es : List (ℕ × LeftShown)). KeepsLeft es earlier []) (sym left) (left_as_listed earlier earlier [] (record { at = λ domain. refl }));
+  times = times;
 }
 
 -- ---- what it represents
@@ -128,6 +130,7 @@ peer_turned first v after s t filed p some is keeps counted none same as_resumed
   fits = subst (λ (ts : List Taken). Fits t.known.budget t.known.weights (known_after_all ts)) (sym (in-finished filed)) (subst (λ (k : KnownShown). Fits k.budget k.weights (known_after_all (taken_in filed))) (sym stays) p.fits);
   once = subst BarsOnce (sym stays) p.once;
   left = subst (KeepsLeft t.earlier filed.earlier) (sym (in-finished filed)) (subst (λ (w : List (ℕ × LeftShown)). KeepsLeft w filed.earlier (taken_in filed)) (sym left) p.left);
+  times = ap times_shown stays ∙ p.times ∙ ap times_of (sym (in-finished filed));
 }
 
 -- no message of the file, no datagram
@@ -158,10 +161,10 @@ fronts_with filed t have has =
     subst (HaveFronts []) (sym (taken_in-push filed t)) (fronts-push [] (taken_in filed) t have (subst (λ (b : List Message). HasFront b t) (sym (all_given-append (taken_before filed) filed.here)) has))
 
 -- the file with it
-pub file_with : (filed : FiledDatagrams) (m : List ℕ) (resumed : Resumed) (barred : List ℕ) (q : DatagramReading) (x : Message) (s : State) (octets : List ℕ) (c : MessageCount) (file : List (List ℕ)) → IsLastFile filed file
-    → (k : TookDatagram (all_given (taken_before filed)) (all_given filed.here) s m resumed barred q x octets c) → IsLastFile (filed_with filed (taken_as m resumed barred (preparation_of q) k.front x)) (file ++ k.file)
-file_with filed m resumed barred q x s octets c file last k =
-    let t = taken_as m resumed barred (preparation_of q) k.front x in
+pub file_with : (filed : FiledDatagrams) (m : List ℕ) (second : ℕ) (resumed : Resumed) (barred : List ℕ) (q : DatagramReading) (x : Message) (s : State) (octets : List ℕ) (c : MessageCount) (file : List (List ℕ)) → IsLastFile filed file
+    → (k : TookDatagram (all_given (taken_before filed)) (all_given filed.here) s m second resumed barred q x octets c) → IsLastFile (filed_with filed (taken_as m second resumed barred (preparation_of q) k.front x)) (file ++ k.file)
+file_with filed m second resumed barred q x s octets c file last k =
+    let t = taken_as m second resumed barred (preparation_of q) k.front x in
     let b = all_given (taken_before filed) in
     let more : Writes b [] (all_messages filed.here ++ messages_with t) (all_given filed.here ++ given_with t) (file ++ k.file) = writes-append b [] (all_messages filed.here) (messages_with t) (all_given filed.here) (given_with t) file k.file last k.writes in
     subst (λ (ms : List (List ℕ)). Writes b [] ms (all_given (filed.here ++ t ∷ [])) (file ++ k.file)) (sym (all_messages-push filed.here t))
@@ -180,14 +183,14 @@ resumptions-push : (filed : FiledDatagrams) (t : Taken) → resumptions (taken_i
 resumptions-push filed t =
     ap resumptions (taken_in-push filed t) ∙ flat_map-append resumption_of (taken_in filed) (t ∷ []) ∙ ap (λ (rs : List Resumption). resumptions (taken_in filed) ++ rs) (append-nil (resumption_of t))
 
-pub peer_with : (first v after : FilesView) (s t : PeerView) (filed : FiledDatagrams) (m : List ℕ) (resumed : Resumed) (barred : List ℕ) (q : DatagramReading) (x : Message) (octets : List ℕ) (c : MessageCount) (p : IsPeer first v s filed)
-    → IsTaken (basis_with resumed barred) (known_after_all (taken_in filed)) m (preparation_of q) x → (k : TookDatagram (all_given (taken_before filed)) (all_given filed.here) t.recorder m resumed barred q x octets c)
+pub peer_with : (first v after : FilesView) (s t : PeerView) (filed : FiledDatagrams) (m : List ℕ) (second : ℕ) (resumed : Resumed) (barred : List ℕ) (q : DatagramReading) (x : Message) (octets : List ℕ) (c : MessageCount) (p : IsPeer first v s filed)
+    → IsTaken (basis_with resumed barred) (known_after_all (taken_in filed)) m (preparation_of q) x → (k : TookDatagram (all_given (taken_before filed)) (all_given filed.here) t.recorder m second resumed barred q x octets c)
     → after ≡ with_more v octets → Counted t.told.counts (givens (taken_before filed)) (givens filed.here ++ x ∷ [])
-    → t.told.ignored ≡ capped (s.told.ignored + q.withdrawals) → q.withdrawals ≡ capped (withdrawals_in m) → t.told.advances ≡ reaches_of (givens (taken_in filed) ++ x ∷ []) → t.told.resumed ≡ s.told.resumed ++ option_to_list (resumption_in x.header.domain (length resumed.templates)) → t.ended ≡ None → KeepsListed t.known.withdrawn x.domains → Fits t.known.budget t.known.weights x.domains → BarsOnce t.known → resumed ≡ resumed_after filed.earlier (taken_in filed) x.header → KeepsLeft t.earlier filed.earlier (taken_in (filed_with filed (taken_as m resumed barred (preparation_of q) k.front x)))
-    → IsPeer first after t (filed_with filed (taken_as m resumed barred (preparation_of q) k.front x))
-peer_with first v after s t filed m resumed barred q x octets c p taken k is counted more ignored noted one_resumed on withdrawn fits once resumes left =
+    → t.told.ignored ≡ capped (s.told.ignored + q.withdrawals) → q.withdrawals ≡ capped (withdrawals_in m) → t.told.advances ≡ reaches_of (givens (taken_in filed) ++ x ∷ []) → t.told.resumed ≡ s.told.resumed ++ option_to_list (resumption_in x.header.domain (length resumed.templates)) → t.ended ≡ None → KeepsListed t.known.withdrawn x.domains → Fits t.known.budget t.known.weights x.domains → BarsOnce t.known → resumed ≡ resumed_after filed.earlier (taken_in filed) x.header → KeepsLeft t.earlier filed.earlier (taken_in (filed_with filed (taken_as m second resumed barred (preparation_of q) k.front x))) → times_shown t.known ≡ times_of (taken_in (filed_with filed (taken_as m second resumed barred (preparation_of q) k.front x)))
+    → IsPeer first after t (filed_with filed (taken_as m second resumed barred (preparation_of q) k.front x))
+peer_with first v after s t filed m second resumed barred q x octets c p taken k is counted more ignored noted one_resumed on withdrawn fits once resumes left times =
     let h = p.holds in
-    let u = taken_as m resumed barred (preparation_of q) k.front x in
+    let u = taken_as m second resumed barred (preparation_of q) k.front x in
     let all : givens (taken_in (filed_with filed u)) ≡ givens (taken_in filed) ++ x ∷ [] = ap givens (taken_in-push filed u) ∙ givens-append (taken_in filed) (u ∷ []) in
     record {
       holds = record {
@@ -200,7 +203,7 @@ peer_with first v after s t filed m resumed barred q x octets c p taken k is cou
         ignored = h.ignored;
         earlier = h.earlier;
         file = h.file ++ k.file;
-        last = file_with filed m resumed barred q x t.recorder octets c h.file h.last k;
+        last = file_with filed m second resumed barred q x t.recorder octets c h.file h.last k;
         stands = stands_more first.contents v.contents after.contents (peer_reports [] h.files) (map sent_of h.files) (sent_of (last_file filed h.file)) (sent_of (last_file (filed_with filed u) (h.file ++ k.file))) octets (ap (λ (w : FilesView). w.contents) is) (octets_with h.file k.file octets k.octets_are) h.stands;
       };
       not_failed = ap (λ (w : FilesView). w.failed) is ∙ p.not_failed;
@@ -216,6 +219,7 @@ peer_with first v after s t filed m resumed barred q x octets c p taken k is cou
       fits = subst (Fits t.known.budget t.known.weights) (sym (known-push filed u)) fits;
       once = once;
       left = left;
+      times = times;
     }
 
 -- ---- one that is ignored
@@ -241,4 +245,5 @@ peer_ignoring first v s filed m n p is =
       fits = p.fits;
       once = p.once;
       left = p.left;
+      times = p.times;
     }

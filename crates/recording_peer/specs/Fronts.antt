@@ -1,8 +1,8 @@
 -- What a recorder took for a datagram.
-use Rattle.std.specs.Prelude.{◌≡◌, ◌⊎◌, ℕ, true, List, [], ◌∷◌, ◌++◌, IsOk, MatchResult, Option, Result}
+use Rattle.std.specs.Prelude.{◌≡◌, ◌⊎◌, ℕ, true, List, [], ◌∷◌, ◌++◌, IsOk, MatchResult, Ok, Option, Result}
 use Rattle.ipfix_wire.specs.declared.header.Header.{Header}
 use Rattle.ipfix_message.specs.Alike.{knows}
-use Rattle.ipfix_message.specs.Domains.{History, Message, admit, events_in}
+use Rattle.ipfix_message.specs.Domains.{History, Message, admit, events_in, message_header}
 use Rattle.ipfix_message.specs.declared.fault.MessageFault.{MessageFault}
 use Rattle.ipfix_message.specs.declared.record.Template.{Template}
 use Rattle.ipfix_session.specs.Given.{known_after, octets_of, records_in}
@@ -19,7 +19,8 @@ use Rattle.ipfix_datagrams.specs.Attempts.{IsFree, CanDefine, OrOutOfMemory}
 use Rattle.ipfix_datagrams.specs.Withdrawals.{withdrawal_message}
 use Rattle.ipfix_datagrams.specs.declared.withdrawn_template.WithdrawnTemplate.{WithdrawnTemplate}
 use Rattle.recording_peer.specs.Peers.{Front, Resumed, basis_with, Taken, InParts, HasFront, withdrawals, front_messages, messages_with, given_with, known_after_all}
-use Rattle.recording_peer.specs.Recording.{FiledDatagrams, PeerView, IsPeer, basis_for, taken_in}
+use Rattle.recording_peer.specs.Late.{IsReadWhere, IsRefusedAt}
+use Rattle.recording_peer.specs.Recording.{FiledDatagrams, PeerView, IsPeer, barred_shown, resumed_for, taken_in}
 
 -- the domains after these messages of earlier files, and of this one
 abbrev pub domains_after : List Message → List Message → History
@@ -106,16 +107,16 @@ pub record TakesDefinitions (before here : List Message) (s : State) (h : Header
   pub can : CanGoOn (prepared (domains_after before here) h.domain (record { withdrawn = p.withdrawn; defined = done })) h.domain rest
 
 -- a datagram, and the messages in front of it
-abbrev pub taken_as : List ℕ → Resumed → List ℕ → Preparation → Front → Message → Taken
-taken_as m resumed barred p front x = record { datagram = m; resumed = resumed; barred = barred; preparation = p; front = front; given = x }
+abbrev pub taken_as : List ℕ → ℕ → Resumed → List ℕ → Preparation → Front → Message → Taken
+taken_as m second resumed barred p front x = record { datagram = m; second = second; resumed = resumed; barred = barred; preparation = p; front = front; given = x }
 
-pub record TookDatagram (before here : List Message) (s : State) (m : List ℕ) (resumed : Resumed) (barred : List ℕ) (reading : DatagramReading) (x : Message) (octets : List ℕ) (count : MessageCount) : Type 0 where
+pub record TookDatagram (before here : List Message) (s : State) (m : List ℕ) (second : ℕ) (resumed : Resumed) (barred : List ℕ) (reading : DatagramReading) (x : Message) (octets : List ℕ) (count : MessageCount) : Type 0 where
   pub front : Front
-  pub has_front : HasFront (before ++ here) (taken_as m resumed barred (preparation_of reading) front x)
+  pub has_front : HasFront (before ++ here) (taken_as m second resumed barred (preparation_of reading) front x)
   pub file : List (List ℕ)
-  pub writes : Writes before here (messages_with (taken_as m resumed barred (preparation_of reading) front x)) (given_with (taken_as m resumed barred (preparation_of reading) front x)) file
+  pub writes : Writes before here (messages_with (taken_as m second resumed barred (preparation_of reading) front x)) (given_with (taken_as m second resumed barred (preparation_of reading) front x)) file
   pub octets_are : octets ≡ octets_of file
-  pub keeps : Keeps s before (here ++ given_with (taken_as m resumed barred (preparation_of reading) front x))
+  pub keeps : Keeps s before (here ++ given_with (taken_as m second resumed barred (preparation_of reading) front x))
   pub counts : IsCountOf count x
 
 -- a datagram was read so after these messages of the session, and gives this
@@ -125,19 +126,34 @@ IsReadAfter before here m resumed barred reading x = IsReadingOf (basis_with res
 -- a datagram is taken as it was read, with what was due at the end of an earlier run, or memory ran out
 abbrev pub TakesDatagram : State → State → List ℕ → Option ℕ → DatagramReading → Result MessageCount MessageFault → List ℕ → Type 0
 TakesDatagram old new m due reading result octets =
-    (before here : List Message) (resumed : Resumed) (barred : List ℕ) (x : Message) → Keeps old before here → resumed.due ≡ due → IsReadAfter before here m resumed barred reading x
-    → OrOutOfMemory result (TookDatagram before here new m resumed barred reading x octets)
+    (before here : List Message) (second : ℕ) (resumed : Resumed) (barred : List ℕ) (x : Message) → Keeps old before here → resumed.due ≡ due → IsReadAfter before here m resumed barred reading x
+    → OrOutOfMemory result (TookDatagram before here new m second resumed barred reading x octets)
 
--- the recorder and its files represent these datagrams, and after them the next was read so, which gives this
-pub record HasRead (first before : FilesView) (s : PeerView) (filed : FiledDatagrams) (m : List ℕ) (reading : DatagramReading) : Type 0 where
+-- the recorder and its files represent these datagrams, and after them the next, at a second, was read so, which gives this
+pub record HasRead (first before : FilesView) (s : PeerView) (filed : FiledDatagrams) (second : ℕ) (m : List ℕ) (reading : DatagramReading) : Type 0 where
   pub is : IsPeer first before s filed
+  pub header : Header
+  pub is_header : message_header m ≡ Ok header
+  pub barred : List ℕ
+  pub where_barred : IsReadWhere s.known.reorder (taken_in filed) (barred_shown s.known) second m header barred
   pub given : Message
-  pub read : IsReadingOf (basis_for s filed m) (known_after_all (taken_in filed)) m reading given
+  pub read : IsReadingOf (basis_with (resumed_for filed m) barred) (known_after_all (taken_in filed)) m reading given
   pub weighs : WeighAfter reading.weights s.known.budget (known_after_all (taken_in filed)) given.domains
 
--- a datagram is read, or refused, after those that were taken, with what is resumed before it
-abbrev pub ReadsAfter : PeerView → FiledDatagrams → List ℕ → Result Reading MessageFault → Type 0
-ReadsAfter s filed m result =
-    let basis = basis_for s filed m in
+-- a datagram is read, or refused, after those that were taken, with what is resumed before it, where these ids have no template
+abbrev pub ReadsWhere : PeerView → FiledDatagrams → List ℕ → List ℕ → Result Reading MessageFault → Type 0
+ReadsWhere s filed m barred result =
+    let basis = basis_with (resumed_for filed m) barred in
     let ds = known_after_all (taken_in filed) in
     MatchResult result (AnswersOf basis s.known.budget ds m) (IsRefused basis ds m)
+
+-- where those have none that have none at a second
+pub record ReadsAt (s : PeerView) (filed : FiledDatagrams) (second : ℕ) (m : List ℕ) (h : Header) (reading : Reading) : Type 0 where
+  pub barred : List ℕ
+  pub where_barred : IsReadWhere s.known.reorder (taken_in filed) (barred_shown s.known) second m h barred
+  pub answers : AnswersOf (basis_with (resumed_for filed m) barred) s.known.budget (known_after_all (taken_in filed)) m reading
+
+abbrev pub ReadsAfter : PeerView → FiledDatagrams → ℕ → List ℕ → Header → Result Reading MessageFault → Type 0
+ReadsAfter s filed second m h result =
+    MatchResult result (ReadsAt s filed second m h)
+    (λ f. IsRefusedAt s.known.reorder (taken_in filed) (barred_shown s.known) (resumed_for filed m) second m f (Ok h))

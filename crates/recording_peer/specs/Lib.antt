@@ -1,5 +1,6 @@
 -- What public contracts cite.
 pub mod Peers
+pub mod Late
 pub mod Recording
 pub mod Beginnings
 pub mod Places

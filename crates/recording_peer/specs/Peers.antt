@@ -40,10 +40,11 @@ abbrev pub resumed_of : Option EarlierDomain → Resumed
 resumed_of None = record { templates = []; due = None }
 resumed_of (Some e) = record { templates = values e.templates; due = due_left e.state }
 
--- a datagram that was taken, what is resumed before it, the ids of its domain that have no template, the templates that are withdrawn and
--- defined again before it, the messages in front of it, and what it gave
+-- a datagram that was taken, and the second at which it was, what is resumed before it, the ids of its domain that have no template, the
+-- templates that are withdrawn and defined again before it, the messages in front of it, and what it gave
 pub record Taken : Type 0 where
   pub datagram : List ℕ
+  pub second : ℕ
   pub resumed : Resumed
   pub barred : List ℕ
   pub preparation : Preparation

@@ -11,7 +11,6 @@ use Rattle.std.specs.BTreeMap.{BTreeMap, get}
 use Rattle.ipfix_wire.specs.declared.header.Header.{Header}
 use Rattle.ipfix_message.specs.Domains.{History, message_header}
 use Rattle.ipfix_message.specs.Kept.{kept}
-use Rattle.ipfix_message.specs.Outcome.{Read}
 use Rattle.ipfix_datagrams.specs.declared.known_templates.KnownTemplates.{KnownTemplates}
 use Rattle.ipfix_message.specs.declared.record.Template.{Template}
 use Rattle.ipfix_message.specs.declared.fault.MessageFault.TheVariants.{OutOfMemory}
@@ -29,13 +28,16 @@ use Rattle.recording_files.specs.Sessions.{StandsWith, IsReported}
 use Rattle.ipfix_datagrams.specs.declared.reach.Reach.{Reach}
 use Rattle.ipfix_datagrams.specs.Reaches.{reaches_of, told_of}
 use Rattle.ipfix_datagrams.specs.Advances.{advances_of}
-use Rattle.ipfix_datagrams.specs.Datagrams.{AreOnce, Basis, Fits, IsRefused, IsTooMuch, barred_after, withdraws_only, withdrawn_in}
+use Rattle.ipfix_datagrams.specs.Datagrams.{AreOnce, Fits, IsTooMuch, barred_after, withdraws_only, withdrawn_in}
+use Rattle.ipfix_datagrams.specs.Late.{Times}
+use Rattle.ipfix_datagrams.specs.declared.moment.Moment.{Moment}
 use Rattle.recording_resumption.specs.declared.earlier.Earlier.{Earlier}
 use Rattle.recording_resumption.specs.declared.earlier_domain.EarlierDomain.{EarlierDomain}
 use Rattle.recording_peer.specs.declared.peer_answer.PeerAnswer.{PeerAnswer}
 use Rattle.recording_peer.specs.declared.peer_answer.PeerAnswer.TheVariants.{Recorded, TooMuch, Refused, Ignored}
 use Rattle.recording_peer.specs.declared.peer_session.PeerSession.{PeerSession}
 use Rattle.recording_peer.specs.declared.resumption.Resumption.{Resumption}
+use Rattle.recording_peer.specs.Late.{IsReadWhere, IsRefusedAt, times_of}
 use Rattle.recording_peer.specs.Peers.{basis_with, Resumed, Taken, AreResumed, left_in, resumed_at, AreTaken, HaveFronts, PeerFile, part_of, sent_of, withdrawals_ignored, peer_report, peer_reports, datagrams, givens, known_after_all, all_messages, all_given, records_over_udp, resumptions}
 
 -- the counts, the withdrawals that were ignored since a file was finished, how far the sequence numbers of each domain reach, and the
@@ -57,22 +59,31 @@ abbrev pub left_listed : List (ℕ × EarlierDomain) → List (ℕ × LeftShown)
 left_listed es = map (λ e. (e.0, left_shown e.1)) es
 
 -- what is known of templates beside the files: those that were withdrawn there, the ids that have none, and what each domain counts, beside
--- the budget
+-- the budget; when those that are known were defined, and for how many seconds a late datagram doesn't replace them
 pub record KnownShown : Type 0 where
   pub withdrawn : List (ℕ × List (ℕ × Template))
   pub barred : List (ℕ × List ℕ)
   pub weights : List (ℕ × ℕ)
   pub budget : ℕ
+  pub times : List (ℕ × List (ℕ × Moment))
+  pub reorder : ℕ
 
 abbrev pub barred_listed : List (ℕ × Vec ℕ) → List (ℕ × List ℕ)
 barred_listed es = map (λ e. (e.0, e.1.items)) es
 
+abbrev pub times_listed : List (ℕ × BTreeMap ℕ Moment) → List (ℕ × List (ℕ × Moment))
+times_listed es = map (λ e. (e.0, e.1.entries)) es
+
 abbrev pub known_shown : KnownTemplates → KnownShown
-known_shown k = record { withdrawn = kept k.withdrawn.entries; barred = barred_listed k.barred.entries; weights = k.weights.entries; budget = k.budget }
+known_shown k = record { withdrawn = kept k.withdrawn.entries; barred = barred_listed k.barred.entries; weights = k.weights.entries; budget = k.budget; times = times_listed k.times.entries; reorder = k.reorder }
 
 -- the ids of a domain that have none
 abbrev pub barred_shown : KnownShown → ℕ → List ℕ
 barred_shown k domain = unwrap_or (lookup (eq_by_cmp nat_cmp domain) k.barred) []
+
+-- when the template of an id was defined
+abbrev pub times_shown : KnownShown → Times
+times_shown k domain id = option_and_then (λ ts. lookup (eq_by_cmp nat_cmp id) ts) (lookup (eq_by_cmp nat_cmp domain) k.times)
 
 -- each of them is listed once
 abbrev pub BarsOnce : KnownShown → Type 0
@@ -212,6 +223,7 @@ pub record IsPeer (first after : FilesView) (s : PeerView) (filed : FiledDatagra
   pub fits : Fits s.known.budget s.known.weights (known_after_all (taken_in filed))
   pub once : BarsOnce s.known
   pub left : KeepsLeft s.earlier filed.earlier (taken_in filed)
+  pub times : times_shown s.known ≡ times_of (taken_in filed)
 
 -- ---- a call fails
 
@@ -254,28 +266,18 @@ pub record HasStopped (fault : RecordFault) (first after : FilesView) (c : PeerT
 abbrev pub resumed_for : FiledDatagrams → List ℕ → Resumed
 resumed_for filed m = resumed_at filed.earlier (taken_in filed) (message_header m)
 
--- the ids that have no template in the domain of a datagram
-abbrev pub barred_for : (ℕ → List ℕ) → Read Header → List ℕ
-barred_for barred (Ok h) = barred h.domain
-barred_for barred (Err fault) = []
-
-abbrev pub barred_before : KnownShown → Read Header → List ℕ
-barred_before k r = barred_for (barred_shown k) r
-
--- what is known before it beside the files
-abbrev pub basis_for : PeerView → FiledDatagrams → List ℕ → Basis
-basis_for s filed m = basis_with (resumed_for filed m) (barred_before s.known (message_header m))
-
--- a datagram was taken after these, and is in the file that isn't finished; this is what it adds to the counts. Each id that it
--- defines has a template then
-pub record IsRecorded (count : MessageCount) (m : List ℕ) (first after : FilesView) (s t : PeerView) (filed : FiledDatagrams) : Type 0 where
+-- a datagram was taken at a second after these, and is in the file that isn't finished; this is what it adds to the counts. Each id that
+-- it defines has a template then
+pub record IsRecorded (count : MessageCount) (second : ℕ) (m : List ℕ) (first after : FilesView) (s t : PeerView) (filed : FiledDatagrams) : Type 0 where
   pub next : Taken
   pub datagram : next.datagram ≡ m
+  pub at : next.second ≡ second
   pub counts : IsCountOf count next.given
   pub is : IsPeer first after t (filed_with filed next)
-  pub barred : next.barred ≡ barred_shown s.known next.given.header.domain
-  pub has_again : (domain : ℕ) → barred_shown t.known domain ≡ (if domain == next.given.header.domain then barred_after next.barred m else barred_shown s.known domain)
+  pub barred : IsReadWhere s.known.reorder (taken_in filed) (barred_shown s.known) second m next.given.header next.barred
+  pub has_again : (domain : ℕ) → barred_shown t.known domain ≡ (if domain == next.given.header.domain then barred_after (barred_shown s.known domain) m else barred_shown s.known domain)
   pub budget : t.known.budget ≡ s.known.budget
+  pub reorder : t.known.reorder ≡ s.known.reorder
 
 -- a datagram was ignored after these: it has withdrawals alone. Only their count has changed
 pub record IsIgnored (m : List ℕ) (first before after : FilesView) (s t : PeerView) (filed : FiledDatagrams) : Type 0 where
@@ -292,25 +294,28 @@ pub record BarsShown (s t : PeerView) (domain : ℕ) (ids : List ℕ) : Type 0 w
 
 -- a datagram was refused after these for what it defines: the ids for which it would have changed what is known have no template from
 -- now on
-pub record IsOverBudget (m : List ℕ) (s t : PeerView) (filed : FiledDatagrams) : Type 0 where
+pub record IsOverBudget (second : ℕ) (m : List ℕ) (s t : PeerView) (filed : FiledDatagrams) : Type 0 where
   pub header : Header
   pub is_header : message_header m ≡ Ok header
+  pub barred : List ℕ
+  pub read : IsReadWhere s.known.reorder (taken_in filed) (barred_shown s.known) second m header barred
   pub ids : List ℕ
-  pub too_much : IsTooMuch (basis_for s filed m) s.known.budget (known_after_all (taken_in filed)) m ids
+  pub too_much : IsTooMuch (basis_with (resumed_for filed m) barred) s.known.budget (known_after_all (taken_in filed)) m ids
   pub bars : BarsShown s t header.domain ids
 
--- what is answered of a datagram, by the files and the recorder before and after it
-abbrev pub Answers : Result PeerAnswer RecordFault → List ℕ → FilesView → FilesView → FilesView → PeerView → PeerView → FiledDatagrams → Type 0
-Answers (Ok (Recorded count)) m first before after s t filed = IsRecorded count m first after s t filed
-Answers (Ok TooMuch) m first before after s t filed = IsOverBudget m s t filed × (after ≡ before)
-Answers (Ok Ignored) m first before after s t filed = IsIgnored m first before after s t filed
-Answers (Ok (Refused fault)) m first before after s t filed = IsRefused (basis_for s filed m) (known_after_all (taken_in filed)) m fault × (t ≡ s) × (after ≡ before)
-Answers (Err fault) m first before after s t filed = (t.ended ≡ Some fault) × HasStopped fault first after t.told filed m
+-- what is answered of a datagram that comes at a second, by the files and the recorder before and after it
+abbrev pub Answers : Result PeerAnswer RecordFault → ℕ → List ℕ → FilesView → FilesView → FilesView → PeerView → PeerView → FiledDatagrams → Type 0
+Answers (Ok (Recorded count)) second m first before after s t filed = IsRecorded count second m first after s t filed
+Answers (Ok TooMuch) second m first before after s t filed = IsOverBudget second m s t filed × (after ≡ before)
+Answers (Ok Ignored) second m first before after s t filed = IsIgnored m first before after s t filed
+Answers (Ok (Refused fault)) second m first before after s t filed =
+    IsRefusedAt s.known.reorder (taken_in filed) (barred_shown s.known) (resumed_for filed m) second m fault (message_header m) × (t ≡ s) × (after ≡ before)
+Answers (Err fault) second m first before after s t filed = (t.ended ≡ Some fault) × HasStopped fault first after t.told filed m
 
 -- a recorder and its files, whichever datagrams they represent, take the next
-abbrev pub TakesDatagram : {F : Type 0} → (F → FilesView) → List ℕ → Result PeerAnswer RecordFault → PeerView → PeerView → F → F → Type 0
-TakesDatagram seen m answer s t old new = (first : FilesView) (filed : FiledDatagrams) → IsPeer first (seen old) s filed
-    → Answers answer m first (seen old) (seen new) s t filed
+abbrev pub TakesDatagram : {F : Type 0} → (F → FilesView) → ℕ → List ℕ → Result PeerAnswer RecordFault → PeerView → PeerView → F → F → Type 0
+TakesDatagram seen second m answer s t old new = (first : FilesView) (filed : FiledDatagrams) → IsPeer first (seen old) s filed
+    → Answers answer second m first (seen old) (seen new) s t filed
 
 -- or they finish the file that isn't finished, if it has a datagram: what is known of templates stays
 abbrev pub FinishesFile : {F : Type 0} → (F → FilesView) → Result (Unit {0}) RecordFault → PeerView → PeerView → F → F → Type 0

@@ -61,8 +61,8 @@ fn begins_with(
     ensures { IfOk result (BeginsIf budget (values resumed.now) datagram.now) }
 {
     let domains = Domains::new(alloc);
-    let known = KnownTemplates::new(alloc, budget);
-    match read_datagram(alloc, &domains, &known, resumed, header, datagram) {
+    let known = KnownTemplates::new(alloc, budget, 0);
+    match read_datagram(alloc, &domains, &known, resumed, &[], header, datagram) {
         Ok(Reading::Kept(reading)) => Ok(leaves_template(resumed, &reading)),
         Ok(Reading::TooMuch(_)) => Ok(false),
         Ok(Reading::Ignored(_)) => Ok(false),

@@ -13,13 +13,14 @@ ghost use Rattle.ipfix_datagrams.specs.Withdrawals.{HasTemplateId};
 ghost use Rattle.recording_files.specs.Files.{FilesView};
 ghost use Rattle.recording_peer.specs.Peers.{resumed_after, resumption_in};
 ghost use Rattle.recording_peer.specs.Recording.{BarsShown, FiledDatagrams, IsPeer, IsRecorded, HasStopped, FinishesFile, taken_in};
-ghost use Rattle.recording_peer.specs.Fronts.{HasRead, ReadsAfter};
+ghost use Rattle.recording_peer.specs.Fronts.{HasRead, ReadsAfter, ReadsWhere};
+ghost use Rattle.recording_peer.specs.Late.{is_late};
 
 use crate::fronts::take_datagram;
 use crate::peer_answer::PeerAnswer;
 use crate::peer_recorder::PeerRecorder;
 use crate::resumption::Resumption;
-use ipfix_datagrams::{DatagramReading, Reading, keep_known, read_datagram};
+use ipfix_datagrams::{DatagramReading, Moment, Reading, barred_late, keep_known, read_datagram};
 use ipfix_message::MessageFault;
 use ipfix_wire::Header;
 use recording_files::{FileReport, FileSeries, MessageCount, RecordFault};
@@ -87,28 +88,67 @@ impl PeerRecorder {
         }
     }
 
-    /// Reads a datagram, whose header was read, with what is resumed before it.
+    // Whether a datagram with this header comes late.
+    fn is_late(&self, header: &Header) -> bool
+        ensures { (first after : FilesView) (filed : FiledDatagrams)
+            → IsPeer first after self.now filed
+            → result ≡ is_late self.now.known.reorder (taken_in filed) header.now }
+    {
+        if 0 < self.known.reorder {
+            self.advances.is_before(header.domain, header.sequence)
+        } else {
+            false
+        }
+    }
+
+    /// Reads a datagram, whose header was read, at a second, with what is resumed before it. Before one that comes late the ids
+    /// have no template whose templates were sent after it.
     pub(crate) fn read(
         &self,
         alloc: Global,
         header: &Header,
+        second: u64,
         datagram: &[u8],
     ) -> Result<Reading, MessageFault>
         requires { message_header datagram.now ≡ Ok header.now }
         ensures ids { IfOk result HasTemplateIds }
         ensures reads { (first after : FilesView) (filed : FiledDatagrams)
-            → IsPeer first after self.now filed → ReadsAfter self.now filed datagram.now result }
+            → IsPeer first after self.now filed
+            → ReadsAfter self.now filed second datagram.now header.now result }
+    {
+        if !self.is_late(header) {
+            let barred = self.known.barred_in(header.domain);
+            return self.read_where(alloc, header, barred, datagram);
+        }
+        let domains = self.recorder.domains();
+        let barred = barred_late(alloc, domains, &self.known, header, second, datagram)?;
+        self.read_where(alloc, header, &barred, datagram)
+    }
+
+    // Reads it where these ids have no template.
+    fn read_where(
+        &self,
+        alloc: Global,
+        header: &Header,
+        barred: &[u16],
+        datagram: &[u8],
+    ) -> Result<Reading, MessageFault>
+        requires { message_header datagram.now ≡ Ok header.now }
+        ensures ids { IfOk result HasTemplateIds }
+        ensures reads { (first after : FilesView) (filed : FiledDatagrams)
+            → IsPeer first after self.now filed
+            → ReadsWhere self.now filed datagram.now barred.now result }
     {
         let domains = self.recorder.domains();
         let known = &self.known;
         match resumed(&self.earlier, header) {
             Some(domain) => {
                 let templates = &domain.templates;
-                read_datagram(alloc, domains, known, templates, header, datagram)
+                read_datagram(alloc, domains, known, templates, barred, header, datagram)
             }
             None => {
                 let none = BTreeMap::new(alloc);
-                read_datagram(alloc, domains, known, &none, header, datagram)
+                read_datagram(alloc, domains, known, &none, barred, header, datagram)
             }
         }
     }
@@ -136,12 +176,13 @@ impl PeerRecorder {
         }
     }
 
-    /// Records a datagram, whose header was read, as it is to be taken, and counts and notes it then. It answers
+    /// Records a datagram, whose header was read, as it is to be taken at a second, and counts and notes it then. It answers
     /// what the datagram adds to the counts.
     pub(crate) fn record<F: FileSeries>(
         &mut self,
         alloc: Global,
         header: &Header,
+        second: u64,
         reading: &DatagramReading,
         datagram: &[u8],
         files: &mut F,
@@ -149,11 +190,11 @@ impl PeerRecorder {
         requires header { message_header datagram.now ≡ Ok header.now }
         requires ids { All HasTemplateId reading.now.withdrawn.items }
         ensures recorded { (first : FilesView) (filed : FiledDatagrams)
-            → HasRead first (F.seen files.old) self.old filed datagram.now reading.now
-            → IfOk result
-            (λ count. IsRecorded count datagram.now first (F.seen files.new) self.old self.new filed) }
+            → HasRead first (F.seen files.old) self.old filed second datagram.now reading.now
+            → IfOk result (λ count. IsRecorded count second datagram.now first (F.seen files.new)
+            self.old self.new filed) }
         ensures stopped { (first : FilesView) (filed : FiledDatagrams)
-            → HasRead first (F.seen files.old) self.old filed datagram.now reading.now
+            → HasRead first (F.seen files.old) self.old filed second datagram.now reading.now
             → IfErr result (λ fault. HasStopped fault first (F.seen files.new) self.new.told
             filed datagram.now) }
     {
@@ -162,7 +203,11 @@ impl PeerRecorder {
         self.counts.clear_waiting();
         go_on(&mut self.earlier, header, reading.defines())?;
         let domains = self.recorder.domains();
-        keep_known(alloc, &mut self.known, domains, header.domain, reading)?;
+        let now = Moment {
+            export_time: header.export_time,
+            second,
+        };
+        keep_known(alloc, &mut self.known, domains, header.domain, now, reading)?;
         let count = take_datagram(
             alloc,
             &mut self.recorder,

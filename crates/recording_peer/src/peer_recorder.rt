@@ -52,18 +52,20 @@ impl Model for PeerRecorder {
 
 impl PeerRecorder {
     /// A peer of which nothing has come yet, with a budget for its templates: each counts 8 and its field specifiers, and each
-    /// domain 16. An earlier run may have left templates in its domains.
-    pub fn new(alloc: Global, earlier: EarlierDomains, budget: u64) -> Self
+    /// domain 16. An earlier run may have left templates in its domains. A datagram that comes late replaces no template that was
+    /// sent after it, and taken at most so many seconds before it; with 0 each that comes does.
+    pub fn new(alloc: Global, earlier: EarlierDomains, budget: u64, reorder: u64) -> Self
         ensures peer { (files : FilesView) → IsEmpty files.contents
             → IsPeer files files result (none_filed earlier) }
         ensures earlier { result.earlier ≡ left_listed earlier.entries }
         ensures budget { result.known.budget ≡ budget }
+        ensures reorder { result.known.reorder ≡ reorder }
         ensures barred { (domain : ℕ) → barred_shown result.known domain ≡ [] }
     {
         PeerRecorder {
             recorder: Recorder::new(alloc),
             earlier,
-            known: KnownTemplates::new(alloc, budget),
+            known: KnownTemplates::new(alloc, budget, reorder),
             counts: SessionCounts::new(alloc),
             ignored: 0,
             advances: SequenceAdvances::new(alloc),
@@ -73,7 +75,7 @@ impl PeerRecorder {
         }
     }
 
-    /// Takes a datagram. One that is read after the rules over UDP is recorded as it came, after a preamble
+    /// Takes a datagram at a second, which isn't before that of the one before. One that is read after the rules over UDP is recorded as it came, after a preamble
     /// of its domain if the file has none of the domain's messages yet and an earlier file has. If it
     /// changes templates, a message in front of it withdraws them; if it has data sets of
     /// templates that an earlier one withdrew, messages that define them again; and if its domain goes on after an earlier
@@ -83,16 +85,21 @@ impl PeerRecorder {
     /// would have changed what is known have no template from then on: those that are in force in the files are withdrawn before the
     /// next datagram of the domain. Any other datagram is refused, and changes nothing.
     ///
+    /// One comes late whose sequence number is before the one after the furthest of its domain. The templates that were sent after
+    /// it, and taken at most `reorder` seconds before it, don't describe its data sets, which are unknown (RFC 7011, section 8.2). If
+    /// it would define one of them otherwise, it is refused with `TemplateChanged`.
+    ///
     /// The fault is `NotWritten` where a call of the files failed, or `OutOfMemory`: then the peer has ended,
     /// and the datagrams before are whole.
     pub fn take<F: FileSeries>(
         &mut self,
         alloc: Global,
         datagram: &[u8],
+        second: u64,
         files: &mut F,
     ) -> Result<PeerAnswer, RecordFault>
-        ensures answers { TakesDatagram F.seen datagram.now result self.old self.new files.old
-            files.new }
+        ensures answers { TakesDatagram F.seen second datagram.now result self.old self.new
+            files.old files.new }
         ensures ended { StaysEnded F.seen result self.old self.new files.old files.new }
     {
         if let Some(fault) = &self.ended {
@@ -102,7 +109,7 @@ impl PeerRecorder {
             Ok(header) => header,
             Err(malformed) => return Ok(PeerAnswer::Refused(malformed)),
         };
-        let reading = match self.read(alloc, &header, datagram) {
+        let reading = match self.read(alloc, &header, second, datagram) {
             Ok(Reading::Kept(reading)) => reading,
             Ok(Reading::TooMuch(ids)) => return self.refuse_too_much(alloc, &header, &ids),
             Ok(Reading::Ignored(withdrawals)) => {
@@ -111,7 +118,7 @@ impl PeerRecorder {
             }
             Err(fault) => return Ok(PeerAnswer::Refused(fault)),
         };
-        match self.record(alloc, &header, &reading, datagram, files) {
+        match self.record(alloc, &header, second, &reading, datagram, files) {
             Ok(count) => Ok(PeerAnswer::Recorded(count)),
             Err(fault) => {
                 self.ended = Some(fault);

@@ -3,6 +3,7 @@
 mod datagrams;
 mod endings;
 mod files;
+mod late;
 mod refusals;
 mod reports;
 mod resuming;

@@ -45,7 +45,7 @@ ignored-append ms (WasIgnored m ∷ said) more = ignored-append (ms ++ m ∷ [])
 -- ---- what is recorded then
 
 pub recorded-none : (p : Recording) → recorded_then false p [] [] ≡ p
-recorded-none p = λ i. record { budget = p.budget; first = p.first; filed = record p.filed { here = append-nil p.filed.here i }; said = append-nil p.said i }
+recorded-none p = λ i. record { limits = p.limits; first = p.first; filed = record p.filed { here = append-nil p.filed.here i }; said = append-nil p.said i }
 
 filed-more : (filed : FiledDatagrams) (more then : List Taken) (said saying : List Said) → filed_more (filed_more filed more said) then saying ≡ filed_more filed (more ++ then) (said ++ saying)
 filed-more filed more then said saying =
@@ -58,7 +58,7 @@ filed-both true filed more then said saying = ap file_finished (filed-more filed
 
 pub recorded-both : (finishes : Bool) (p : Recording) (more then : List Taken) (said saying : List Said)
     → recorded_then finishes (recorded_then false p more said) then saying ≡ recorded_then finishes p (more ++ then) (said ++ saying)
-recorded-both finishes p more then said saying = λ i. record { budget = p.budget; first = p.first; filed = filed-both finishes p.filed more then said saying i; said = append_assoc p.said said saying i }
+recorded-both finishes p more then said saying = λ i. record { limits = p.limits; first = p.first; filed = filed-both finishes p.filed more then said saying i; said = append_assoc p.said said saying i }
 
 pub datagrams-longer : (xs ys : List Arrival) → IsPrefix xs ys → IsPrefix (datagrams_of xs) (datagrams_of ys)
 datagrams-longer xs ys p = (datagrams_of p.0, ap datagrams_of p.1 ∙ map-append (λ (a : Arrival). a.octets) xs p.0)
@@ -194,7 +194,7 @@ module _ {F : Type 0} (seen : F → FilesView) where
       (λ p r is.
       let s = shift r is.window in
       let on = lead-of g finishes (record old { window = w }) new answer a p s.run (record {
-        recorded = record { empty = is.recorded.empty; is = is.recorded.is; budget = is.recorded.budget; settles = subst (λ xs. IsSettled (datagrams_of xs) p (barred_shown old.recorder.known)) (sym s.same) is.recorded.settles };
+        recorded = record { empty = is.recorded.empty; is = is.recorded.is; bounds = is.recorded.bounds; settles = subst (λ xs. IsSettled (datagrams_of xs) p (barred_shown old.recorder.known)) (sym s.same) is.recorded.settles };
         window = s.window;
       }) in
       record { more = on.more; leads = lead-shifted f g finishes new answer a.said p w r s on.more on.leads })

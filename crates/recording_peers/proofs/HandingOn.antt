@@ -15,12 +15,15 @@ use Rattle.recording_order.specs.Windows.{WindowView, after_writing}
 use Rattle.recording_order.specs.Releases.{Run, Says, answered}
 use Rattle.recording_peer.specs.declared.peer_answer.PeerAnswer.TheVariants.{Recorded, TooMuch, Refused, Ignored}
 use Rattle.recording_resumption.specs.declared.earlier_domain.EarlierDomain.{EarlierDomain}
-use Rattle.recording_peer.specs.Peers.{Taken, known_after_all}
-use Rattle.recording_peer.specs.Recording.{BarsOnce, KnownShown, PeerView, FiledDatagrams, IsPeer, IsRecorded, HasStopped, TakesDatagram, barred_shown, basis_for, FinishesFile, filed_with, with_ignored, file_finished, taken_in, ignored_in}
+use Rattle.ipfix_message.specs.Domains.{message_header}
+use Rattle.recording_peer.specs.Late.{IsReadWhere, IsRefusedAt}
+use Rattle.recording_peer.specs.Peers.{Taken, basis_with, known_after_all}
+use Rattle.recording_peer.specs.Recording.{BarsOnce, KnownShown, PeerView, FiledDatagrams, IsPeer, IsRecorded, HasStopped, TakesDatagram, barred_shown, resumed_for, FinishesFile, filed_with, with_ignored, file_finished, taken_in, ignored_in}
 use Rattle.recording_peer.proofs.PeerFiles.{taken_in-push, in-finished, ignored-finished}
 use Rattle.recording_peers.specs.declared.peer_state.PeerState.{PeerState}
 use Rattle.recording_peers.specs.Happenings.{datagrams_of}
-use Rattle.recording_peers.specs.Kept.{Barred, none_barred, Said, WasRecorded, WasRefused, WasIgnored, SaidSo, Settles, IsSettled, ignored_after, Recording, HasRecorded, HasFailed, counts_said, counts_of}
+use Rattle.recording_peers.specs.Kept.{Barred, none_barred, Said, WasRecorded, WasRefused, WasIgnored, SaidSo, Settles, IsSettled, ignored_after, Recording, HasRecorded, HasFailed, counts_said, counts_of, limits_kept}
+use Rattle.recording_peers.specs.declared.session_limits.SessionLimits.{SessionLimits}
 use Rattle.recording_peers.specs.declared.refusals.DatagramFault.TheVariants.{Message as OfMessage, TooManyFields}
 use Rattle.recording_peers.specs.Calls.{Part, Follows, RunsTo, IsRunning, handed_on, one_more_refused, recorded_then, filed_then}
 use Rattle.recording_peers.proofs.Growing.{Grows, grows-none}
@@ -28,7 +31,7 @@ use Rattle.recording_peers.proofs.Following.{follows-of, ignored-append, recorde
 
 -- ---- one more is settled
 
-settles-more : (n : ℕ) (left : BTreeMap ℕ EarlierDomain) (before : List Taken) (old : Barred) (ms : List (List ℕ)) (said : List Said) (all : List Taken) (between : Barred) (m : List ℕ) (s : Said) (now : List Taken) (new : Barred)
+settles-more : (n : SessionLimits) (left : BTreeMap ℕ EarlierDomain) (before : List Taken) (old : Barred) (ms : List (List ℕ)) (said : List Said) (all : List Taken) (between : Barred) (m : List ℕ) (s : Said) (now : List Taken) (new : Barred)
     → Settles n left before old ms said all between → Settles n left all between (m ∷ []) (s ∷ []) now new → Settles n left before old (ms ++ m ∷ []) (said ++ s ∷ []) now new
 settles-more n left before old [] [] all between m s now new h one = subst (λ (b : Barred). Settles n left before b (m ∷ []) (s ∷ []) now new) h.1 (subst (λ (ts : List Taken). Settles n left ts between (m ∷ []) (s ∷ []) now new) h.0 one)
 settles-more n left before old [] (t ∷ said) all between m s now new h one = absurd h
@@ -38,7 +41,7 @@ settles-more n left before old (x ∷ ms) (WasRefused (OfMessage fault) ∷ said
 settles-more n left before old (x ∷ ms) (WasRefused TooManyFields ∷ said) all between m s now new h one = (h.0, h.1, settles-more n left before h.0 ms said all between m s now new h.2 one)
 settles-more n left before old (x ∷ ms) (WasIgnored d ∷ said) all between m s now new h one = (h.0, h.1, settles-more n left before old ms said all between m s now new h.2 one)
 
-pub settles-length : (n : ℕ) (left : BTreeMap ℕ EarlierDomain) (before : List Taken) (old : Barred) (ms : List (List ℕ)) (said : List Said) (all : List Taken) (now : Barred) → Settles n left before old ms said all now → length said ≡ length ms
+pub settles-length : (n : SessionLimits) (left : BTreeMap ℕ EarlierDomain) (before : List Taken) (old : Barred) (ms : List (List ℕ)) (said : List Said) (all : List Taken) (now : Barred) → Settles n left before old ms said all now → length said ≡ length ms
 settles-length n left before old [] [] all now h = refl
 settles-length n left before old [] (t ∷ said) all now h = absurd h
 settles-length n left before old (x ∷ ms) [] all now h = absurd h
@@ -65,7 +68,7 @@ said-next xs said s says same so =
 
 module _ {F : Type 0} (seen : F → FilesView) where
   counted : (p : Recording) (r : Run) (k : PeerState F) → IsRunning seen k p r → length p.said ≡ length r.handed_on
-  counted p r k is = settles-length p.budget p.filed.earlier [] none_barred (datagrams_of r.handed_on) p.said (taken_in p.filed) (barred_shown k.recorder.known) is.recorded.settles.taken ∙ length-map r.handed_on (λ (a : Arrival). a.octets)
+  counted p r k is = settles-length p.limits p.filed.earlier [] none_barred (datagrams_of r.handed_on) p.said (taken_in p.filed) (barred_shown k.recorder.known) is.recorded.settles.taken ∙ length-map r.handed_on (λ (a : Arrival). a.octets)
 
   hands-on : (a : Arrival) (old new : PeerState F) (p : Recording) (r : Run) (s : Said) (more : List Taken) → IsRunning seen old p r → new.window ≡ answered r.window a (counts_said (Some s))
       → HasRecorded seen new (recorded_then false p more (s ∷ [])) (datagrams_of (r.handed_on ++ a ∷ [])) → RunsTo seen new (recorded_then false p more (s ∷ [])) (handed_on a) r
@@ -77,13 +80,13 @@ module _ {F : Type 0} (seen : F → FilesView) where
 
   -- after those before, and where the ids have no template for which the recorder has none
   abbrev SettlesNext : Arrival → PeerState F → Recording → Said → List Taken → Barred → Type 0
-  SettlesNext a old p s now new = Settles p.budget p.filed.earlier (taken_in p.filed) (barred_shown old.recorder.known) (a.octets ∷ []) (s ∷ []) now new
+  SettlesNext a old p s now new = Settles p.limits p.filed.earlier (taken_in p.filed) (barred_shown old.recorder.known) (a.octets ∷ []) (s ∷ []) now new
 
   settles-next : (a : Arrival) (old : PeerState F) (p : Recording) (r : Run) (s : Said) (now : List Taken) (new : Barred) → IsRunning seen old p r → SettlesNext a old p s now new
-      → Settles p.budget p.filed.earlier [] none_barred (datagrams_of (r.handed_on ++ a ∷ [])) (p.said ++ s ∷ []) now new
+      → Settles p.limits p.filed.earlier [] none_barred (datagrams_of (r.handed_on ++ a ∷ [])) (p.said ++ s ∷ []) now new
   settles-next a old p r s now new is one =
-      subst (λ (ms : List (List ℕ)). Settles p.budget p.filed.earlier [] none_barred ms (p.said ++ s ∷ []) now new) (sym (datagrams-push r.handed_on a))
-      (settles-more p.budget p.filed.earlier [] none_barred (datagrams_of r.handed_on) p.said (taken_in p.filed) (barred_shown old.recorder.known) a.octets s now new is.recorded.settles.taken one)
+      subst (λ (ms : List (List ℕ)). Settles p.limits p.filed.earlier [] none_barred ms (p.said ++ s ∷ []) now new) (sym (datagrams-push r.handed_on a))
+      (settles-more p.limits p.filed.earlier [] none_barred (datagrams_of r.handed_on) p.said (taken_in p.filed) (barred_shown old.recorder.known) a.octets s now new is.recorded.settles.taken one)
 
   settled-next : (a : Arrival) (old : PeerState F) (p : Recording) (r : Run) (s : Said) (more : List Taken) (new : Barred) → IsRunning seen old p r → SettlesNext a old p s (taken_in (filed_then false p.filed more (s ∷ []))) new
       → IsSettled (datagrams_of (r.handed_on ++ a ∷ [])) (recorded_then false p more (s ∷ [])) new
@@ -92,24 +95,30 @@ module _ {F : Type 0} (seen : F → FilesView) where
     ignored = ignored-next p more s is.recorded.settles.ignored;
   }
 
-  recorded-one : (a : Arrival) (old : PeerState F) (p : Recording) (count : MessageCount) (t : PeerView) (fs : F) (x : IsRecorded count a.octets p.first (seen fs) old.recorder t p.filed)
+  -- its limits stay
+  bounds-with : (m : List ℕ) (first : FilesView) (s t : PeerView) (filed : FiledDatagrams) (second : ℕ) (count : MessageCount) (fs : F) → IsRecorded count second m first (seen fs) s t filed → limits_kept t.known ≡ limits_kept s.known
+  bounds-with m first s t filed second count fs x = λ i. record { reorder = x.reorder i; templates = x.budget i }
+
+  recorded-one : (a : Arrival) (second : ℕ) (old : PeerState F) (p : Recording) (count : MessageCount) (t : PeerView) (fs : F) → limits_kept old.recorder.known ≡ p.limits → (x : IsRecorded count second a.octets p.first (seen fs) old.recorder t p.filed)
       → SettlesNext a old p (WasRecorded (counts_of count)) (taken_in (filed_then false p.filed (x.next ∷ []) (WasRecorded (counts_of count) ∷ []))) (barred_shown t.known)
-  recorded-one a old p count t fs x = (
+  recorded-one a second old p count t fs bounds x = (
     x.next,
     barred_shown t.known,
     x.datagram,
     record { records = sym x.counts.records; unknown_sets = sym (ap (λ o. o.unknown_sets) x.counts.passed_over) },
     record {
-      barred = x.barred;
-      again = subst (λ (m : List ℕ). (domain : ℕ) → barred_shown t.known domain ≡ (if domain == x.next.given.header.domain then barred_after x.next.barred m else barred_shown old.recorder.known domain)) (sym x.datagram) x.has_again;
+      barred = subst (λ (n : SessionLimits). IsReadWhere n.reorder (taken_in p.filed) (barred_shown old.recorder.known) x.next.second x.next.datagram x.next.given.header x.next.barred) bounds
+          (subst (λ (m : List ℕ). IsReadWhere old.recorder.known.reorder (taken_in p.filed) (barred_shown old.recorder.known) x.next.second m x.next.given.header x.next.barred) (sym x.datagram)
+          (subst (λ (k : ℕ). IsReadWhere old.recorder.known.reorder (taken_in p.filed) (barred_shown old.recorder.known) k a.octets x.next.given.header x.next.barred) (sym x.at) x.barred));
+      again = subst (λ (m : List ℕ). (domain : ℕ) → barred_shown t.known domain ≡ (if domain == x.next.given.header.domain then barred_after (barred_shown old.recorder.known domain) m else barred_shown old.recorder.known domain)) (sym x.datagram) x.has_again;
     },
     (taken_in-push p.filed x.next, refl),
   )
 
   -- it was recorded, and noted
-  pub follows-recorded : (old : PeerState F) (a : Arrival) (count : MessageCount) (t : PeerView) (fs : F) (w : WindowView) → TakesDatagram seen a.octets (Ok (Recorded count)) old.recorder t old.files fs
+  pub follows-recorded : (old : PeerState F) (a : Arrival) (second : ℕ) (count : MessageCount) (t : PeerView) (fs : F) (w : WindowView) → TakesDatagram seen second a.octets (Ok (Recorded count)) old.recorder t old.files fs
       → w ≡ after_writing old.window a (counts_of count) → Follows seen (handed_on a) false old (record old { recorder = t; files = fs; window = w }) (Ok tt)
-  follows-recorded old a count t fs w takes noted =
+  follows-recorded old a second count t fs w takes noted =
       let new = record old { recorder = t; files = fs; window = w } in
       let c = counts_of count in
       follows-of seen (handed_on a) false old new (Ok tt) (WasRecorded c ∷ []) refl refl refl
@@ -120,15 +129,15 @@ module _ {F : Type 0} (seen : F → FilesView) where
         leads = hands-on a old new p r (WasRecorded c) (x.next ∷ []) is (noted ∙ ap (λ v. after_writing v a c) is.window) (record {
           empty = is.recorded.empty;
           is = x.is;
-          budget = x.budget ∙ is.recorded.budget;
-          settles = settled-next a old p r (WasRecorded c) (x.next ∷ []) (barred_shown t.known) is (recorded-one a old p count t fs x);
+          bounds = bounds-with a.octets p.first old.recorder t p.filed second count fs x ∙ is.recorded.bounds;
+          settles = settled-next a old p r (WasRecorded c) (x.next ∷ []) (barred_shown t.known) is (recorded-one a second old p count t fs is.recorded.bounds x);
         });
       })
 
   -- it was refused, and nothing else changed
-  pub follows-refused : (old : PeerState F) (a : Arrival) (fault : MessageFault) (t : PeerView) (fs : F) → TakesDatagram seen a.octets (Ok (Refused fault)) old.recorder t old.files fs
+  pub follows-refused : (old : PeerState F) (a : Arrival) (second : ℕ) (fault : MessageFault) (t : PeerView) (fs : F) → TakesDatagram seen second a.octets (Ok (Refused fault)) old.recorder t old.files fs
       → Follows seen (handed_on a) false old (record old { recorder = t; files = fs; refused = Some (one_more_refused old.refused (OfMessage fault)) }) (Ok tt)
-  follows-refused old a fault t fs takes =
+  follows-refused old a second fault t fs takes =
       let new = record old { recorder = t; files = fs; refused = Some (one_more_refused old.refused (OfMessage fault)) } in
       follows-of seen (handed_on a) false old new (Ok tt) (WasRefused (OfMessage fault) ∷ []) refl refl refl
       (λ p r is.
@@ -141,8 +150,8 @@ module _ {F : Type 0} (seen : F → FilesView) where
         leads = hands-on a old new p r (WasRefused (OfMessage fault)) [] is is.window (record {
           empty = is.recorded.empty;
           is = subst (λ f. IsPeer p.first (seen fs) t f) (sym same) peer;
-          budget = ap (λ (s : PeerView). s.known.budget) x.1 ∙ is.recorded.budget;
-          settles = settled-next a old p r (WasRefused (OfMessage fault)) [] (barred_shown t.known) is (x.0, (ap taken_in same, ap (λ (s : PeerView). barred_shown s.known) x.1));
+          bounds = ap (λ (s : PeerView). limits_kept s.known) x.1 ∙ is.recorded.bounds;
+          settles = settled-next a old p r (WasRefused (OfMessage fault)) [] (barred_shown t.known) is ((second, subst (λ (n : SessionLimits). IsRefusedAt n.reorder (taken_in p.filed) (barred_shown old.recorder.known) (resumed_for p.filed a.octets) second a.octets fault (message_header a.octets)) is.recorded.bounds x.0), (ap taken_in same, ap (λ (s : PeerView). barred_shown s.known) x.1));
         });
       })
 
@@ -158,11 +167,12 @@ module _ {F : Type 0} (seen : F → FilesView) where
     fits = p.fits;
     once = once;
     left = p.left;
+    times = p.times;
   }
 
-  pub follows-too_much : (old : PeerState F) (a : Arrival) (t : PeerView) (fs : F) → TakesDatagram seen a.octets (Ok TooMuch) old.recorder t old.files fs
+  pub follows-too_much : (old : PeerState F) (a : Arrival) (second : ℕ) (t : PeerView) (fs : F) → TakesDatagram seen second a.octets (Ok TooMuch) old.recorder t old.files fs
       → Follows seen (handed_on a) false old (record old { recorder = t; files = fs; refused = Some (one_more_refused old.refused TooManyFields) }) (Ok tt)
-  follows-too_much old a t fs takes =
+  follows-too_much old a second t fs takes =
       let new = record old { recorder = t; files = fs; refused = Some (one_more_refused old.refused TooManyFields) } in
       follows-of seen (handed_on a) false old new (Ok tt) (WasRefused TooManyFields ∷ []) refl refl refl
       (λ p r is.
@@ -177,14 +187,17 @@ module _ {F : Type 0} (seen : F → FilesView) where
         leads = hands-on a old new p r (WasRefused TooManyFields) [] is is.window (record {
           empty = is.recorded.empty;
           is = subst (λ f. IsPeer p.first (seen fs) t f) (sym same) peer;
-          budget = ap (λ (s : PeerView). s.known.budget) over.bars.others ∙ is.recorded.budget;
+          bounds = ap (λ (s : PeerView). limits_kept s.known) over.bars.others ∙ is.recorded.bounds;
           settles = settled-next a old p r (WasRefused TooManyFields) [] (barred_shown t.known) is (
             barred_shown t.known,
             record {
               header = over.header;
               is_header = over.is_header;
+              second = second;
+              without = over.barred;
+              read = subst (λ (n : SessionLimits). IsReadWhere n.reorder (taken_in p.filed) (barred_shown old.recorder.known) second a.octets over.header over.barred) is.recorded.bounds over.read;
               ids = over.ids;
-              too_much = subst (λ (n : ℕ). IsTooMuch (basis_for old.recorder p.filed a.octets) n (known_after_all (taken_in p.filed)) a.octets over.ids) is.recorded.budget over.too_much;
+              too_much = subst (λ (n : SessionLimits). IsTooMuch (basis_with (resumed_for p.filed a.octets) over.barred) n.templates (known_after_all (taken_in p.filed)) a.octets over.ids) is.recorded.bounds over.too_much;
               barred = over.bars.barred;
             },
             (ap taken_in same, refl),
@@ -193,9 +206,9 @@ module _ {F : Type 0} (seen : F → FilesView) where
       })
 
   -- it was ignored, and only counted
-  pub follows-ignored : (old : PeerState F) (a : Arrival) (t : PeerView) (fs : F) → TakesDatagram seen a.octets (Ok Ignored) old.recorder t old.files fs
+  pub follows-ignored : (old : PeerState F) (a : Arrival) (second : ℕ) (t : PeerView) (fs : F) → TakesDatagram seen second a.octets (Ok Ignored) old.recorder t old.files fs
       → Follows seen (handed_on a) false old (record old { recorder = t; files = fs }) (Ok tt)
-  follows-ignored old a t fs takes =
+  follows-ignored old a second t fs takes =
       let new = record old { recorder = t; files = fs } in
       follows-of seen (handed_on a) false old new (Ok tt) (WasIgnored a.octets ∷ []) refl refl refl
       (λ p r is.
@@ -207,15 +220,15 @@ module _ {F : Type 0} (seen : F → FilesView) where
         leads = hands-on a old new p r (WasIgnored a.octets) [] is is.window (record {
           empty = is.recorded.empty;
           is = subst (λ f. IsPeer p.first (seen fs) t f) (sym same) x.is;
-          budget = ap (λ (s : PeerView). s.known.budget) x.others ∙ is.recorded.budget;
+          bounds = ap (λ (s : PeerView). limits_kept s.known) x.others ∙ is.recorded.bounds;
           settles = settled-next a old p r (WasIgnored a.octets) [] (barred_shown t.known) is (refl, x.alone, (ap taken_in same, ap (λ (s : PeerView). barred_shown s.known) x.others));
         });
       })
 
   -- the recorder, or its files, failed
-  pub follows-failed : (old : PeerState F) (a : Arrival) (fault : RecordFault) (t : PeerView) (fs : F) → TakesDatagram seen a.octets (Err fault) old.recorder t old.files fs
+  pub follows-failed : (old : PeerState F) (a : Arrival) (second : ℕ) (fault : RecordFault) (t : PeerView) (fs : F) → TakesDatagram seen second a.octets (Err fault) old.recorder t old.files fs
       → Follows seen (handed_on a) false old (record old { recorder = t; files = fs }) (Err fault)
-  follows-failed old a fault t fs takes =
+  follows-failed old a second fault t fs takes =
       let new = record old { recorder = t; files = fs } in
       follows-of seen (handed_on a) false old new (Err fault) [] refl refl refl
       (λ p r is.
@@ -240,9 +253,9 @@ module _ {F : Type 0} (seen : F → FilesView) where
     pub stopped : (first after : FilesView) (filed : FiledDatagrams) (m : List ℕ) → IsPeer first after t filed → HasStopped fault first after u.told filed m
 
   -- to note one that was recorded
-  pub follows-unnoted : (old : PeerState F) (a : Arrival) (count : MessageCount) (t u : PeerView) (fs : F) (w : WindowView) (fault : RecordFault) → TakesDatagram seen a.octets (Ok (Recorded count)) old.recorder t old.files fs
+  pub follows-unnoted : (old : PeerState F) (a : Arrival) (second : ℕ) (count : MessageCount) (t u : PeerView) (fs : F) (w : WindowView) (fault : RecordFault) → TakesDatagram seen second a.octets (Ok (Recorded count)) old.recorder t old.files fs
       → EndsFor fault t u → Follows seen (handed_on a) false old (record old { recorder = u; files = fs; window = w }) (Err fault)
-  follows-unnoted old a count t u fs w fault takes ends =
+  follows-unnoted old a second count t u fs w fault takes ends =
       let new = record old { recorder = u; files = fs; window = w } in
       let c = counts_of count in
       follows-of seen (handed_on a) false old new (Err fault) (WasRecorded c ∷ []) refl refl refl
@@ -257,7 +270,7 @@ module _ {F : Type 0} (seen : F → FilesView) where
           next = None;
           stopped = ends.stopped p.first (seen fs) (filed_with p.filed x.next) [] x.is;
           barred = barred_shown t.known;
-          settles = settled-next a old p r (WasRecorded c) (x.next ∷ []) (barred_shown t.known) is (recorded-one a old p count t fs x);
+          settles = settled-next a old p r (WasRecorded c) (x.next ∷ []) (barred_shown t.known) is (recorded-one a second old p count t fs is.recorded.bounds x);
           are_first = λ says so. ([], sym (append-nil (datagrams_of (r.handed_on ++ a ∷ []))) ∙ sym (append-nil (datagrams_of (r.handed_on ++ a ∷ []) ++ [])));
         };
       })
@@ -296,16 +309,16 @@ module _ {F : Type 0} (seen : F → FilesView) where
       follows-of seen (λ says r. r) true old new (Ok tt) [] refl refl refl
       (λ p r is.
       let x = finishes p.first p.filed is.recorded.is in
-      let done : Recording = record { budget = p.budget; first = p.first; filed = file_finished p.filed; said = p.said } in
-      let same : recorded_then true p [] [] ≡ done = λ i. record { budget = p.budget; first = p.first; filed = file_finished (record p.filed { here = append-nil p.filed.here i }); said = append-nil p.said i } in
+      let done : Recording = record { limits = p.limits; first = p.first; filed = file_finished p.filed; said = p.said } in
+      let same : recorded_then true p [] [] ≡ done = λ i. record { limits = p.limits; first = p.first; filed = file_finished (record p.filed { here = append-nil p.filed.here i }); said = append-nil p.said i } in
       let running : IsRunning seen new done r = record {
         recorded = record {
           empty = is.recorded.empty;
           is = x.0;
-          budget = ap (λ (k : KnownShown). k.budget) x.1 ∙ is.recorded.budget;
+          bounds = ap limits_kept x.1 ∙ is.recorded.bounds;
           settles = record {
-            taken = subst (λ (ts : List Taken). Settles p.budget p.filed.earlier [] none_barred (datagrams_of r.handed_on) p.said ts (barred_shown t.known)) (sym (in-finished p.filed))
-                (subst (λ (k : KnownShown). Settles p.budget p.filed.earlier [] none_barred (datagrams_of r.handed_on) p.said (taken_in p.filed) (barred_shown k)) (sym x.1) is.recorded.settles.taken);
+            taken = subst (λ (ts : List Taken). Settles p.limits p.filed.earlier [] none_barred (datagrams_of r.handed_on) p.said ts (barred_shown t.known)) (sym (in-finished p.filed))
+                (subst (λ (k : KnownShown). Settles p.limits p.filed.earlier [] none_barred (datagrams_of r.handed_on) p.said (taken_in p.filed) (barred_shown k)) (sym x.1) is.recorded.settles.taken);
             ignored = ignored-finished p.filed ∙ is.recorded.settles.ignored;
           };
         };

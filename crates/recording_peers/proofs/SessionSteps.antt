@@ -17,7 +17,7 @@ use Rattle.recording_peer.specs.Recording.{IsPeer, PeerView, barred_shown, taken
 use Rattle.recording_peers.specs.declared.session_limits.SessionLimits.{SessionLimits}
 use Rattle.recording_peers.specs.declared.peer_state.PeerState.{PeerState}
 use Rattle.recording_peers.specs.Happenings.{Happening, DatagramCame, SecondBegan, arrived, event_of, events_of, datagrams_of}
-use Rattle.recording_peers.specs.Kept.{Said, SaidSo, Recording, HasRecorded, HasFailed, IsSession, HasEnded, IsReleased, IsSettled, none_barred, says_of}
+use Rattle.recording_peers.specs.Kept.{Said, SaidSo, Recording, HasRecorded, HasFailed, IsSession, HasEnded, IsReleased, IsSettled, limits_kept, none_barred, says_of}
 use Rattle.recording_peers.specs.Calls.{Part, Follows, RunsTo, TakesBy, Takes, TakesTurn, TellsCounts, arriving, recorded_then}
 use Rattle.recording_peers.specs.declared.turn.Turn.{Turn}
 use Rattle.recording_order.specs.declared.order_counts.OrderCounts.{OrderCounts}
@@ -54,7 +54,7 @@ module _ {F : Type 0} (seen : F → FilesView) (laws : Laws) (limits : SessionLi
       → run says limits.reorder (events_of hs) ≡ run (says_of s.recording.said) limits.reorder (events_of hs)
   same-run k hs s more says so =
       let r = run (says_of s.recording.said) limits.reorder (events_of hs) in
-      let many = settles-length s.recording.budget s.recording.filed.earlier [] none_barred (datagrams_of r.handed_on) s.recording.said (taken_in s.recording.filed) (barred_shown k.recorder.known) s.recorded.settles.taken ∙ length-map r.handed_on (λ (a : Arrival). a.octets) in
+      let many = settles-length s.recording.limits s.recording.filed.earlier [] none_barred (datagrams_of r.handed_on) s.recording.said (taken_in s.recording.filed) (barred_shown k.recorder.known) s.recorded.settles.taken ∙ length-map r.handed_on (λ (a : Arrival). a.octets) in
       sym (laws.asked (says_of s.recording.said) says limits.reorder (events_of hs) (λ n from below. said-before s.recording.said more says so n from (omega (arith, below, many))))
 
   -- by the answer
@@ -78,7 +78,7 @@ module _ {F : Type 0} (seen : F → FilesView) (laws : Laws) (limits : SessionLi
       subst (λ t. RunsAlike t (run says limits.reorder (events_of then))) (to.by says so) (subst (λ t. RunsAlike (part says own) t) (sym whole) alike) in
       record {
         recording = p;
-        budget = s.budget;
+        bounds = s.bounds;
         recorded = subst (λ xs. HasRecorded seen new p (datagrams_of xs)) there.handed_on to.is.recorded;
         window = ap with_counts_begun to.is.window ∙ there.window;
       }
@@ -89,7 +89,7 @@ module _ {F : Type 0} (seen : F → FilesView) (laws : Laws) (limits : SessionLi
       let failed : HasFailed seen new fault p (λ says. (part says own).handed_on) = lead.leads in
       record {
         recording = p;
-        budget = s.budget;
+        bounds = s.bounds;
         fault = fault;
         failed = fails-as seen new fault p (λ says. (run says limits.reorder (events_of then)).handed_on) (λ says. (part says own).handed_on)
             (λ says so.
@@ -104,7 +104,7 @@ module _ {F : Type 0} (seen : F → FilesView) (laws : Laws) (limits : SessionLi
   follows-stands part finishes old new answer hs then keeps goes s a =
       lead-stands part finishes old new answer hs then a.said keeps goes s
       (lead-of seen part finishes old new answer a s.recording (record (run (says_of s.recording.said) limits.reorder (events_of hs)) { window = old.window }) (record {
-        recorded = record { empty = s.recorded.empty; is = s.recorded.is; budget = s.recorded.budget; settles = s.recorded.settles };
+        recorded = record { empty = s.recorded.empty; is = s.recorded.is; bounds = s.recorded.bounds; settles = s.recorded.settles };
         window = refl;
       }))
 
@@ -114,11 +114,11 @@ module _ {F : Type 0} (seen : F → FilesView) (laws : Laws) (limits : SessionLi
   session-of : (old new : PeerState F) (hs : List Happening) → new.recorder ≡ old.recorder → new.files ≡ old.files → new.window ≡ old.window → IsSession seen old limits hs → IsSession seen new limits hs
   session-of old new hs recorder files window s = record {
     recording = s.recording;
-    budget = s.budget;
+    bounds = s.bounds;
     recorded = record {
       empty = s.recorded.empty;
       is = subst (λ t. IsPeer s.recording.first (seen new.files) t s.recording.filed) (sym recorder) (subst (λ f. IsPeer s.recording.first (seen f) old.recorder s.recording.filed) (sym files) s.recorded.is);
-      budget = ap (λ (t : PeerView). t.known.budget) recorder ∙ s.recorded.budget;
+      bounds = ap (λ (t : PeerView). limits_kept t.known) recorder ∙ s.recorded.bounds;
       settles = subst (λ (t : PeerView). IsSettled (datagrams_of (run (says_of s.recording.said) limits.reorder (events_of hs)).handed_on) s.recording (barred_shown t.known)) (sym recorder) s.recorded.settles;
     };
     window = ap with_counts_begun window ∙ s.window;
@@ -127,7 +127,7 @@ module _ {F : Type 0} (seen : F → FilesView) (laws : Laws) (limits : SessionLi
   same-events : (k : PeerState F) (hs then : List Happening) → events_of then ≡ events_of hs → IsSession seen k limits hs → IsSession seen k limits then
   same-events k hs then same s = record {
     recording = s.recording;
-    budget = s.budget;
+    bounds = s.bounds;
     recorded = subst (λ es. HasRecorded seen k s.recording (datagrams_of (run (says_of s.recording.said) limits.reorder es).handed_on)) (sym same) s.recorded;
     window = subst (λ es. SameButCounts k.window (run (says_of s.recording.said) limits.reorder es).window) (sym same) s.window;
   }
@@ -151,10 +151,10 @@ module _ {F : Type 0} (seen : F → FilesView) (laws : Laws) (limits : SessionLi
   -- ---- a second
 
   turn-ended : (answer : Result (Unit {0}) RecordFault) (new : PeerState F) (w : WindowView) (told : ℕ) (hs : List Happening) → SameButCounts new.window w → StandsBy answer (record new { window = w; resumptions_told = told }) hs → StandsBy answer new hs
-  turn-ended (Ok x) new w told hs alike s = record { recording = s.recording; budget = s.budget; recorded = record { empty = s.recorded.empty; is = s.recorded.is; budget = s.recorded.budget; settles = s.recorded.settles }; window = alike ∙ s.window }
+  turn-ended (Ok x) new w told hs alike s = record { recording = s.recording; bounds = s.bounds; recorded = record { empty = s.recorded.empty; is = s.recorded.is; bounds = s.recorded.bounds; settles = s.recorded.settles }; window = alike ∙ s.window }
   turn-ended (Err fault) new w told hs alike e = record {
     recording = e.recording;
-    budget = e.budget;
+    bounds = e.bounds;
     fault = e.fault;
     failed = record { empty = e.failed.empty; ended = e.failed.ended; before = e.failed.before; next = e.failed.next; stopped = e.failed.stopped; barred = e.failed.barred; settles = e.failed.settles; are_first = e.failed.are_first };
   }
@@ -185,4 +185,4 @@ module _ {F : Type 0} (seen : F → FilesView) (laws : Laws) (limits : SessionLi
       let so = said-itself p.said in
       let whole : finish says (run says limits.reorder (events_of hs)) ≡ finish says r = ap (finish says) (same-run old hs s a.said says so) in
       let alike : RunsAlike (finish says own) (finish says r) = laws.finish_alike says own r (record { handed_on = refl; window = s.window }) in
-      (p, (s.budget, subst (λ xs. HasRecorded seen new p (datagrams_of xs)) (ap (λ (t : Run). t.handed_on) (sym (to.by says so)) ∙ alike.handed_on ∙ ap (λ (t : Run). t.handed_on) (sym whole)) to.is.recorded))
+      (p, (s.bounds, subst (λ xs. HasRecorded seen new p (datagrams_of xs)) (ap (λ (t : Run). t.handed_on) (sym (to.by says so)) ∙ alike.handed_on ∙ ap (λ (t : Run). t.handed_on) (sym whole)) to.is.recorded))

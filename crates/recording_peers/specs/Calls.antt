@@ -61,7 +61,7 @@ filed_then false filed more said = filed_more filed more said
 filed_then true filed more said = file_finished (filed_more filed more said)
 
 abbrev pub recorded_then : Bool → Recording → List Taken → List Said → Recording
-recorded_then finishes p more said = record { budget = p.budget; first = p.first; filed = filed_then finishes p.filed more said; said = p.said ++ said }
+recorded_then finishes p more said = record { limits = p.limits; first = p.first; filed = filed_then finishes p.filed more said; said = p.said ++ said }
 
 -- ---- the counts of domains
 

@@ -12,14 +12,15 @@ use Rattle.ipfix_session.specs.Ledger.{count_in}
 use Rattle.recording_files.specs.declared.record_fault.RecordFault.{RecordFault}
 use Rattle.recording_files.specs.declared.message_count.MessageCount.{MessageCount}
 use Rattle.recording_files.specs.Files.{FilesView, IsEmpty}
-use Rattle.ipfix_datagrams.specs.Datagrams.{Basis, IsRefused, IsTooMuch, barred_after, withdraws_only}
+use Rattle.ipfix_datagrams.specs.Datagrams.{IsTooMuch, barred_after, withdraws_only}
 use Rattle.recording_order.specs.Alike.{SameButCounts}
 use Rattle.recording_order.specs.Arrivals.{Arrival}
 use Rattle.recording_order.specs.Releases.{Says, Agree, run, released}
 use Rattle.recording_order.specs.declared.datagram_counts.DatagramCounts.{DatagramCounts}
 use Rattle.recording_resumption.specs.declared.earlier_domain.EarlierDomain.{EarlierDomain}
+use Rattle.recording_peer.specs.Late.{IsReadWhere, IsRefusedAt}
 use Rattle.recording_peer.specs.Peers.{Taken, basis_with, known_after_all, resumed_at}
-use Rattle.recording_peer.specs.Recording.{barred_for, barred_shown, FiledDatagrams, IsPeer, HasStopped, taken_in, ignored_in}
+use Rattle.recording_peer.specs.Recording.{barred_shown, FiledDatagrams, KnownShown, IsPeer, HasStopped, taken_in, ignored_in}
 use Rattle.recording_peers.specs.declared.peer_state.PeerState.{PeerState}
 use Rattle.recording_peers.specs.declared.session_limits.SessionLimits.{SessionLimits}
 use Rattle.recording_peers.specs.Happenings.{Happening, events_of, datagrams_of}
@@ -70,40 +71,43 @@ pub record HasCounts (c : DatagramCounts) (m : Message) : Type 0 where
 abbrev pub Barred : Type 0
 Barred = ℕ → List ℕ
 
--- what is known before a datagram beside the files
-abbrev pub basis_at : BTreeMap ℕ EarlierDomain → List Taken → Barred → List ℕ → Basis
-basis_at left before barred m = basis_with (resumed_at left before (message_header m)) (barred_for barred (message_header m))
-
--- a datagram was taken where these ids had no template: those that it defines have one then
-pub record HasAgain (old next : Barred) (x : Taken) : Type 0 where
-  pub barred : x.barred ≡ old x.given.header.domain
-  pub again : (domain : ℕ) → next domain ≡ (if domain == x.given.header.domain then barred_after x.barred x.datagram else old domain)
+-- a datagram was taken after these, where these ids had no template: those that it defines have one then
+pub record HasAgain (reorder : ℕ) (before : List Taken) (old next : Barred) (x : Taken) : Type 0 where
+  pub barred : IsReadWhere reorder before old x.second x.datagram x.given.header x.barred
+  pub again : (domain : ℕ) → next domain ≡ (if domain == x.given.header.domain then barred_after (old domain) x.datagram else old domain)
 
 -- one was refused for what it defines: those for which it would have changed what is known have none from then on
-pub record WasTooMuch (budget : ℕ) (left : BTreeMap ℕ EarlierDomain) (before : List Taken) (old next : Barred) (m : List ℕ) : Type 0 where
+pub record WasTooMuch (limits : SessionLimits) (left : BTreeMap ℕ EarlierDomain) (before : List Taken) (old next : Barred) (m : List ℕ) : Type 0 where
   pub header : Header
   pub is_header : message_header m ≡ Ok header
+  pub second : ℕ
+  pub without : List ℕ
+  pub read : IsReadWhere limits.reorder before old second m header without
   pub ids : List ℕ
-  pub too_much : IsTooMuch (basis_at left before old m) budget (known_after_all before) m ids
+  pub too_much : IsTooMuch (basis_with (resumed_at left before (message_header m)) without) limits.templates (known_after_all before) m ids
   pub barred : (domain id : ℕ) → list_any (λ b. b == id) (next domain) ≡ (list_any (λ b. b == id) (old domain) || ((domain == header.domain) && list_any (λ b. b == id) ids))
 
--- each of these, one after another, was taken, with these counts, or refused, or ignored, after those that were taken before it and
--- what an earlier run left, where these ids have no template; then all these were taken, and these ids have none
-abbrev pub Settles : ℕ → BTreeMap ℕ EarlierDomain → List Taken → Barred → List (List ℕ) → List Said → List Taken → Barred → Type 0
-Settles budget left before old [] [] all now = (all ≡ before) × (now ≡ old)
-Settles budget left before old [] (s ∷ said) all now = ⊥
-Settles budget left before old (m ∷ ms) [] all now = ⊥
-Settles budget left before old (m ∷ ms) (WasRecorded c ∷ said) all now =
-    (x : Taken) × (next : Barred) × (x.datagram ≡ m) × HasCounts c x.given × HasAgain old next x × Settles budget left (before ++ x ∷ []) next ms said all now
-Settles budget left before old (m ∷ ms) (WasRefused (OfMessage fault) ∷ said) all now =
-    IsRefused (basis_at left before old m) (known_after_all before) m fault × Settles budget left before old ms said all now
-Settles budget left before old (m ∷ ms) (WasRefused TooManyFields ∷ said) all now = (next : Barred) × WasTooMuch budget left before old next m × Settles budget left before next ms said all now
-Settles budget left before old (m ∷ ms) (WasIgnored d ∷ said) all now = (d ≡ m) × (withdraws_only m ≡ true) × Settles budget left before old ms said all now
+-- each of these, one after another, was taken at a second, with these counts, or refused, or ignored, after those that were taken before it
+-- and what an earlier run left, where these ids have no template; then all these were taken, and these ids have none
+abbrev pub Settles : SessionLimits → BTreeMap ℕ EarlierDomain → List Taken → Barred → List (List ℕ) → List Said → List Taken → Barred → Type 0
+Settles limits left before old [] [] all now = (all ≡ before) × (now ≡ old)
+Settles limits left before old [] (s ∷ said) all now = ⊥
+Settles limits left before old (m ∷ ms) [] all now = ⊥
+Settles limits left before old (m ∷ ms) (WasRecorded c ∷ said) all now =
+    (x : Taken) × (next : Barred) × (x.datagram ≡ m) × HasCounts c x.given × HasAgain limits.reorder before old next x × Settles limits left (before ++ x ∷ []) next ms said all now
+Settles limits left before old (m ∷ ms) (WasRefused (OfMessage fault) ∷ said) all now =
+    ((second : ℕ) × IsRefusedAt limits.reorder before old (resumed_at left before (message_header m)) second m fault (message_header m)) × Settles limits left before old ms said all now
+Settles limits left before old (m ∷ ms) (WasRefused TooManyFields ∷ said) all now = (next : Barred) × WasTooMuch limits left before old next m × Settles limits left before next ms said all now
+Settles limits left before old (m ∷ ms) (WasIgnored d ∷ said) all now = (d ≡ m) × (withdraws_only m ≡ true) × Settles limits left before old ms said all now
 
--- of a session: the budget of its templates, what was seen of its files at first, the datagrams that stand in them, and what was said
--- of each that was handed on
+-- the limits that a recorder keeps
+abbrev pub limits_kept : KnownShown → SessionLimits
+limits_kept k = record { reorder = k.reorder; templates = k.budget }
+
+-- of a session: its limits, what was seen of its files at first, the datagrams that stand in them, and what was said of each that was
+-- handed on
 pub record Recording : Type 0 where
-  pub budget : ℕ
+  pub limits : SessionLimits
   pub first : FilesView
   pub filed : FiledDatagrams
   pub said : List Said
@@ -115,7 +119,7 @@ none_barred domain = []
 -- so it was said of these datagrams, and these ids have no template then; and those that were ignored are the ones that count beside the
 -- files
 pub record IsSettled (ms : List (List ℕ)) (p : Recording) (barred : Barred) : Type 0 where
-  pub taken : Settles p.budget p.filed.earlier [] none_barred ms p.said (taken_in p.filed) barred
+  pub taken : Settles p.limits p.filed.earlier [] none_barred ms p.said (taken_in p.filed) barred
   pub ignored : ignored_in p.filed ≡ ignored_after [] p.said
 
 module _ {F : Type 0} (seen : F → FilesView) (k : PeerState F) where
@@ -125,7 +129,7 @@ module _ {F : Type 0} (seen : F → FilesView) (k : PeerState F) where
   pub record HasRecorded (p : Recording) (ms : List (List ℕ)) : Type 0 where
     pub empty : IsEmpty p.first.contents
     pub is : IsPeer p.first (seen k.files) k.recorder p.filed
-    pub budget : k.recorder.known.budget ≡ p.budget
+    pub bounds : limits_kept k.recorder.known ≡ p.limits
     pub settles : IsSettled ms p (barred_shown k.recorder.known)
 
   -- the recorder ended with a fault, while the next datagram was taken, or a file was finished, or memory ran out. The files and the
@@ -146,17 +150,17 @@ module _ {F : Type 0} (seen : F → FilesView) (k : PeerState F) where
     -- it stands for what happened since it began: its files have those that are released by then of the datagrams that came
     pub record IsSession : Type 0 where
       pub recording : Recording
-      pub budget : recording.budget ≡ limits.templates
+      pub bounds : recording.limits ≡ limits
       pub recorded : HasRecorded recording (datagrams_of (run (says_of recording.said) limits.reorder (events_of happenings)).handed_on)
       pub window : SameButCounts k.window (run (says_of recording.said) limits.reorder (events_of happenings)).window
 
     -- it ended with a fault at the last of what happened
     pub record HasEnded : Type 0 where
       pub recording : Recording
-      pub budget : recording.budget ≡ limits.templates
+      pub bounds : recording.limits ≡ limits
       pub fault : RecordFault
       pub failed : HasFailed fault recording (λ says. (run says limits.reorder (events_of happenings)).handed_on)
 
     -- none waits any more: its files have all that is released
     abbrev pub IsReleased : Recording → Type 0
-    IsReleased p = (p.budget ≡ limits.templates) × HasRecorded p (datagrams_of (released (says_of p.said) limits.reorder (events_of happenings)))
+    IsReleased p = (p.limits ≡ limits) × HasRecorded p (datagrams_of (released (says_of p.said) limits.reorder (events_of happenings)))

@@ -1,5 +1,5 @@
 -- The answers of a script.
-use Rattle.std.specs.Prelude.{◌≡◌, ◌<◌, ℕ, List, ◌++◌, length, map, take, replicate, Result, Ok, Err}
+use Rattle.std.specs.Prelude.{◌≡◌, ◌<◌, ℕ, List, ◌++◌, length, map, take, replicate, Option, Some, None, Result, Ok, Err}
 use Rattle.recording_peers.specs.declared.datagram_source.NoDatagram.{NoDatagram}
 use Rattle.recording_peers.specs.declared.datagram_source.NoDatagram.TheVariants.{Tick}
 use Rattle.recording_peers.specs.declared.script_datagrams.ScriptedDatagram.{ScriptedDatagram}
@@ -14,3 +14,9 @@ pub record AreFirst (script : List (Result ScriptedDatagram NoDatagram)) (count 
   pub ticks : ℕ
   pub are : answers ≡ map scripted (take count script) ++ replicate ticks (Err Tick)
   pub behind_all : count < length script → ticks ≡ 0
+
+-- an answer of a script is a datagram that is longer than so many octets
+abbrev pub IsTooLong : ℕ → Option (Result ScriptedDatagram NoDatagram) → Type 0
+IsTooLong room (Some (Ok d)) = room < length d.octets.items
+IsTooLong room (Some (Err why)) = ⊥
+IsTooLong room None = ⊥

@@ -23,7 +23,7 @@ fn counts_of(count: &MessageCount) -> DatagramCounts
 }
 
 impl<F: FileSeries> PeerState<F> {
-    /// Hands a datagram on to the recorder. The window notes it if it is recorded; one that is refused is
+    /// Hands a datagram, which came at a second, on to the recorder now. The window notes it if it is recorded; one that is refused is
     /// counted. Nothing is noted of one that is ignored.
     pub(crate) fn hand_on(
         &mut self,
@@ -31,6 +31,7 @@ impl<F: FileSeries> PeerState<F> {
         header: &Header,
         datagram: &[u8],
         second: u64,
+        now: u64,
     ) -> Result<(), RecordFault>
         ensures { Follows F.seen (handed_on (record {
           header = header.now;
@@ -38,7 +39,7 @@ impl<F: FileSeries> PeerState<F> {
           octets = datagram.now;
         })) false self.old self.new result }
     {
-        match self.recorder.take(alloc, datagram, &mut self.files)? {
+        match self.recorder.take(alloc, datagram, now, &mut self.files)? {
             PeerAnswer::Recorded(count) => {
                 let counts = counts_of(&count);
                 match self.window.note(alloc, header, datagram, second, counts) {
@@ -59,14 +60,21 @@ impl<F: FileSeries> PeerState<F> {
         }
     }
 
-    /// Hands on a datagram that waited.
+    /// Hands on a datagram that waited, now.
     pub(crate) fn hand_on_waiting(
         &mut self,
         alloc: Global,
         waiting: &Datagram,
+        now: u64,
     ) -> Result<(), RecordFault>
         ensures { Follows F.seen (handed_on waiting.now) false self.old self.new result }
     {
-        self.hand_on(alloc, &waiting.header(), waiting.octets(), waiting.second())
+        self.hand_on(
+            alloc,
+            &waiting.header(),
+            waiting.octets(),
+            waiting.second(),
+            now,
+        )
     }
 }

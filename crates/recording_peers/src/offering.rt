@@ -25,8 +25,8 @@ impl<F: FileSeries> PeerState<F> {
           octets = datagram.now;
         }) r) false self.old self.new result }
     {
-        self.empty(alloc, header.domain)?;
-        self.hand_on(alloc, header, datagram, second)
+        self.empty(alloc, header.domain, second)?;
+        self.hand_on(alloc, header, datagram, second, second)
     }
 
     // Offers a datagram to the window, and again after each other one that is first.
@@ -45,15 +45,15 @@ impl<F: FileSeries> PeerState<F> {
     {
         for _round in 0..=self.window.waiting_count() {
             match self.window.offer(alloc, header, datagram, second) {
-                Ok(Offer::Write) => return self.hand_on(alloc, header, datagram, second),
+                Ok(Offer::Write) => return self.hand_on(alloc, header, datagram, second, second),
                 Ok(Offer::Waits) => return Ok(()),
                 Ok(Offer::Doubled) => return Ok(()),
-                Ok(Offer::First(first)) => self.hand_on_waiting(alloc, &first)?,
+                Ok(Offer::First(first)) => self.hand_on_waiting(alloc, &first, second)?,
                 Ok(Offer::Anew) => return self.begin_anew(alloc, header, datagram, second),
                 Err(_) => return Err(self.recorder.end()),
             }
         }
-        self.hand_on(alloc, header, datagram, second)
+        self.hand_on(alloc, header, datagram, second, second)
     }
 
     /// Takes a datagram that has this header, and hands on those that waited for it.

@@ -51,7 +51,7 @@ impl<F: FileSeries> PeerState<F> {
         ensures earlier { result.recorder.earlier ≡ left_listed earlier.entries }
     {
         PeerState {
-            recorder: PeerRecorder::new(alloc, earlier, limits.templates),
+            recorder: PeerRecorder::new(alloc, earlier, limits.templates, limits.reorder),
             files,
             window: Window::new(alloc, limits.reorder),
             heard: now,

@@ -1,6 +1,7 @@
 //! Datagrams in memory, for tests.
 
-ghost use Rattle.std.specs.Prelude.{◌≡◌, ◌≤◌, [], false, length, take};
+ghost use Rattle.std.specs.Prelude.{◌≡◌, ◌⊎◌, ◌≤◌, [], ◌∷◌, false, true, length, slice_get, take, IfOk};
+ghost use Rattle.recording_peers.specs.Answers.{Gives, answer_of};
 
 use crate::datagram_source::{Datagram, DatagramSource, NoDatagram};
 use std::net::SocketAddr;
@@ -47,11 +48,18 @@ fn copy_front(text: &[u8], buffer: &mut [u8])
 
 impl DatagramSource for ScriptDatagrams {
     ghost use Rattle.std.specs.Prelude.{◌≡◌, false};
-    ghost use Rattle.recording_peers.specs.Scripts.{AreFirst};
+    ghost use Rattle.recording_peers.specs.Scripts.{AreFirst, IsTooLong};
 
     ghost answered = { λ s answers. s.is_stuck ≡ false → AreFirst s.script.items s.next answers };
 
-    fn receive(&mut self, buffer: &mut [u8]) -> Result<Datagram, NoDatagram> {
+    fn receive(&mut self, buffer: &mut [u8]) -> Result<Datagram, NoDatagram>
+        ensures fits { IfOk result (λ d. d.length ≤ length buffer.new) }
+        ensures gives { Gives ⟦<ScriptDatagrams as DatagramSource>⟧.answered
+            (answer_of result buffer.new ∷ []) self.old self.new }
+        // Only a datagram that is longer than the buffer makes it fail.
+        ensures stuck { self.new.is_stuck ≡ true → (self.old.is_stuck ≡ true)
+            ⊎ IsTooLong (length buffer.old) (slice_get self.old.script.items self.old.next) }
+    {
         match self.script.get(self.next) {
             Some(Ok(datagram)) => {
                 let length = datagram.octets.len();

@@ -23,13 +23,13 @@ impl<F: FileSeries> PeerState<F> {
             let Some(next) = self.window.next(domain, second) else {
                 return Ok(());
             };
-            self.hand_on_waiting(alloc, &next)?;
+            self.hand_on_waiting(alloc, &next, second)?;
         }
         Ok(())
     }
 
-    /// Hands on all of a domain that wait, the least first.
-    pub(crate) fn empty(&mut self, alloc: Global, domain: u32) -> Result<(), RecordFault>
+    /// Hands on all of a domain that wait, the least first, now.
+    pub(crate) fn empty(&mut self, alloc: Global, domain: u32, now: u64) -> Result<(), RecordFault>
         ensures { Follows F.seen (λ says r. releases.empty says domain r) false self.old self.new
             result }
     {
@@ -37,7 +37,7 @@ impl<F: FileSeries> PeerState<F> {
             let Some(next) = self.window.leave_domain(domain) else {
                 return Ok(());
             };
-            self.hand_on_waiting(alloc, &next)?;
+            self.hand_on_waiting(alloc, &next, now)?;
         }
         Ok(())
     }
@@ -56,8 +56,8 @@ impl<F: FileSeries> PeerState<F> {
         Ok(())
     }
 
-    /// At the end of the session all that wait are recorded, those of a domain in their order. The fault is as
-    /// that of [`PeerState::take`].
+    /// At the end of the session all that wait are recorded, those of a domain in their order, at the second of the last datagram that
+    /// came. The fault is as that of [`PeerState::take`].
     pub fn release(&mut self, alloc: Global) -> Result<(), RecordFault>
         ensures { Follows F.seen releases.finish false self.old self.new result }
     {
@@ -65,7 +65,7 @@ impl<F: FileSeries> PeerState<F> {
             let Some(next) = self.window.leave() else {
                 return Ok(());
             };
-            self.hand_on_waiting(alloc, &next)?;
+            self.hand_on_waiting(alloc, &next, self.heard)?;
         }
         Ok(())
     }

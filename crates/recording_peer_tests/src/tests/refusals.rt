@@ -75,7 +75,7 @@ const DEFINES_300_AND_CHANGES_256: &[u8] = &[
 #[test]
 fn a_template_without_room_is_known_no_more(rt: HostRuntime) -> Result<(), Fail> {
     let alloc: Global = rt.alloc();
-    let mut peer = PeerRecorder::new(alloc, BTreeMap::new(alloc), 28);
+    let mut peer = PeerRecorder::new(alloc, BTreeMap::new(alloc), 28, 0);
     let mut files = MemoryFiles::new(alloc, 100_000);
     assert!(rt; is_recorded(take(alloc, &mut peer, ONE_FLOW, &mut files)));
     let answer = take(alloc, &mut peer, DEFINES_300_AND_CHANGES_256, &mut files);

@@ -63,7 +63,7 @@ fn recorded(sequence: u32, records: u64, unknown_sets: u64) -> Answer {
 #[test]
 fn templates_are_resumed(rt: HostRuntime) -> Result<(), Fail> {
     let alloc: Global = rt.alloc();
-    let mut peer = PeerRecorder::new(alloc, left_by(alloc, FIRST_OF_1)?, BUDGET);
+    let mut peer = PeerRecorder::new(alloc, left_by(alloc, FIRST_OF_1)?, BUDGET, 0);
     let mut files = MemoryFiles::new(alloc, 100_000);
     let answer = take(alloc, &mut peer, SECOND_OF_1, &mut files);
     assert_eq!(rt; answer, Ok(recorded(3, 2, 0)));
@@ -76,7 +76,7 @@ fn templates_are_resumed(rt: HostRuntime) -> Result<(), Fail> {
 #[test]
 fn a_domain_goes_on_once(rt: HostRuntime) -> Result<(), Fail> {
     let alloc: Global = rt.alloc();
-    let mut peer = PeerRecorder::new(alloc, left_by(alloc, FIRST_OF_1)?, BUDGET);
+    let mut peer = PeerRecorder::new(alloc, left_by(alloc, FIRST_OF_1)?, BUDGET, 0);
     let mut files = MemoryFiles::new(alloc, 100_000);
     let _ = take(alloc, &mut peer, FROM_BEFORE, &mut files);
     let _ = take(alloc, &mut peer, SECOND_OF_1, &mut files);
@@ -93,7 +93,7 @@ fn a_domain_goes_on_once(rt: HostRuntime) -> Result<(), Fail> {
 #[test]
 fn what_is_missing_between_is_a_gap(rt: HostRuntime) -> Result<(), Fail> {
     let alloc: Global = rt.alloc();
-    let mut peer = PeerRecorder::new(alloc, left_by(alloc, FIRST_OF_1)?, BUDGET);
+    let mut peer = PeerRecorder::new(alloc, left_by(alloc, FIRST_OF_1)?, BUDGET, 0);
     let mut files = MemoryFiles::new(alloc, 100_000);
     let answer = take(alloc, &mut peer, AFTER_A_GAP, &mut files);
     assert_eq!(rt; answer, Ok(recorded(5, 1, 0)));
@@ -106,7 +106,7 @@ fn what_is_missing_between_is_a_gap(rt: HostRuntime) -> Result<(), Fail> {
 #[test]
 fn one_from_before_is_read_without_them(rt: HostRuntime) -> Result<(), Fail> {
     let alloc: Global = rt.alloc();
-    let mut peer = PeerRecorder::new(alloc, left_by(alloc, FIRST_OF_1)?, BUDGET);
+    let mut peer = PeerRecorder::new(alloc, left_by(alloc, FIRST_OF_1)?, BUDGET, 0);
     let mut files = MemoryFiles::new(alloc, 100_000);
     let first = take(alloc, &mut peer, FROM_BEFORE, &mut files);
     let second = take(alloc, &mut peer, SECOND_OF_1, &mut files);
@@ -119,7 +119,7 @@ fn one_from_before_is_read_without_them(rt: HostRuntime) -> Result<(), Fail> {
 #[test]
 fn two_from_before_end_them(rt: HostRuntime) -> Result<(), Fail> {
     let alloc: Global = rt.alloc();
-    let mut peer = PeerRecorder::new(alloc, left_by(alloc, FIRST_OF_1)?, BUDGET);
+    let mut peer = PeerRecorder::new(alloc, left_by(alloc, FIRST_OF_1)?, BUDGET, 0);
     let mut files = MemoryFiles::new(alloc, 100_000);
     let first = take(alloc, &mut peer, FROM_BEFORE, &mut files);
     let second = take(alloc, &mut peer, FROM_BEFORE, &mut files);
@@ -134,7 +134,7 @@ fn two_from_before_end_them(rt: HostRuntime) -> Result<(), Fail> {
 #[test]
 fn other_domains_begin_as_ever(rt: HostRuntime) -> Result<(), Fail> {
     let alloc: Global = rt.alloc();
-    let mut peer = PeerRecorder::new(alloc, left_by(alloc, FIRST_OF_1)?, BUDGET);
+    let mut peer = PeerRecorder::new(alloc, left_by(alloc, FIRST_OF_1)?, BUDGET, 0);
     let mut files = MemoryFiles::new(alloc, 100_000);
     let answer = take(alloc, &mut peer, LAST_OF_2, &mut files);
     assert_eq!(rt; answer, Ok(recorded(1, 0, 1)));

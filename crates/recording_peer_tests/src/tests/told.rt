@@ -24,7 +24,7 @@ pub const BUDGET: u64 = 16_384;
 
 /// A peer of which nothing has come.
 pub fn new_peer(alloc: Global) -> PeerRecorder {
-    PeerRecorder::new(alloc, BTreeMap::new(alloc), BUDGET)
+    PeerRecorder::new(alloc, BTreeMap::new(alloc), BUDGET, 0)
 }
 
 /// What was answered of a datagram.
@@ -51,7 +51,18 @@ pub fn take(
     datagram: &[u8],
     files: &mut MemoryFiles,
 ) -> Result<Answer, RecordFault> {
-    match peer.take(alloc, datagram, files) {
+    take_at(alloc, peer, datagram, 0, files)
+}
+
+/// Takes a datagram at a second.
+pub fn take_at(
+    alloc: Global,
+    peer: &mut PeerRecorder,
+    datagram: &[u8],
+    second: u64,
+    files: &mut MemoryFiles,
+) -> Result<Answer, RecordFault> {
+    match peer.take(alloc, datagram, second, files) {
         Ok(PeerAnswer::Recorded(count)) => Ok(Answer::Recorded(Count {
             sequence: count.header.sequence,
             records: count.records,

@@ -3,16 +3,20 @@
 use ipfix_wire::{Header, write_header, write_set};
 use std::alloc::{AllocError, Global};
 
-// A datagram with a sequence number and one set.
+// The export time of the first datagrams.
+const FIRST: u32 = 1_700_000_000;
+
+// A datagram with an export time, a sequence number and one set.
 fn message(
     alloc: Global,
+    export_time: u32,
     sequence: u32,
     set_id: u16,
     body: &[u8; 8],
 ) -> Result<Vec<u8>, AllocError> {
     let header = Header {
         length: 28,
-        export_time: 1_700_000_000,
+        export_time,
         sequence,
         domain: 1,
     };
@@ -25,11 +29,21 @@ fn message(
 
 /// One with template 256 only: an address, in so many octets.
 pub fn template(alloc: Global, sequence: u32, length: u8) -> Result<Vec<u8>, AllocError> {
+    template_after(alloc, 0, sequence, length)
+}
+
+/// The same, sent so many seconds after the first datagrams.
+pub fn template_after(
+    alloc: Global,
+    seconds: u32,
+    sequence: u32,
+    length: u8,
+) -> Result<Vec<u8>, AllocError> {
     let body = [0x01, 0x00, 0x00, 0x01, 0x00, 0x08, 0x00, length];
-    message(alloc, sequence, 2, &body)
+    message(alloc, FIRST.saturating_add(seconds), sequence, 2, &body)
 }
 
 /// One with two data records of template 256.
 pub fn two_records(alloc: Global, sequence: u32) -> Result<Vec<u8>, AllocError> {
-    message(alloc, sequence, 256, &[192, 0, 2, 1, 192, 0, 2, 2])
+    message(alloc, FIRST, sequence, 256, &[192, 0, 2, 1, 192, 0, 2, 2])
 }

@@ -134,3 +134,27 @@ fn with_no_seconds_each_is_recorded_at_once(rt: HostRuntime) -> Result<(), Fail>
     assert_eq!(rt; orders_in_turn(alloc, &mut peers, 11, true), (0, 0));
     Ok(())
 }
+
+// A newer template waited, and was recorded at second 12. A copy of the old one that was sent before it, and comes a second later, is
+// refused; one that comes after that is recorded.
+#[test]
+fn a_late_copy_of_an_old_template_is_refused(rt: HostRuntime) -> Result<(), Fail> {
+    let alloc = rt.alloc();
+    let mut peers = two_peers(&rt)?;
+    take_all(alloc, &mut peers, &[0])?;
+    record(
+        alloc,
+        &mut peers,
+        1,
+        &template_after(alloc, 2, 4, 2)?,
+        10_000,
+    );
+    orders_in_turn(alloc, &mut peers, 12, false);
+    assert!(rt; ends_with(&peers, 1, &template_after(alloc, 2, 4, 2)?));
+    record_at(alloc, &mut peers, 1, &template_after(alloc, 1, 2, 4)?, 13);
+    assert!(rt; ends_with(&peers, 1, &template_after(alloc, 2, 4, 2)?));
+    assert_eq!(rt; refused_in_turn(alloc, &mut peers), Some(1));
+    record_at(alloc, &mut peers, 1, &template_after(alloc, 1, 2, 4)?, 14);
+    assert!(rt; ends_with(&peers, 1, &template_after(alloc, 1, 2, 4)?));
+    Ok(())
+}

@@ -95,7 +95,22 @@ pub fn record(
         room,
         is_busy: false,
     };
-    record_in(alloc, peers, place, number, datagram)
+    record_in(alloc, peers, place, number, datagram, 10)
+}
+
+/// The same at another second.
+pub fn record_at(
+    alloc: Global,
+    peers: &mut Peers<MemoryFiles>,
+    number: u8,
+    datagram: &[u8],
+    second: u64,
+) -> (Answer, Option<SocketAddr>) {
+    let place = MemoryPlace {
+        room: 10_000,
+        is_busy: false,
+    };
+    record_in(alloc, peers, place, number, datagram, second)
 }
 
 /// The same in a place that is busy.
@@ -109,7 +124,7 @@ pub fn record_busy(
         room: 1000,
         is_busy: true,
     };
-    record_in(alloc, peers, place, number, datagram)
+    record_in(alloc, peers, place, number, datagram, 10)
 }
 
 fn record_in(
@@ -118,8 +133,9 @@ fn record_in(
     mut place: MemoryPlace,
     number: u8,
     datagram: &[u8],
+    second: u64,
 ) -> (Answer, Option<SocketAddr>) {
-    let Outcome { became, gone } = peers.record(alloc, &mut place, peer(number), datagram, 10);
+    let Outcome { became, gone } = peers.record(alloc, &mut place, peer(number), datagram, second);
     (answer_of(became), peer_of(gone))
 }
 

@@ -6,7 +6,7 @@ pub returns-clause-reads : goal.returns-clause-reads
 returns-clause-reads c = λ ds represents keeps.
     let m = c.args.datagram.now in
     let h = c.args.header.now in
-    let basis = basis_of c.args.known.now c.args.resumed.now h.domain in
+    let basis = basis_of c.args.resumed.now c.args.barred.now in
     let r = c.in_ok-reading.reading in
     let x = c.in_ok-reading.ensures.reads ds represents keeps in
     c.in_ok-answer.ensures.answers (record {

@@ -1,10 +1,10 @@
-use Rattle.std.proofs.Common.{ℕ, List, Some, None, refl, subst, inl}
+use Rattle.std.proofs.Common.{Some, None, refl, inl}
 use Rattle.std.specs.BTreeMap.{values}
 use Rattle.std.proofs.lemmas.Result.{err_from_is_err_and}
 use Rattle.ipfix_message.specs.Outcome.{Fails}
 use Rattle.ipfix_datagrams.specs.declared.reading.DatagramReading.{DatagramReading}
-use Rattle.ipfix_datagrams.specs.Datagrams.{IsRefused, basis_of, given_after}
-use Rattle.ipfix_datagrams.specs.Attempts.{FirstReads, Reads}
+use Rattle.ipfix_datagrams.specs.Datagrams.{basis_of, given_after}
+use Rattle.ipfix_datagrams.specs.Attempts.{Reads}
 use Rattle.ipfix_datagrams.specs.Readings.{AreSetsOf}
 use Rattle.ipfix_datagrams.proofs.Resumed.{are_before}
 use Rattle.ipfix_datagrams.proofs.Attempting.{attempted}
@@ -14,7 +14,7 @@ use Rattle.ipfix_datagrams.proofs.reading.read_kept.Goals as goal
 pub returns-in_err-reading-clause-reads : goal.returns-in_err-reading-clause-reads
 returns-in_err-reading-clause-reads c = λ ds represents keeps.
     let e = err_from_is_err_and c.from_residual.result c.from_residual.ensures.1 in
-    rw (e.1, e.2) (subst (λ (ids : List ℕ). IsRefused (record { resumed = values c.args.resumed.now; barred = ids }) ds c.args.datagram.now c.in_err-reading.field-0.0) c.barred_in-barred.ensures (c.in_err-reading.ensures.reads ds represents (values c.args.resumed.now)))
+    rw (e.1, e.2) (c.in_err-reading.ensures.reads ds represents (values c.args.resumed.now))
 
 pub returns-in_err-defined-clause-reads : goal.returns-in_err-defined-clause-reads
 returns-in_err-defined-clause-reads c = λ ds represents keeps.
@@ -28,8 +28,8 @@ returns-then-is_empty-clause-reads c = λ ds represents keeps.
     let m = c.args.datagram.now in
     let d = c.args.header.now.domain in
     let r = c.in_ok-reading.reading in
-    let basis = basis_of c.args.known.now c.args.resumed.now d in
-    let f = subst (λ (ids : List ℕ). FirstReads ids ds d m r.withdrawn.items r.after) c.barred_in-barred.ensures (c.in_ok-reading.ensures.reads ds represents) in
+    let basis = basis_of c.args.resumed.now c.args.barred.now in
+    let f = c.in_ok-reading.ensures.reads ds represents in
     let before = c.in_ok-defined.ensures.before ds m represents keeps (record { octets = c.after_header-sets.ensures.octets; defines = has_first c.args.definitions m c.requires.defines }) in
     let are = are_before basis ds m d c.in_ok-defined.defined c.in_ok-defined.ensures.ordered before in
     let answer : DatagramReading = record { withdrawn = r.withdrawn; defined = c.in_ok-defined.defined; definitions = c.args.definitions.last; withdrawals = c.args.definitions.withdrawals; after = r.after; weights = None } in
@@ -41,8 +41,8 @@ returns-in_err-after-clause-reads c = λ ds represents keeps.
     let m = c.args.datagram.now in
     let d = c.args.header.now.domain in
     let r = c.in_ok-reading.reading in
-    let basis = basis_of c.args.known.now c.args.resumed.now d in
-    let f = subst (λ (ids : List ℕ). FirstReads ids ds d m r.withdrawn.items r.after) c.barred_in-barred.ensures (c.in_ok-reading.ensures.reads ds represents) in
+    let basis = basis_of c.args.resumed.now c.args.barred.now in
+    let f = c.in_ok-reading.ensures.reads ds represents in
     let before = c.in_ok-defined.ensures.before ds m represents keeps (record { octets = c.after_header-sets.ensures.octets; defines = has_first c.args.definitions m c.requires.defines }) in
     let are = are_before basis ds m d c.in_ok-defined.defined c.in_ok-defined.ensures.ordered before in
     let ts = values c.in_ok-defined.defined in
@@ -57,8 +57,8 @@ returns-clause-reads c = λ ds represents keeps.
     let m = c.args.datagram.now in
     let d = c.args.header.now.domain in
     let r = c.in_ok-reading.reading in
-    let basis = basis_of c.args.known.now c.args.resumed.now d in
-    let f = subst (λ (ids : List ℕ). FirstReads ids ds d m r.withdrawn.items r.after) c.barred_in-barred.ensures (c.in_ok-reading.ensures.reads ds represents) in
+    let basis = basis_of c.args.resumed.now c.args.barred.now in
+    let f = c.in_ok-reading.ensures.reads ds represents in
     let before = c.in_ok-defined.ensures.before ds m represents keeps (record { octets = c.after_header-sets.ensures.octets; defines = has_first c.args.definitions m c.requires.defines }) in
     let are = are_before basis ds m d c.in_ok-defined.defined c.in_ok-defined.ensures.ordered before in
     let ts = values c.in_ok-defined.defined in

@@ -1,38 +1,46 @@
-use Rattle.std.proofs.Common.{◌≡◌, Some, None, List, [], sym, ap, subst, ◌∙◌, rules}
-use Rattle.std.specs.Prelude.{MatchResult}
-use Rattle.std.specs.Ordering.{nat_cmp}
-use Rattle.std.specs.BTreeMap.{get, values}
-use Rattle.ipfix_message.specs.declared.record.Template.{Template}
-use Rattle.ipfix_datagrams.specs.Datagrams.{IsRefused, Answers as AnswersOf, barred_in}
-use Rattle.ipfix_datagrams.proofs.Answered.{no_values}
-use Rattle.recording_resumption.specs.Resumption.{resumed_by}
-use Rattle.recording_peer.specs.Peers.{known_after_all, resumed_of}
-use Rattle.recording_peer.specs.Recording.{PeerView, resumed_for, taken_in}
-use Rattle.recording_peer.proofs.Leaving.{left_as_kept, resumed_now, resumed_with}
-use Rattle.recording_peer.proofs.Listed.{keeps_known, reads_as}
+use Rattle.std.proofs.Common.{◌≡◌, ℕ, List, true, false, sym, ap, subst, ◌∙◌}
+use Rattle.std.proofs.lemmas.Result.{err_from_is_err_and}
+use Rattle.recording_peer.specs.Fronts.{ReadsWhere}
+use Rattle.recording_peer.specs.Late.{is_late}
+use Rattle.recording_peer.specs.Peers.{known_after_all}
+use Rattle.recording_peer.specs.Recording.{KnownShown, PeerView, known_shown, taken_in}
+use Rattle.recording_peer.proofs.Lateness.{barred_is, fails_late, reads_late, reads_on_time}
+use Rattle.recording_peer.proofs.Listed.{keeps_known}
 use Rattle.recording_peer.proofs.Taking.{inside_of, represents}
 use Rattle.recording_peer.proofs.peer_recorder.PeerRecorder.read.Goals as goal
 
-pub returns-in-Some-clause-reads : goal.returns-in-Some-clause-reads
-returns-in-Some-clause-reads c = λ first after filed p.
-    let m = c.args.datagram.now in
+pub returns-then-not-is_late-clause-reads : goal.returns-then-not-is_late-clause-reads
+returns-then-not-is_late-clause-reads c = λ first after filed p.
+    let s = c.args.self.now in
     let h = c.args.header.now in
-    let known = known_after_all (taken_in filed) in
-    let now = inside_of c.self.view_is p in
-    let found : resumed_by (get nat_cmp c.self.inside.earlier h.domain) h ≡ Some c.in-Some.domain.now = search rules in
-    let is : resumed_for filed m ≡ resumed_of (Some c.in-Some.domain.now) = resumed_with filed m h c.requires ∙ sym (resumed_now c.self.inside.earlier filed h (left_as_kept c.self.inside.earlier filed.earlier (taken_in filed) now.left)) ∙ ap resumed_of found in
-    reads_as c.args.self.now c.self.inside.known filed m h (resumed_of (Some c.in-Some.domain.now)) c.read_datagram.result (ap (λ (s : PeerView). s.known) c.self.view_is) c.requires is
-    (c.read_datagram.ensures.reads known (represents c.domains-domains.result.now now c.domains-domains.ensures) (keeps_known c.self.inside.known known now.withdrawn now.fits))
+    let shown : known_shown c.self.inside.known ≡ s.known = ap (λ (v : PeerView). v.known) c.self.view_is in
+    let not_late : is_late s.known.reorder (taken_in filed) h ≡ false = sym (c.is_late.ensures first after filed p) ∙ c.if-not-is_late.true in
+    reads_on_time s filed c.args.second c.args.datagram.now h c.barred_in-barred.result.now c.read_where.result not_late
+    (barred_is s c.self.inside.known c.barred_in-barred.result.now h.domain shown c.barred_in-barred.ensures) (c.read_where.ensures.reads first after filed p)
 
-pub returns-in-None-clause-reads : goal.returns-in-None-clause-reads
-returns-in-None-clause-reads c = λ first after filed p.
-    let m = c.args.datagram.now in
+pub returns-in_err-barred-clause-reads : goal.returns-in_err-barred-clause-reads
+returns-in_err-barred-clause-reads c = λ first after filed p.
+    let s = c.args.self.now in
     let h = c.args.header.now in
     let known = known_after_all (taken_in filed) in
     let now = inside_of c.self.view_is p in
-    let found : resumed_by (get nat_cmp c.self.inside.earlier h.domain) h ≡ None = search rules in
-    let is : resumed_for filed m ≡ resumed_of None = resumed_with filed m h c.requires ∙ sym (resumed_now c.self.inside.earlier filed h (left_as_kept c.self.inside.earlier filed.earlier (taken_in filed) now.left)) ∙ ap resumed_of found in
-    let none : values c.new-none.result ≡ [] = no_values c.new-none.result c.new-none.ensures.len in
-    reads_as c.args.self.now c.self.inside.known filed m h (resumed_of None) c.read_datagram-in-None.result (ap (λ (s : PeerView). s.known) c.self.view_is) c.requires is
-    (subst (λ (ts : List Template). MatchResult c.read_datagram-in-None.result (AnswersOf (record { resumed = ts; barred = barred_in c.self.inside.known.barred h.domain }) c.self.inside.known.budget known m) (IsRefused (record { resumed = ts; barred = barred_in c.self.inside.known.barred h.domain }) known m)) none
-    (c.read_datagram-in-None.ensures.reads known (represents c.domains-domains.result.now now c.domains-domains.ensures) (keeps_known c.self.inside.known known now.withdrawn now.fits)))
+    let shown : known_shown c.self.inside.known ≡ s.known = ap (λ (v : PeerView). v.known) c.self.view_is in
+    let late : is_late s.known.reorder (taken_in filed) h ≡ true = sym (c.is_late.ensures first after filed p) ∙ c.if-not-is_late.false in
+    let e = err_from_is_err_and c.from_residual.result c.from_residual.ensures.1 in
+    rw (e.1, e.2) (fails_late s c.self.inside.known filed c.args.second c.args.datagram.now h c.in_err-barred.field-0.0 shown p.times late
+    (c.in_err-barred.ensures known (represents c.domains-domains.result.now now c.domains-domains.ensures) (keeps_known c.self.inside.known known now.withdrawn now.fits)))
+
+pub returns-clause-reads : goal.returns-clause-reads
+returns-clause-reads c = λ first after filed p.
+    let s = c.args.self.now in
+    let h = c.args.header.now in
+    let known = known_after_all (taken_in filed) in
+    let now = inside_of c.self.view_is p in
+    let shown : known_shown c.self.inside.known ≡ s.known = ap (λ (v : PeerView). v.known) c.self.view_is in
+    let late : is_late s.known.reorder (taken_in filed) h ≡ true = sym (c.is_late.ensures first after filed p) ∙ c.if-not-is_late.false in
+    let m = c.args.datagram.now in
+    let barred = c.in_ok-barred.barred.items in
+    let result = c.read_where-2.result in
+    reads_late s c.self.inside.known filed c.args.second m h barred result shown p.times late
+    (c.in_ok-barred.ensures known (represents c.domains-domains.result.now now c.domains-domains.ensures) (keeps_known c.self.inside.known known now.withdrawn now.fits))
+    (subst (λ (ids : List ℕ). ReadsWhere s filed m ids result) c.deref.ensures.value (c.read_where-2.ensures.reads first after filed p))
