@@ -3,12 +3,12 @@
 ghost use Rattle.std.specs.Prelude.{◌≡◌};
 ghost use Rattle.std.specs.Option.{option_map};
 ghost use Rattle.flow_filtered_plan.specs.FilteredPlans.{filter_of};
-ghost use Rattle.flow_plan_maps.specs.Wants.{wanted_context as context_wanted, wanted_options as options_wanted};
+ghost use Rattle.flow_plan_maps.specs.Wants.{refuses_sampled as is_refusing, wanted_context as context_wanted, wanted_options as options_wanted};
 
 use crate::arguments::TableArguments;
 use command_collect::{CollectJob, Engine};
 use flow_maps::Maps;
-use flow_plan_maps::{wanted_context, wanted_options};
+use flow_plan_maps::{refuses_sampled, wanted_context, wanted_options};
 use input_sources::LoadedPlan;
 use std::net::IpAddr;
 
@@ -29,6 +29,9 @@ pub fn collect_job<'a>(
     ensures options { result.options ≡ options_wanted loaded.now.read }
     ensures filter { option_map (λ f. f.now) result.filter ≡ filter_of loaded.now.read }
     ensures maps { result.maps ≡ maps.entry }
+    // Where the plan counts estimates records get these, and where it refuses sampled records the run does.
+    ensures estimates { option_map (λ e. e.now) result.estimates ≡ loaded.now.estimates }
+    ensures refuses { result.refuses_sampled ≡ is_refusing loaded.now.read }
     ensures exporters { result.exporters.now ≡ exporters.now }
     // The rest is as the command is given.
     ensures engine { result.engine ≡ engine }
@@ -44,6 +47,8 @@ pub fn collect_job<'a>(
         wanted: wanted_context(&loaded.read, &loaded.maps),
         options: wanted_options(&loaded.read),
         maps,
+        estimates: loaded.estimates.as_ref(),
+        refuses_sampled: refuses_sampled(&loaded.read),
         filter: loaded.read.conditions(),
         exporters,
     }

@@ -1,26 +1,24 @@
 -- How a command ended that collects, by how its sources were had and run.
-use Rattle.std.proofs.Common.{◌≡◌, ℕ, List, [], ◌++◌, All, Option, None, inl, inr, length, subst}
+use Rattle.std.proofs.Common.{◌≡◌, ℕ, List, [], ◌++◌, All, Option, inl, inr, length, subst}
+use Rattle.std.specs.Prelude.{is_some}
 use Rattle.std.proofs.lemmas.Option.{IfSome_then}
 use Rattle.std.specs.declared.io.ErrorKind.{ErrorKind}
 use Rattle.ipfix_session.specs.Ledger.{capped}
 use Rattle.ipfix_session.specs.Sources.{SourceView}
 use Rattle.report_writing.specs.declared.origin.Origin.{Origin}
-use Rattle.report_writing.specs.declared.verbosity.TheConstants.{NOTHING_MORE}
 use Rattle.report_writing.proofs.Ended.{never_two, one_of_four}
 use Rattle.flow_collect.specs.InFull.{fulls_in}
-use Rattle.exporter_options.specs.declared.beside.TheConstants as asked
-use Rattle.flow_collect.specs.declared.session_context.TheConstants.{NOTHING_WANTED}
 use Rattle.input_sources.specs.Had.{IsUnread}
 use Rattle.input_sources.specs.InputsTold.{opened_lines}
 use Rattle.output_tables.proofs.BuiltIn.{written_built_in}
 use Rattle.command_collect.specs.Collects.{Collects, CollectsJob, CollectsPlainly}
 use Rattle.command_collect.specs.Engines.{due_fault}
 use Rattle.command_collect.specs.Exporters.{in_context}
-use Rattle.command_collect.specs.Gathered.{all_filtered}
+use Rattle.command_collect.specs.Gathered.{all_filtered, samplings_in}
 use Rattle.command_collect.specs.Runs.{RunsJob, RunsPlainly}
 use Rattle.command_collect.specs.declared.job.CollectJob.{CollectJob}
 use Rattle.command_collect.proofs.LinesTold.{behind_nothing, fault_told, is_strict, plain_lines}
-use Rattle.command_collect.proofs.Ran.{ends_so, fault_plain, not_exported_short, plainly_given, table_short}
+use Rattle.command_collect.proofs.Ran.{IsPlainJob, ends_so, fault_plain, not_exported_short, plainly_given, table_short}
 
 -- no source was had
 pub not_collected : (status : ℕ) (IsUntouched Ran TellsNotHad : Type 0) → status ≡ 2 → IsUntouched → TellsNotHad → Collects status IsUntouched Ran TellsNotHad
@@ -34,25 +32,25 @@ module _ {S W : Type 0} (seen : S → SourceView) (failure : S → Option ErrorK
   retold Told AreTold sources origins otherwise r =
       record {
         statuses = r.statuses;
-        table = λ ran. ends_so seen job.verbosity.strict job.plan.now job.engine status _ _ (in_context job sources origins) (λ c ends. (ends.0, record { ended = ends.1.ended; are_ended = ends.1.are_ended; told = otherwise _ ends.1.told })) (r.table ran);
+        table = λ ran. ends_so seen job.verbosity.strict (is_some job.estimates) job.plan.now job.engine status _ _ (in_context job sources origins) (λ c ends. (ends.0, record { ended = ends.1.ended; are_ended = ends.1.are_ended; told = otherwise _ ends.1.told })) (r.table ran);
         failed = λ three. fault_told (new ≡ old) _ _ _ _ Told AreTold (λ fault is. is) (λ fault is. is) otherwise (r.failed three);
         refused = IfSome_then (due_fault job.engine (length sources)) r.refused (λ fault refused. (refused.0, refused.1, otherwise _ refused.2));
       }
 
   -- a run that has no options
-  pub runs_plainly : (AreTold : List ℕ → Type 0) (sources : List S) (origins : List Origin) → job.elements.now ≡ [] → job.verbosity ≡ NOTHING_MORE → job.wanted ≡ NOTHING_WANTED → job.options ≡ asked.NOTHING_WANTED → job.maps ≡ None → job.filter ≡ None → RunsJob contents old new AreTold seen failure sources job origins status
+  pub runs_plainly : (AreTold : List ℕ → Type 0) (sources : List S) (origins : List Origin) → IsPlainJob job → RunsJob contents old new AreTold seen failure sources job origins status
       → RunsPlainly contents old new AreTold seen sources job.plan.now job.engine job.output status
-  runs_plainly AreTold sources origins no_files plain none unasked unmapped all r =
+  runs_plainly AreTold sources origins plain r =
       let given = in_context job sources origins in
-      let plainly = plainly_given job sources origins none unasked unmapped all in
+      let plainly = plainly_given job sources origins plain in
       record {
         statuses = r.statuses;
         table = λ ran.
-            table_short seen job.verbosity.strict job.plan.now job.engine status given sources plainly _ _ (is_strict job plain)
-            (λ c ends. (written_built_in job.elements.now job.plan.now job.output _ _ c.table no_files ends.0, subst AreTold (plain_lines job plain all origins (fulls_in c.sessions.items) c.table (capped (all_filtered c.sessions.items)) ends.1.ended ends.1.are_ended.reports) ends.1.told)) (r.table ran);
+            table_short seen job.verbosity.strict (is_some job.estimates) job.plan.now job.engine status given sources plainly _ _ (is_strict job plain.quiet)
+            (λ c ends. (written_built_in job.elements.now job.plan.now job.output _ _ c.table plain.no_files ends.0, subst AreTold (plain_lines job plain.quiet plain.all origins (fulls_in c.sessions.items) (samplings_in c.sessions.items) c.table (capped (all_filtered c.sessions.items)) ends.1.ended ends.1.are_ended.reports) ends.1.told)) (r.table ran);
         failed = λ three.
-            fault_told (new ≡ old) _ _ _ _ AreTold AreTold (fault_plain seen job.verbosity.strict job.plan.now job.engine status given sources plainly (length sources))
-            (not_exported_short seen job.verbosity.strict job.plan.now job.engine status given sources plainly job.output (new ≡ old)) (λ lines told. told) (r.failed three);
+            fault_told (new ≡ old) _ _ _ _ AreTold AreTold (fault_plain seen job.verbosity.strict (is_some job.estimates) job.plan.now job.engine status given sources plainly (length sources))
+            (not_exported_short seen job.verbosity.strict (is_some job.estimates) job.plan.now job.engine status given sources plainly job.output (new ≡ old)) (λ lines told. told) (r.failed three);
         refused = r.refused;
       }
 
@@ -82,8 +80,8 @@ module _ {S W : Type 0} (seen : S → SourceView) (failure : S → Option ErrorK
         }
 
     -- where nothing more is told
-    pub collects_plainly : job.elements.now ≡ [] → job.verbosity ≡ NOTHING_MORE → job.wanted ≡ NOTHING_WANTED → job.options ≡ asked.NOTHING_WANTED → job.maps ≡ None → job.filter ≡ None → first ≡ [] → EndsJob → CollectsPlainly seen AreHad TellsNotHad contents old new AreTold status job.plan.now job.engine job.output
-    collects_plainly no_files plain unwanted unasked unmapped all none ends =
+    pub collects_plainly : IsPlainJob job → first ≡ [] → EndsJob → CollectsPlainly seen AreHad TellsNotHad contents old new AreTold status job.plan.now job.engine job.output
+    collects_plainly plain none ends =
         record {
           statuses = ends.statuses;
           ran = λ ran.
@@ -93,8 +91,8 @@ module _ {S W : Type 0} (seen : S → SourceView) (failure : S → Option ErrorK
                 sources = r.sources;
                 had = r.had;
                 unread = r.unread;
-                runs = runs_plainly AreTold r.sources behind.origins no_files plain unwanted unasked unmapped all (retold (λ lines. AreTold (first ++ (opened_lines job.verbosity behind.origins ++ lines))) AreTold r.sources behind.origins
-                    (λ lines told. subst AreTold (behind_nothing job plain first none behind.origins lines) told) behind.told);
+                runs = runs_plainly AreTold r.sources behind.origins plain (retold (λ lines. AreTold (first ++ (opened_lines job.verbosity behind.origins ++ lines))) AreTold r.sources behind.origins
+                    (λ lines told. subst AreTold (behind_nothing job plain.quiet first none behind.origins lines) told) behind.told);
               };
           not_had = ends.not_had;
           stopped = ends.stopped;

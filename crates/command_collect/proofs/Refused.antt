@@ -2,16 +2,16 @@
 use Rattle.std.proofs.Common.{◌≡◌, ℕ, Bool, true, false, List, Option, Some, None, Result, Ok, Err, refl, sym, ap, ◌∙◌, subst}
 use Rattle.std.proofs.lemmas.Option.{IfSome_then}
 use Rattle.std.specs.Prelude.{◌||◌, is_some, if◌then◌else◌, ◌==◌, nat_lt, IfSome, IfNone}
-use Rattle.flow_collect.specs.Refusals.{AreTooLargeInContext, HasFaultsOf, IsLate}
+use Rattle.flow_collect.specs.Refusals.{HasFaultsOrSampled, IsLateInContext}
 use Rattle.ipfix_session.specs.Sources.{SourceView}
 use Rattle.flow_table.specs.Plans.{PlanValue}
 use Rattle.flow_collect.specs.declared.session_context.InContext.{InContext}
 use Rattle.flow_collect.specs.declared.fault.CollectFault.{CollectFault}
-use Rattle.flow_collect.specs.declared.fault.CollectFault.TheVariants.{Workers, Sessions, Link, OutOfMemory, SumTooLarge}
+use Rattle.flow_collect.specs.declared.fault.CollectFault.TheVariants.{Workers, Sessions, Link, OutOfMemory, SumTooLarge, Sampled}
 use Rattle.flow_collect.specs.declared.collected.TheConstants.{MAX_WORKERS, MAX_SESSIONS}
 use Rattle.flow_link.specs.declared.making.TheConstants.{MAX_CAPACITY}
-use Rattle.command_collect.specs.Engines.{due_fault, fault_of_engine}
-use Rattle.command_collect.specs.Runs.{IsCollectFault}
+use Rattle.command_collect.specs.Engines.{due_fault, fault_of_engine, HasFaultsBy}
+use Rattle.command_collect.specs.Runs.{IsJobFault}
 use Rattle.command_collect.specs.declared.engine.Engine.{Engine}
 use Rattle.command_collect.specs.declared.engine.Engine.TheVariants.{Links, Lots}
 
@@ -58,13 +58,14 @@ not_if_none (Some x) P none = absurd (cc none)
 -- ---- what was answered
 
 -- the fault that was answered is the one that there is
-pub collect_fault : {X : Type 0} (n count : ℕ) (TooLarge : Type 0) (engine : Engine) (fault : CollectFault) → n ≡ count
-    → HasFaultsOf {X = X} (due_fault engine n) TooLarge (Err fault) → IsCollectFault count TooLarge engine fault
-collect_fault {X = X} n count TooLarge engine fault same has =
+pub job_fault : {X : Type 0} (n count : ℕ) (TooLarge AreSampled : Type 0) (engine : Engine) (fault : CollectFault) → n ≡ count
+    → HasFaultsOrSampled {X = X} (due_fault engine n) TooLarge AreSampled (Err fault) → IsJobFault count TooLarge AreSampled engine fault
+job_fault {X = X} n count TooLarge AreSampled engine fault same has =
     record {
       arguments = IfSome_then (due_fault engine count) (subst (λ (n : ℕ). IfSome (due_fault engine n) (λ due. ◌≡◌ {A = Result X CollectFault} (Err fault) (Err due))) same has.arguments) (λ due is. cc is);
-      others = subst (λ (n : ℕ). IfNone (due_fault engine n) (IsLate fault)) same has.others;
+      others = subst (λ (n : ℕ). IfNone (due_fault engine n) (IsLateInContext fault)) same has.others;
       too_large = λ is. has.too_large (ap Err is);
+      sampled = λ is. has.sampled (ap Err is);
     }
 
 -- it is theirs, if the arguments have one
@@ -72,61 +73,68 @@ pub refusal_told : (due : Option CollectFault) (fault : CollectFault) (Status Un
 refusal_told due fault Status Untouched Told is status untouched told = IfSome_then due is (λ x same. (status, untouched, subst Told same told))
 
 -- and there is none where none was answered
-pub not_refused : {X : Type 0} (n count : ℕ) (TooLarge : Type 0) (engine : Engine) (collected : X) (P : CollectFault → Type 0) → n ≡ count
-    → HasFaultsOf (due_fault engine n) TooLarge (Ok collected) → IfSome (due_fault engine count) P
-not_refused {X = X} n count TooLarge engine collected P same has =
+pub not_refused : {X : Type 0} (n count : ℕ) (TooLarge AreSampled : Type 0) (engine : Engine) (collected : X) (P : CollectFault → Type 0) → n ≡ count
+    → HasFaultsOrSampled (due_fault engine n) TooLarge AreSampled (Ok collected) → IfSome (due_fault engine count) P
+not_refused {X = X} n count TooLarge AreSampled engine collected P same has =
     IfSome_then (due_fault engine count) (subst (λ (n : ℕ). IfSome (due_fault engine n) (λ due. ◌≡◌ {A = Result X CollectFault} (Ok collected) (Err due))) same has.arguments) (λ due is. absurd (cc is))
 
 the_fault : {X : Type 0} {e f : CollectFault} → ◌≡◌ {A = Result X CollectFault} (Err e) (Err f) → e ≡ f
 the_fault is = cc is
 
 -- another answer of the same kind has the same faults
-pub faults_if_had : {X Y : Type 0} (due : Option CollectFault) (TooLarge : Type 0) (x : X) (y : Y) → HasFaultsOf due TooLarge (Ok x) → HasFaultsOf due TooLarge (Ok y)
-faults_if_had {X = X} {Y = Y} due TooLarge x y has =
+pub faults_if_had : {X Y : Type 0} (due : Option CollectFault) (TooLarge AreSampled : Type 0) (x : X) (y : Y) → HasFaultsOrSampled due TooLarge AreSampled (Ok x) → HasFaultsOrSampled due TooLarge AreSampled (Ok y)
+faults_if_had {X = X} {Y = Y} due TooLarge AreSampled x y has =
     record {
       arguments = IfSome_then due has.arguments (λ fault is. absurd (cc is));
       others = even_if_none due (Unit {0}) tt;
       too_large = λ is. absurd (cc is);
+      sampled = λ is. absurd (cc is);
     }
 
-pub faults_if_not_had : {X Y : Type 0} (due : Option CollectFault) (TooLarge : Type 0) (fault : CollectFault) → HasFaultsOf {X = X} due TooLarge (Err fault) → HasFaultsOf {X = Y} due TooLarge (Err fault)
-faults_if_not_had {X = X} {Y = Y} due TooLarge fault has =
+pub faults_if_not_had : {X Y : Type 0} (due : Option CollectFault) (TooLarge AreSampled : Type 0) (fault : CollectFault) → HasFaultsOrSampled {X = X} due TooLarge AreSampled (Err fault) → HasFaultsOrSampled {X = Y} due TooLarge AreSampled (Err fault)
+faults_if_not_had {X = X} {Y = Y} due TooLarge AreSampled fault has =
     record {
       arguments = IfSome_then due has.arguments (λ x is. ap Err (the_fault is));
       others = has.others;
       too_large = λ is. has.too_large (ap Err (the_fault is));
+      sampled = λ is. has.sampled (ap Err (the_fault is));
     }
 
-never_too_large : (workers sessions link : Bool) → (if workers then Some Workers else (if sessions then Some Sessions else (if link then Some Link else None))) ≡ Some SumTooLarge → ⊥
-never_too_large true sessions link is = absurd (cc is)
-never_too_large false true link is = absurd (cc is)
-never_too_large false false true is = absurd (cc is)
-never_too_large false false false is = absurd (cc is)
+-- a fault of arguments is no other
+never_early : (workers sessions link : Bool) (late : CollectFault) → (Workers ≡ late → ⊥) → (Sessions ≡ late → ⊥) → (Link ≡ late → ⊥)
+    → (if workers then Some Workers else (if sessions then Some Sessions else (if link then Some Link else None))) ≡ Some late → ⊥
+never_early true sessions link late w s l is = w (cc is)
+never_early false true link late w s l is = s (cc is)
+never_early false false true late w s l is = l (cc is)
+never_early false false false late w s l is = absurd (cc is)
 
-due_is_early : (engine : Engine) (n : ℕ) → due_fault engine n ≡ Some SumTooLarge → ⊥
-due_is_early (Links pool) n is = never_too_large ((pool.workers == 0) || nat_lt MAX_WORKERS pool.workers) ((n == 0) || nat_lt MAX_SESSIONS n) ((pool.capacity == 0) || nat_lt MAX_CAPACITY pool.capacity) is
-due_is_early (Lots lots) n is = never_too_large ((lots == 0) || nat_lt MAX_WORKERS lots) (n == 0) false is
+due_is_early : (engine : Engine) (n : ℕ) (late : CollectFault) → (Workers ≡ late → ⊥) → (Sessions ≡ late → ⊥) → (Link ≡ late → ⊥) → due_fault engine n ≡ Some late → ⊥
+due_is_early (Links pool) n late w s l is =
+    never_early ((pool.workers == 0) || nat_lt MAX_WORKERS pool.workers) ((n == 0) || nat_lt MAX_SESSIONS n) ((pool.capacity == 0) || nat_lt MAX_CAPACITY pool.capacity) late w s l is
+due_is_early (Lots lots) n late w s l is = never_early ((lots == 0) || nat_lt MAX_WORKERS lots) (n == 0) false late w s l is
 
 -- the fault that the arguments have is answered
-pub refused_first : {X : Type 0} (engine : Engine) (n : ℕ) (TooLarge : Type 0) (fault : CollectFault) → due_fault engine n ≡ Some fault → HasFaultsOf {X = X} (due_fault engine n) TooLarge (Err fault)
-refused_first {X = X} engine n TooLarge fault due =
+pub refused_first : {X : Type 0} (engine : Engine) (n : ℕ) (TooLarge AreSampled : Type 0) (fault : CollectFault) → due_fault engine n ≡ Some fault → HasFaultsOrSampled {X = X} (due_fault engine n) TooLarge AreSampled (Err fault)
+refused_first {X = X} engine n TooLarge AreSampled fault due =
     record {
       arguments = subst (λ (o : Option CollectFault). IfSome o (λ x. ◌≡◌ {A = Result X CollectFault} (Err fault) (Err x))) (sym due) refl;
-      others = subst (λ (o : Option CollectFault). IfNone o (IsLate fault)) (sym due) tt;
-      too_large = λ is. absurd (due_is_early engine n (due ∙ ap Some (the_fault is)));
+      others = subst (λ (o : Option CollectFault). IfNone o (IsLateInContext fault)) (sym due) tt;
+      too_large = λ is. absurd (due_is_early engine n SumTooLarge (λ same. absurd (cc same)) (λ same. absurd (cc same)) (λ same. absurd (cc same)) (due ∙ ap Some (the_fault is)));
+      sampled = λ is. absurd (due_is_early engine n Sampled (λ same. absurd (cc same)) (λ same. absurd (cc same)) (λ same. absurd (cc same)) (due ∙ ap Some (the_fault is)));
     }
 
 -- the same of as many sources, if they are the same
 pub faults_elsewhere : {S X : Type 0} (seen : S → SourceView) (plan : PlanValue) (engine : Engine) (n m : ℕ) (these those : List (InContext S)) (result : Result X CollectFault) → n ≡ m → these ≡ those
-    → HasFaultsOf (due_fault engine n) (AreTooLargeInContext seen plan these) result → HasFaultsOf (due_fault engine m) (AreTooLargeInContext seen plan those) result
+    → HasFaultsBy seen engine these plan n result → HasFaultsBy seen engine those plan m result
 faults_elsewhere seen plan engine n m these those result many same has =
-    subst (λ (k : ℕ). HasFaultsOf (due_fault engine k) (AreTooLargeInContext seen plan those) result) many (subst (λ (l : List (InContext _)). HasFaultsOf (due_fault engine n) (AreTooLargeInContext seen plan l) result) same has)
+    subst (λ (k : ℕ). HasFaultsBy seen engine those plan k result) many (subst (λ (l : List (InContext _)). HasFaultsBy seen engine l plan n result) same has)
 
 -- and where memory ran out after it was had
-pub faults_if_memory : {X Y : Type 0} (due : Option CollectFault) (TooLarge : Type 0) (x : X) → HasFaultsOf due TooLarge (Ok x) → HasFaultsOf {X = Y} due TooLarge (Err OutOfMemory)
-faults_if_memory {X = X} {Y = Y} due TooLarge x has =
+pub faults_if_memory : {X Y : Type 0} (due : Option CollectFault) (TooLarge AreSampled : Type 0) (x : X) → HasFaultsOrSampled due TooLarge AreSampled (Ok x) → HasFaultsOrSampled {X = Y} due TooLarge AreSampled (Err OutOfMemory)
+faults_if_memory {X = X} {Y = Y} due TooLarge AreSampled x has =
     record {
       arguments = IfSome_then due has.arguments (λ fault is. absurd (cc is));
       others = even_if_none due (Unit {0}) tt;
       too_large = λ is. absurd (cc is);
+      sampled = λ is. absurd (cc is);
     }

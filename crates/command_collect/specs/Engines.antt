@@ -1,14 +1,16 @@
 -- What collects, and what the headline says by it.
-use Rattle.std.specs.Prelude.{ℕ, List, Option}
+use Rattle.std.specs.Prelude.{ℕ, List, Option, Result}
 use Rattle.std.specs.List.{AllZip}
 use Rattle.ipfix_message.specs.declared.record.DataRecord.{DataRecord}
+use Rattle.ipfix_session.specs.Sources.{SourceView}
 use Rattle.flow_link.specs.declared.settled.Settled.{Settled}
 use Rattle.flow_table.specs.Plans.{PlanValue}
 use Rattle.flow_table.specs.declared.table.Table.{Table}
 use Rattle.flow_collect.specs.Headline.{IsReceived, SerialHeadlineWith}
-use Rattle.flow_collect.specs.Refusals.{fault_of_arguments, fault_of_lots}
+use Rattle.flow_collect.specs.Refusals.{AreTooLargeInContext, HasFaultsOrSampled, IsRefused, fault_of_arguments, fault_of_lots}
 use Rattle.flow_collect.specs.declared.collected.Serial.{Serial}
 use Rattle.flow_collect.specs.declared.fault.CollectFault.{CollectFault}
+use Rattle.flow_collect.specs.declared.session_context.InContext.{InContext}
 use Rattle.command_collect.specs.declared.engine.Engine.{Engine}
 use Rattle.command_collect.specs.declared.engine.Engine.TheVariants.{Links, Lots}
 
@@ -30,3 +32,7 @@ CameOver (Lots lots) records = Unit {0}
 pub record CollectsBy {A S R : Type 0} (engine : Engine) (Gets : A → S → R → List DataRecord → Type 0) (sources : List A) (plan : PlanValue) (s : Serial S R Table) : Type 0 where
   pub headline : SerialHeadlineWith Gets sources plan s
   pub came : CameOver engine headline.records
+
+-- the faults of a run with so many sources
+abbrev pub HasFaultsBy : {S X : Type 0} → (S → SourceView) → Engine → List (InContext S) → PlanValue → ℕ → Result X CollectFault → Type 0
+HasFaultsBy seen engine sources plan many result = HasFaultsOrSampled (due_fault engine many) (AreTooLargeInContext seen plan sources) (IsRefused seen sources) result

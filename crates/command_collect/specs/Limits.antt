@@ -2,7 +2,7 @@
 use Rattle.std.specs.Prelude.{ℕ, List, [], ◌++◌, codes, decimal, Option, Some, None}
 use Rattle.flow_collect.specs.Faults.{number_of, name_of}
 use Rattle.flow_collect.specs.declared.fault.CollectFault.{CollectFault}
-use Rattle.flow_collect.specs.declared.fault.CollectFault.TheVariants.{Workers, Sessions, Link, NoThread, OutOfMemory, SumTooLarge}
+use Rattle.flow_collect.specs.declared.fault.CollectFault.TheVariants.{Workers, Sessions, Link, NoThread, OutOfMemory, SumTooLarge, Sampled}
 use Rattle.report_writing.specs.OpeningLines.{if_verbose}
 use Rattle.report_writing.specs.declared.verbosity.Verbosity.{Verbosity}
 use Rattle.command_collect.specs.declared.engine.Engine.{Engine}
@@ -17,6 +17,7 @@ limit_words engine Link = codes ": --ring must be 1 to 65536"
 limit_words engine NoThread = []
 limit_words engine OutOfMemory = []
 limit_words engine SumTooLarge = []
+limit_words engine Sampled = []
 
 -- a fault, and what is allowed
 unfoldable pub limit_text : ℕ → List ℕ → List ℕ → List ℕ

@@ -1,5 +1,5 @@
 -- What a run of collecting wrote, and when its status says that all was well.
-use Rattle.std.specs.Prelude.{◌≡◌, ◌≢◌, ◌⊎◌, ◌↔◌, ℕ, Bool, true, false, List, [], ◌++◌, All, IfSome, IfNone, Option, length, map}
+use Rattle.std.specs.Prelude.{◌≡◌, ◌≢◌, ◌⊎◌, ◌↔◌, ℕ, Bool, true, false, List, [], ◌++◌, All, IfSome, IfNone, Option, is_some, length, map}
 use Rattle.std.specs.List.{AllZip}
 use Rattle.std.specs.declared.io.ErrorKind.{ErrorKind}
 use Rattle.ipfix_message.specs.declared.record.DataRecord.{DataRecord}
@@ -12,6 +12,8 @@ use Rattle.ipfix_session.specs.declared.stop.Stop.TheVariants.{Clean}
 use Rattle.report_writing.specs.Statuses.{number_of}
 use Rattle.report_writing.specs.declared.origin.Origin.{Origin}
 use Rattle.report_writing.specs.declared.status.Status.TheVariants.{Well, SessionFault, Failed}
+use Rattle.flow_estimates.specs.declared.report.SamplingReport.{SamplingReport}
+use Rattle.report_sampling.specs.SpotlessSampling.{IsSamplingSpotless}
 use Rattle.report_sessions.specs.EndedSessions.{TellsEnded}
 use Rattle.report_sessions.specs.ReportLines.{report_lines, tally_line}
 use Rattle.report_sessions.specs.Spotless.{IsSpotless}
@@ -21,13 +23,13 @@ use Rattle.flow_table.specs.declared.table.Table.{Table}
 use Rattle.flow_collect.specs.Contexts.{records_in_context, sources_of}
 use Rattle.flow_collect.specs.Headline.{IsAddedUp, IsGivenBy, SerialAnswer, all_of}
 use Rattle.flow_collect.specs.InFull.{FullSerialAnswer, FullSerialHeadline, IsGivenInContext, fulls_in}
-use Rattle.flow_collect.specs.Refusals.{AreTooLarge, AreTooLargeInContext, IsLate}
+use Rattle.flow_collect.specs.Refusals.{AreTooLarge, AreTooLargeInContext, IsLate, IsLateInContext, IsRefused}
 use Rattle.flow_collect.specs.Texts.{AreTexts, HasNoFault}
 use Rattle.flow_collect.specs.declared.collected.FilteredReport.{FilteredReport}
 use Rattle.flow_collect.specs.declared.collected.Serial.{Serial}
 use Rattle.flow_collect.specs.declared.fault.CollectFault.{CollectFault}
 use Rattle.flow_collect.specs.declared.session_context.InContext.{InContext}
-use Rattle.flow_collect.specs.declared.fault.CollectFault.TheVariants.{SumTooLarge}
+use Rattle.flow_collect.specs.declared.fault.CollectFault.TheVariants.{SumTooLarge, Sampled}
 use Rattle.flow_export.specs.declared.fault.ExportFault.{ExportFault}
 use Rattle.input_sources.specs.Had.{IsUnread}
 use Rattle.output_tables.specs.TableTexts.{IsNotWritten, Writes}
@@ -35,7 +37,7 @@ use Rattle.output_tables.specs.declared.output.Output.{Output}
 use Rattle.command_collect.specs.CollectLines.{collect_fault_line}
 use Rattle.command_collect.specs.Engines.{due_fault, CollectsBy}
 use Rattle.command_collect.specs.Exporters.{in_context}
-use Rattle.command_collect.specs.Gathered.{all_filtered, IsGathered}
+use Rattle.command_collect.specs.Gathered.{all_filtered, IsGathered, samplings_in}
 use Rattle.command_collect.specs.Told.{run_lines, TellsFault}
 use Rattle.command_collect.specs.declared.engine.Engine.{Engine}
 use Rattle.command_collect.specs.declared.gathered.Gathered.{Gathered}
@@ -45,14 +47,15 @@ use Rattle.command_collect.specs.declared.job.CollectJob.{CollectJob}
 abbrev pub HaveNoFault : List SessionReport → Table → Type 0
 HaveNoFault reports table = All HasNoFault reports
 
--- and if the run is strict, nothing shows that anything which was sent isn't in the table
-abbrev pub WentWell : Bool → List FullReport → Table → Type 0
-WentWell true fulls table = IsSpotless fulls table.tally table.missing
-WentWell false fulls table = All (λ (full : FullReport). HasNoFault full.report) fulls
+-- and if the run is strict, nothing shows that anything which was sent isn't in the table, nor that what it counts is a part of
+-- what was sent: that flows are sampled which are not scaled, or lack the rate that their domain has
+abbrev pub WentWell : Bool → Bool → List FullReport → List SamplingReport → Table → Type 0
+WentWell true is_scaled fulls samplings table = IsSpotless fulls table.tally table.missing × IsSamplingSpotless is_scaled samplings
+WentWell false is_scaled fulls samplings table = All (λ (full : FullReport). HasNoFault full.report) fulls
 
 -- the same of reports that tell how many records were left out, which does not matter
-abbrev pub EndedWell : Bool → List FilteredReport → Table → Type 0
-EndedWell strict reports table = WentWell strict (fulls_in reports) table
+abbrev pub EndedWell : Bool → Bool → List FilteredReport → Table → Type 0
+EndedWell strict is_scaled reports table = WentWell strict is_scaled (fulls_in reports) (samplings_in reports) table
 
 -- which texts sources hold, and the records of each of these
 pub record TextsOf (A : Type 0) : Type 1 where
@@ -104,6 +107,17 @@ pub record IsCollectFault (count : ℕ) (TooLarge : Type 0) (engine : Engine) (f
   pub others : IfNone (due_fault engine count) (IsLate fault)
   pub too_large : fault ≡ SumTooLarge → TooLarge
 
+-- and of a job, where sampled records may be refused: only if sessions tell of one
+pub record IsJobFault (count : ℕ) (TooLarge AreSampled : Type 0) (engine : Engine) (fault : CollectFault) : Type 0 where
+  pub arguments : IfSome (due_fault engine count) (λ due. fault ≡ due)
+  pub others : IfNone (due_fault engine count) (IsLateInContext fault)
+  pub too_large : fault ≡ SumTooLarge → TooLarge
+  pub sampled : fault ≡ Sampled → AreSampled
+
+-- by what its sessions know
+abbrev pub IsFaultBy : {S : Type 0} → (S → SourceView) → ℕ → Engine → List (InContext S) → PlanValue → CollectFault → Type 0
+IsFaultBy seen count engine given plan fault = IsJobFault count (AreTooLargeInContext seen plan given) (IsRefused seen given) engine fault
+
 module _ {S : Type 0} (seen : S → SourceView) where
   -- sources were had as the first fact says it, none of which was read before, and they were run as the last one says it
   pub record RunsSources (AreHad RunsThem : List S → Type 0) : Type 0 where
@@ -122,9 +136,9 @@ pub record Runs (engine : Engine) (count status : ℕ) (IsUntouched WritesIt Tel
   pub refused : IfSome (due_fault engine count) (λ fault. (status ≡ number_of Failed) × IsUntouched × AreTold (collect_fault_line fault))
 
 -- what was gathered of a run adds up the whole texts of its sources, if the run went well
-abbrev pub AddsUpIfWell : {S : Type 0} → (S → SourceView) → Bool → Gathered S → FullSerialAnswer S → Type 0
-AddsUpIfWell {S = S} seen strict g c =
-    IsGathered c g → (sources : List (InContext S)) (plan : PlanValue) → FullSerialHeadline seen sources plan c → WentWell strict g.run.sessions.items g.run.table
+abbrev pub AddsUpIfWell : {S : Type 0} → (S → SourceView) → Bool → Bool → Gathered S → FullSerialAnswer S → Type 0
+AddsUpIfWell {S = S} seen strict is_scaled g c =
+    IsGathered c g → (sources : List (InContext S)) (plan : PlanValue) → FullSerialHeadline seen sources plan c → WentWell strict is_scaled g.run.sessions.items g.sampling.items g.run.table
     → AddsUpWhole (texts_in_context seen) sources plan c.table
 
 -- the table was written to a writer, and nothing else; the lines of the sessions and of the table's counts were told, and
@@ -146,12 +160,12 @@ module _ {W : Type 0} (contents : W → Option (List ℕ)) (old new : W) (AreTol
   abbrev pub WritesAndTellsJob : {S : Type 0} → (S → Option ErrorKind) → CollectJob → List Origin → FullSerialAnswer S → Type 0
   WritesAndTellsJob failure job origins c =
       Writes job.elements.now job.plan.now job.output (contents old) (contents new) c.table
-      × TellsEnded failure c.sources.items (fulls_in c.sessions.items) (run_lines job origins c.table (capped (all_filtered c.sessions.items))) AreTold
+      × TellsEnded failure c.sources.items (fulls_in c.sessions.items) (run_lines job origins (samplings_in c.sessions.items) c.table (capped (all_filtered c.sessions.items))) AreTold
 
   -- and how one ended with a job, of sources with what their sessions know by their origins, as far as the job wants it
   abbrev pub RunsJob : {S : Type 0} → (S → SourceView) → (S → Option ErrorKind) → List S → CollectJob → List Origin → ℕ → Type 0
   RunsJob seen failure sources job origins status =
       let given = in_context job sources origins in
       Runs job.engine (length sources) status (new ≡ old)
-      (WritesTable (texts_in_context seen) (IsGivenInContext seen) (EndedWell job.verbosity.strict) job.plan.now job.engine status (WritesAndTellsJob failure job origins) given)
-      (TellsFault (new ≡ old) (IsCollectFault (length sources) (AreTooLargeInContext seen job.plan.now given) job.engine) (IsNotExported (texts_in_context seen) (IsGivenInContext seen) job.plan.now job.engine job.output (new ≡ old) given) AreTold) AreTold
+      (WritesTable (texts_in_context seen) (IsGivenInContext seen) (EndedWell job.verbosity.strict (is_some job.estimates)) job.plan.now job.engine status (WritesAndTellsJob failure job origins) given)
+      (TellsFault (new ≡ old) (IsFaultBy seen (length sources) job.engine given job.plan.now) (IsNotExported (texts_in_context seen) (IsGivenInContext seen) job.plan.now job.engine job.output (new ≡ old) given) AreTold) AreTold

@@ -1,11 +1,13 @@
 -- What a run tells on standard error.
 use Rattle.std.specs.Prelude.{◌⊎◌, ℕ, List, ◌++◌, codes, Option, option_map}
 use Rattle.std.specs.declared.net.socket_addr.SocketAddr.{SocketAddr}
+use Rattle.flow_estimates.specs.declared.report.SamplingReport.{SamplingReport}
 use Rattle.flow_table.specs.declared.table.Table.{Table}
 use Rattle.flow_export.specs.declared.fault.ExportFault.{ExportFault}
 use Rattle.flow_collect.specs.declared.fault.CollectFault.{CollectFault}
 use Rattle.report_writing.specs.OpeningLines.{not_had_lines}
 use Rattle.output_tables.specs.ExportFaultLines.{export_fault_line}
+use Rattle.report_sampling.specs.SamplingLines.{sampling_told}
 use Rattle.report_sessions.specs.EndedSessions.{EndedSession}
 use Rattle.report_sessions.specs.MissingLines.{missing_told}
 use Rattle.report_sessions.specs.ReportLines.{tally_line_with}
@@ -27,9 +29,10 @@ if_filtered job filtered = option_map (λ filter. filtered) job.filter
 abbrev pub table_told : CollectJob → Table → ℕ → List ℕ
 table_told job table filtered = tally_line_with (if_filtered job filtered) table.tally ++ missing_told job.verbosity job.elements.now job.plan.now table.missing
 
--- the sessions, in order, and then what is told of their table
-abbrev pub run_lines : CollectJob → List Origin → Table → ℕ → List EndedSession → List ℕ
-run_lines job origins table filtered ended = told_lines job.verbosity job.elements.now origins ended ++ table_told job table filtered
+-- the sessions, in order, then at which rates their records are sampled, and then what is told of their table
+abbrev pub run_lines : CollectJob → List Origin → List SamplingReport → Table → ℕ → List EndedSession → List ℕ
+run_lines job origins samplings table filtered ended =
+    told_lines job.verbosity job.elements.now origins ended ++ (sampling_told job.verbosity origins samplings ++ table_told job table filtered)
 
 -- after the first lines each session is told when it is had, with its origin; and after these what the last fact says
 pub record TellsBehind (AreOrigins : List Origin → Type 0) (verbosity : Verbosity) (first : List ℕ) (AreTold : List ℕ → Type 0) (Tells : List Origin → (List ℕ → Type 0) → Type 0) : Type 0 where

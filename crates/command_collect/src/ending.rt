@@ -1,37 +1,48 @@
 //! How a run ended, and what it tells.
 
-ghost use Rattle.std.specs.Prelude.{◌≡◌, ◌⊎◌, ◌↔◌, All, IsTrue};
+ghost use Rattle.std.specs.Prelude.{◌≡◌, ◌⊎◌, ◌↔◌, ◌++◌, true, All, IsTrue, is_some};
 ghost use Rattle.report_writing.specs.Writing.{Tells};
 ghost use Rattle.flow_collect.specs.InFull.{FullSerialAnswer};
 ghost use Rattle.flow_collect.specs.Texts.{HasNoFault};
+ghost use Rattle.report_sampling.specs.SamplingLines.{sampling_told};
 ghost use Rattle.report_sessions.specs.EndedSessions.{TellsEnded};
 ghost use Rattle.command_collect.specs.Runs.{AddsUpIfWell, WentWell};
 ghost use Rattle.command_collect.specs.Told.{if_filtered as if_filtered_by, run_lines, table_told};
 
 use crate::gathered::Gathered;
 use crate::job::CollectJob;
+use flow_estimates::SamplingReport;
 use flow_table::FlatTable;
 use ipfix_session::{FullReport, Source};
+use report_sampling::{is_sampling_spotless, write_sampling};
 use report_sessions::{is_spotless, write_missing, write_tally_with, write_told_reports};
 use report_writing::{Origin, Status, WriteLines};
 use std::io;
 
 /// How a run ended whose table is written.
-pub fn status_of<S: Source>(strict: bool, gathered: &Gathered<S>) -> Status
+pub fn status_of<S: Source>(job: &CollectJob, gathered: &Gathered<S>) -> Status
     ensures ends { (result ≡ Status.Well) ⊎ (result ≡ Status.SessionFault) }
-    ensures well { (result ≡ Status.Well)
-        ↔ WentWell strict gathered.now.run.sessions.items gathered.now.run.table }
-    ensures whole { (c : FullSerialAnswer S) → AddsUpIfWell S.seen strict gathered.now c }
+    ensures well { (result ≡ Status.Well) ↔ WentWell job.now.verbosity.strict (is_some job.now.estimates)
+        gathered.now.run.sessions.items gathered.now.sampling.items gathered.now.run.table }
+    ensures whole { (c : FullSerialAnswer S) → AddsUpIfWell S.seen job.now.verbosity.strict
+        (is_some job.now.estimates) gathered.now c }
 {
-    end_of(strict, &gathered.run.sessions, &gathered.run.table)
+    let run = &gathered.run;
+    end_of(job, &run.sessions, &gathered.sampling, &run.table)
 }
 
 // How sessions and their records ended.
-fn end_of(strict: bool, reports: &[FullReport], table: &FlatTable) -> Status
+fn end_of(
+    job: &CollectJob,
+    reports: &[FullReport],
+    sampling: &[SamplingReport],
+    table: &FlatTable,
+) -> Status
     ensures ends { (result ≡ Status.Well) ⊎ (result ≡ Status.SessionFault) }
-    ensures well { (result ≡ Status.Well) ↔ WentWell strict reports.now table.now }
+    ensures well { (result ≡ Status.Well) ↔ WentWell job.now.verbosity.strict
+        (is_some job.now.estimates) reports.now sampling.now table.now }
 {
-    if went_well(strict, reports, table) {
+    if went_well(job, reports, sampling, table) {
         Status::Well
     } else {
         Status::SessionFault
@@ -39,14 +50,35 @@ fn end_of(strict: bool, reports: &[FullReport], table: &FlatTable) -> Status
 }
 
 #[tactic(auto, using(crate::proofs::WentWell::tested_strict, crate::proofs::WentWell::tested_plain))]
-fn went_well(strict: bool, reports: &[FullReport], table: &FlatTable) -> bool
-    ensures { IsTrue result ↔ WentWell strict reports.now table.now }
+fn went_well(
+    job: &CollectJob,
+    reports: &[FullReport],
+    sampling: &[SamplingReport],
+    table: &FlatTable,
+) -> bool
+    ensures { IsTrue result ↔ WentWell job.now.verbosity.strict (is_some job.now.estimates) reports.now
+        sampling.now table.now }
 {
-    if strict {
-        is_spotless(reports, &table.tally(), &table.missing())
+    if job.verbosity.strict {
+        leaves_nothing_out(job.is_scaled(), reports, sampling, table)
     } else {
         have_no_fault(reports)
     }
+}
+
+/// Whether nothing shows that anything which was sent isn't in a table, nor that what it counts is a part of what was sent.
+#[tactic(auto, using(crate::proofs::WentWell::both_tested))]
+pub fn leaves_nothing_out(
+    is_scaled: bool,
+    reports: &[FullReport],
+    sampling: &[SamplingReport],
+    table: &FlatTable,
+) -> bool
+    ensures { IsTrue result ↔ WentWell true is_scaled reports.now sampling.now table.now }
+{
+    let spotless = is_spotless(reports, &table.tally(), &table.missing());
+    let rated = is_sampling_spotless(is_scaled, sampling);
+    spotless && rated
 }
 
 fn have_no_fault(reports: &[FullReport]) -> bool
@@ -60,16 +92,17 @@ fn have_no_fault(reports: &[FullReport]) -> bool
     true
 }
 
-/// Writes what there is to tell of sessions, each with the reason that its own source answers, and of their records.
-pub fn tell<S: Source, E: WriteLines>(
+/// Writes what there is to tell of sessions, each with the reason that its own source answers, of the rates at which their
+/// records are sampled, and of their records.
+pub fn tell<S: Source + Drop, E: WriteLines>(
     job: &CollectJob,
     origins: &[Origin],
     gathered: &Gathered<S>,
     err: &mut E,
 ) -> io::Result<()>
     ensures { TellsEnded S.failure gathered.now.run.sources.items gathered.now.run.sessions.items
-        (run_lines job.now origins.now gathered.now.run.table gathered.now.filtered)
-        (Tells E.contents E.failed err.old err.new result) }
+        (run_lines job.now origins.now gathered.now.sampling.items gathered.now.run.table
+        gathered.now.filtered) (Tells E.contents E.failed err.old err.new result) }
 {
     let run = &gathered.run;
     write_told_reports(
@@ -80,7 +113,22 @@ pub fn tell<S: Source, E: WriteLines>(
         &run.sessions,
         err,
     )?;
-    tell_table(job, &run.table, gathered.filtered, err)
+    tell_counts(job, origins, gathered, err)
+}
+
+// What is told after the sessions: the rates of sampling, and then of the table.
+fn tell_counts<S: Drop, E: WriteLines>(
+    job: &CollectJob,
+    origins: &[Origin],
+    gathered: &Gathered<S>,
+    err: &mut E,
+) -> io::Result<()>
+    ensures { Tells E.contents E.failed err.old err.new result
+        (sampling_told job.now.verbosity origins.now gathered.now.sampling.items
+        ++ table_told job.now gathered.now.run.table gathered.now.filtered) }
+{
+    write_sampling(job.verbosity, origins, &gathered.sampling, err)?;
+    tell_table(job, &gathered.run.table, gathered.filtered, err)
 }
 
 // How many records there were of each class, how many were left out, and what of them lacked something.

@@ -3,8 +3,7 @@
 ghost use Rattle.std.specs.Prelude.{◌≡◌, IfOk, vec_len};
 ghost use Rattle.flow_table.specs.Fitting.{FitsPlan};
 ghost use Rattle.flow_collect.specs.InFull.{IsGivenInContext};
-ghost use Rattle.flow_collect.specs.Refusals.{AreTooLargeInContext, HasFaultsInContext, HasFaultsOf};
-ghost use Rattle.command_collect.specs.Engines.{due_fault, CollectsBy};
+ghost use Rattle.command_collect.specs.Engines.{due_fault, CollectsBy, HasFaultsBy};
 
 use flow_collect::{
     CollectFault, Collected, FilteredReport, InContext, OpenGate, Pool, Serial, collect_direct,
@@ -48,8 +47,7 @@ impl Engine {
     ) -> Result<Serial<S, FilteredReport, FlatTable>, CollectFault>
         ensures ok { IfOk result (CollectsBy self (IsGivenInContext S.seen) sources.entry.items plan.now) }
         ensures fits { IfOk result (λ s. FitsPlan plan.now s.table) }
-        ensures faults { HasFaultsOf (due_fault self (vec_len sources.entry))
-            (AreTooLargeInContext S.seen plan.now sources.entry.items) result }
+        ensures faults { HasFaultsBy S.seen self sources.entry.items plan.now (vec_len sources.entry) result }
     {
         match self {
             Engine::Links(pool) => collect_over_links(rt, alloc, sources, plan, pool),
@@ -69,7 +67,8 @@ fn collect_over_links<S: Source + Send + Drop, R: Threads + Wait + Sync>(
     ensures ok { IfOk result (CollectsBy (Engine.Links pool) (IsGivenInContext S.seen) sources.entry.items
         plan.now) }
     ensures fits { IfOk result (λ s. FitsPlan plan.now s.table) }
-    ensures faults { HasFaultsInContext S.seen sources.entry plan.now pool result }
+    ensures faults { HasFaultsBy S.seen (Engine.Links pool) sources.entry.items plan.now
+        (vec_len sources.entry) result }
 {
     match collect_flat(rt, alloc, sources, plan, pool, &OpenGate) {
         Ok(collected) => Ok(without_links(collected)),

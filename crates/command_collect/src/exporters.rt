@@ -11,7 +11,7 @@ use std::collections::VecDeque;
 use std::net::IpAddr;
 
 /// The sources, each with what its session knows: the exporter that is told of it, or the peer that is its origin, by
-/// its place, as far as the job wants it; with what the job wants of options records; and with its maps and filter.
+/// its place, as far as the job wants it; with what the job asks of options records; and with its maps, estimates and filter.
 pub fn in_context<'a, S: Drop>(
     alloc: Global,
     sources: Vec<S>,
@@ -28,8 +28,10 @@ pub fn in_context<'a, S: Drop>(
         let context = SessionContext {
             exporter: exporter_by(told, left),
             wanted: job.wanted,
-            options: job.options,
+            options: job.asked(),
             maps: job.maps,
+            estimates: job.estimates,
+            refuses_sampled: job.refuses_sampled,
         };
         all.push(InContext {
             source,

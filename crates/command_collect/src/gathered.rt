@@ -1,25 +1,28 @@
-//! What was collected, and how many records were left out of it.
+//! What was collected, how many records were left out of it, and what sessions tell of sampling.
 
 ghost use Rattle.std.specs.Prelude.{◌≡◌, IfOk};
 ghost use Rattle.ipfix_session.specs.Ledger.{capped};
 ghost use Rattle.flow_collect.specs.InFull.{fulls_in};
-ghost use Rattle.command_collect.specs.Gathered.{all_filtered, IsGathered};
+ghost use Rattle.command_collect.specs.Gathered.{all_filtered, IsGathered, samplings_in};
 
 use flow_collect::{FilteredReport, Serial};
+use flow_estimates::SamplingReport;
 use flow_table::FlatTable;
 use ipfix_session::FullReport;
 use std::alloc::{AllocError, Global};
 use std::collections::VecDeque;
 
-/// What was collected, and how many records were left out of it.
+/// What was collected, how many records were left out of it, and what sessions tell of sampling.
 #[derive(Drop)]
 pub struct Gathered<S> {
     pub run: Serial<S, FullReport, FlatTable>,
     /// How many records of all sessions filters left out. The count stops at `u64::MAX`.
     pub filtered: u64,
+    /// At which rates records are sampled that count, session by session. It is noted if the job asks for it.
+    pub sampling: Vec<SamplingReport>,
 }
 
-/// What was collected, with all counts of records that were left out in one.
+/// What was collected, with all counts of records that were left out in one, and what is told of sampling apart.
 pub fn gather<S: Drop>(
     alloc: Global,
     collected: Serial<S, FilteredReport, FlatTable>,
@@ -32,14 +35,15 @@ pub fn gather<S: Drop>(
         table,
     } = collected;
     let filtered = count_filtered(&sessions);
-    let sessions = full_reports(alloc, sessions)?;
+    let Parted { fulls, sampling } = part_reports(alloc, sessions)?;
     Ok(Gathered {
         run: Serial {
-            sessions,
+            sessions: fulls,
             sources,
             table,
         },
         filtered,
+        sampling,
     })
 }
 
@@ -54,20 +58,27 @@ fn count_filtered(reports: &[FilteredReport]) -> u64
     filtered
 }
 
-// The reports in full, without how many were left out.
-fn full_reports(alloc: Global, sessions: Vec<FilteredReport>) -> Result<Vec<FullReport>, AllocError>
-    ensures { IfOk result (λ fulls. fulls.items ≡ fulls_in sessions.items) }
-{
-    let mut waiting = VecDeque::from_vec(sessions);
-    let mut fulls = Vec::new(alloc);
-    while let Some(told) = waiting.pop_front() {
-        fulls.push(full_of(told))?;
-    }
-    Ok(fulls)
+// What sessions tell, each part apart.
+#[derive(Drop)]
+struct Parted {
+    fulls: Vec<FullReport>,
+    sampling: Vec<SamplingReport>,
 }
 
-fn full_of(told: FilteredReport) -> FullReport
-    ensures { result ≡ told.full }
+// The reports in full, and what they tell of sampling.
+fn part_reports(alloc: Global, sessions: Vec<FilteredReport>) -> Result<Parted, AllocError>
+    ensures fulls { IfOk result (λ parted. parted.fulls.items ≡ fulls_in sessions.items) }
+    ensures sampling { IfOk result (λ parted. parted.sampling.items ≡ samplings_in sessions.items) }
 {
-    told.full
+    let mut waiting = VecDeque::from_vec(sessions);
+    let mut parted = Parted {
+        fulls: Vec::new(alloc),
+        sampling: Vec::new(alloc),
+    };
+    while let Some(told) = waiting.pop_front() {
+        let FilteredReport { full, sampling, .. } = told;
+        parted.fulls.push(full)?;
+        parted.sampling.push(sampling)?;
+    }
+    Ok(parted)
 }

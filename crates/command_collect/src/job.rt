@@ -1,12 +1,14 @@
 //! What a run of collecting is to do.
 
-ghost use Rattle.std.specs.Prelude.{◌≡◌, None};
+ghost use Rattle.std.specs.Prelude.{◌≡◌, false, is_some, None};
 ghost use Rattle.exporter_options.specs.declared.beside.TheConstants as asked;
+ghost use Rattle.command_collect.specs.Exporters.{asked_of, noting};
 
 use crate::engine::Engine;
 use element_registry::Elements;
 use exporter_options::Wanted;
 use flow_collect::NOTHING_WANTED;
+use flow_estimates::Estimates;
 use flow_filter::Filter;
 use flow_maps::Maps;
 use flow_table::{Context, Plan};
@@ -34,6 +36,10 @@ pub struct CollectJob<'a> {
     pub options: Wanted,
     /// The keys whose values are numbers of maps, where the plan has some.
     pub maps: Option<&'a Maps>,
+    /// Which estimates of counters records get, where the plan counts estimates.
+    pub estimates: Option<&'a Estimates>,
+    /// Whether nothing is collected if a record that counts was sampled.
+    pub refuses_sampled: bool,
     /// Which records count, where the plan has conditions.
     pub filter: Option<&'a Filter>,
     /// The exporter that is told of each session, if one is, by its place. Of a connection it is the peer if none is
@@ -42,7 +48,8 @@ pub struct CollectJob<'a> {
 }
 
 impl<'a> CollectJob<'a> {
-    /// One that tells nothing more, wants no context and nothing of options records, and has no maps and no filter.
+    /// One that tells nothing more, wants no context and nothing of options records, and has no maps, no estimates and no
+    /// filter.
     pub fn plain(elements: &'a Elements, plan: &'a Plan, engine: Engine, output: Output) -> Self
         ensures elements { result.elements.now ≡ elements.now }
         ensures plan { result.plan.now ≡ plan.now }
@@ -52,6 +59,8 @@ impl<'a> CollectJob<'a> {
         ensures wanted { result.wanted ≡ NOTHING_WANTED }
         ensures options { result.options ≡ asked.NOTHING_WANTED }
         ensures maps { result.maps ≡ None }
+        ensures estimates { result.estimates ≡ None }
+        ensures refuses { result.refuses_sampled ≡ false }
         ensures filter { result.filter ≡ None }
     {
         CollectJob {
@@ -63,9 +72,41 @@ impl<'a> CollectJob<'a> {
             wanted: NOTHING_WANTED,
             options: exporter_options::NOTHING_WANTED,
             maps: None,
+            estimates: None,
+            refuses_sampled: false,
             filter: None,
             exporters: &[],
         }
+    }
+
+    /// The same, where sessions note the rates of sampling whatever is told.
+    pub fn noting_rates(self) -> Self
+        ensures { result ≡ noting self.entry }
+    {
+        CollectJob {
+            options: Wanted {
+                sampling: true,
+                ..self.options
+            },
+            ..self
+        }
+    }
+
+    /// What records get of what options records told: what is wanted, and rates of sampling where they are told or judged.
+    pub fn asked(&self) -> Wanted
+        ensures { result ≡ asked_of self.now }
+    {
+        Wanted {
+            sampling: self.options.sampling || self.verbosity.verbose || self.verbosity.strict,
+            ..self.options
+        }
+    }
+
+    /// Whether the counters of flows are scaled by the rates of sampling.
+    pub fn is_scaled(&self) -> bool
+        ensures { result ≡ is_some self.now.estimates }
+    {
+        self.estimates.is_some()
     }
 }
 

@@ -16,7 +16,7 @@ pub use collect_fault::write_collect_fault;
 pub use commands::files::{run_files, run_files_with};
 pub use commands::tcp::{run_tcp, run_tcp_with};
 pub use early::refused_early;
-pub use ending::{status_of, tell};
+pub use ending::{leaves_nothing_out, status_of, tell};
 pub use engine::Engine;
 pub use gathered::Gathered;
 pub use job::{CollectJob, Connections};

@@ -61,7 +61,10 @@ fn limit_words(engine: Engine, fault: CollectFault) -> &'static str
         CollectFault::Workers => ": --workers must be 1 to 16",
         CollectFault::Sessions => sessions_words(engine),
         CollectFault::Link => ": --ring must be 1 to 65536",
-        CollectFault::NoThread | CollectFault::OutOfMemory | CollectFault::SumTooLarge => "",
+        CollectFault::NoThread
+        | CollectFault::OutOfMemory
+        | CollectFault::SumTooLarge
+        | CollectFault::Sampled => "",
     }
 }
 

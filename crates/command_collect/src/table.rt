@@ -3,8 +3,7 @@
 ghost use Rattle.std.specs.Prelude.{IfOk, vec_len};
 ghost use Rattle.flow_table.specs.Fitting.{FitsPlan};
 ghost use Rattle.flow_collect.specs.InFull.{IsGivenInContext};
-ghost use Rattle.flow_collect.specs.Refusals.{AreTooLargeInContext, HasFaultsOf};
-ghost use Rattle.command_collect.specs.Engines.{due_fault};
+ghost use Rattle.command_collect.specs.Engines.{HasFaultsBy};
 ghost use Rattle.command_collect.specs.Gathered.{GathersBy};
 ghost use Rattle.command_collect.specs.Exporters.{in_context as given};
 ghost use Rattle.report_writing.specs.Statuses.{number_of};
@@ -95,7 +94,7 @@ pub fn run_with<S: Source + Send + Drop, W: Write, E: WriteLines, R: Threads + W
         return Status::Failed;
     }
     let _ = tell(job, origins, &gathered, err);
-    status_of(job.verbosity.strict, &gathered)
+    status_of(job, &gathered)
 }
 
 /// Collects by the job's engine, with what sessions know by their origins, and with the job's filter.
@@ -109,9 +108,8 @@ pub fn collect_job<S: Source + Send + Drop, R: Threads + Wait + Sync>(
     ensures ok { IfOk result (GathersBy job.now.engine (IsGivenInContext S.seen)
         (given job.now sources.items origins.now) job.now.plan.now) }
     ensures fits { IfOk result (λ g. FitsPlan job.now.plan.now g.run.table) }
-    ensures faults { HasFaultsOf (due_fault job.now.engine (vec_len sources))
-        (AreTooLargeInContext S.seen job.now.plan.now (given job.now sources.items origins.now))
-        result }
+    ensures faults { HasFaultsBy S.seen job.now.engine (given job.now sources.items origins.now)
+        job.now.plan.now (vec_len sources) result }
 {
     if let Some(fault) = job.engine.refusal(sources.len()) {
         return Err(fault);

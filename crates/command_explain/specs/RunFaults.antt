@@ -26,7 +26,7 @@ use Rattle.command_receipt.specs.declared.fault.ReceiptFault.TheVariants as rece
 use Rattle.element_registry.specs.declared.fault.Heading.TheVariants as headings
 use Rattle.ipfix_session.specs.declared.fault.SessionFault.TheVariants as sessions
 use Rattle.command_explain.specs.declared.run_faults.RunFault.{RunFault}
-use Rattle.command_explain.specs.declared.run_faults.RunFault.TheVariants.{PlanText, Plan, Filter, Map, Elements, Collect, Merge, Row, Part, Export, Dump, Receipt, NotAReceipt}
+use Rattle.command_explain.specs.declared.run_faults.RunFault.TheVariants.{PlanText, Plan, Filter, Map, Sampling, Elements, Collect, Merge, Row, Part, Export, Dump, Receipt, NotAReceipt}
 use Rattle.command_explain.specs.declared.run_faults.TheConstants.{RUN_FAULTS}
 use Rattle.command_explain.specs.Guide.{texts_of_message}
 
@@ -36,6 +36,7 @@ name_of (PlanText fault) = of_texts.name_of fault
 name_of (Plan fault) = of_plans.name_of fault
 name_of Filter = codes "Filter"
 name_of Map = codes "Map"
+name_of Sampling = codes "Sampling"
 name_of (Elements fault) = of_elements.name_of fault
 name_of (Collect fault) = of_collects.name_of fault
 name_of (Merge fault) = of_merges.name_of fault
@@ -56,6 +57,7 @@ place_of (PlanText fault) = place (codes "plan") (of_texts.number_of fault)
 place_of (Plan fault) = place (codes "plan") (of_texts.number_of (texts.Plan fault)) ++ (codes " " ++ place (of_texts.name_of (texts.Plan fault)) (of_plans.number_of fault))
 place_of Filter = place (codes "plan") 8
 place_of Map = place (codes "plan") 9
+place_of Sampling = place (codes "plan") 10
 place_of (Elements fault) = place (codes "elements") (of_elements.number_of fault)
 place_of (Collect fault) = place (codes "collect") (of_collects.number_of fault)
 place_of (Merge fault) = place (codes "merge") (of_merges.number_of fault)
@@ -122,6 +124,7 @@ words_of (Plan plans.CounterKind) = words (codes "an element that can't be a cou
 words_of (Plan plans.Repeated) = words (codes "an element twice among keys and counters") (codes "Leave one of them out. A key with a prefix also counts as sourceIPv4Prefix,\ndestinationIPv4Prefix, sourceIPv6Prefix or destinationIPv6Prefix.")
 words_of Filter = words (codes "a condition of the plan is none") (codes "A [[where]] has an element, and in, not_in or both: 1 to 64 texts as \"80\", \"1024-65535\",\n\"192.0.2.1\", \"192.0.2.0/24\" or \"2001:db8::/32\". The next line says which one has none.")
 words_of Map = words (codes "a map of the plan is none") (codes "A [[map]] has a name of letters, digits, _ and -, and a file. The next line says which one has\nnone, or that keys of maps have the numbers of elements of a file.")
+words_of Sampling = words (codes "sampling is none of its words, or counters of the plan can't be scaled") (codes "Write \"ignore\", \"refuse\" or \"scale\". The next line says why counters can't be scaled.")
 words_of (Elements elements.NotCsv) = words (codes "a row has more or fewer fields than the first line") (codes "The same line says in which line of the file the row begins.")
 words_of (Elements (elements.Column _)) = words (codes "the first line lacks a column") (codes "The first line has ElementID, Name and Abstract Data Type, as that of IANA's file.")
 words_of (Elements elements.Number) = words (codes "the number is not decimal, or above 32767") (codes "Write the element's number without its enterprise bit.")
@@ -135,6 +138,7 @@ words_of (Collect collects.Sessions) = words (codes "more than 64 sessions") (co
 words_of (Collect collects.Link) = words (codes "--ring is not 1 to 65536") (codes "Leave it out, or take 1024.")
 words_of (Collect collects.NoThread) = words (codes "a thread could not be started") (codes "Allow the process more threads or memory, or take fewer sessions and workers.")
 words_of (Collect collects.SumTooLarge) = words (codes "a sum or a count would be 2^64 or more") (codes "Take shorter intervals; or find the session that has such a counter, and leave it out\n(docs/RECIPES.md, A sum that is too large).")
+words_of (Collect collects.Sampled) = words (codes "a flow was sampled, and the plan refuses that") (codes "Let the exporter count all packets; or write sampling = \"scale\" or \"ignore\" into the plan.")
 words_of (Merge (merges.Session _)) = words (codes "a file is damaged or cut") (codes "The same line names the fault of its session. Copy the file again, or make it again.")
 words_of (Merge merges.NotAnExport) = words (codes "a file is no table of this program") (codes "Merge files that were written with --format ipfix.")
 words_of (Merge merges.Lost) = words (codes "rows of a file are missing, or come twice") (codes "The file was damaged on its way. Copy it again, or make it again.")

@@ -108,6 +108,7 @@ fn write_place<W: Write>(fault: RunFault, out: &mut W) -> io::Result<()>
         }
         RunFault::Filter => write_number("plan", 8, out),
         RunFault::Map => write_number("plan", 9, out),
+        RunFault::Sampling => write_number("plan", 10, out),
         RunFault::Elements(fault) => write_number("elements", fault.number(), out),
         RunFault::Collect(fault) => write_number("collect", fault.number(), out),
         RunFault::Merge(fault) => write_number("merge", fault.number(), out),

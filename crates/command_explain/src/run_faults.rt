@@ -26,6 +26,8 @@ pub enum RunFault {
     Filter,
     /// What such a text says of maps makes none.
     Map,
+    /// What a plan says of sampling makes no plan.
+    Sampling,
     /// A file says no elements.
     Elements(ElementsFault),
     /// Nothing was collected.
@@ -68,6 +70,7 @@ impl RunFault {
             RunFault::Plan(fault) => fault.name(),
             RunFault::Filter => "Filter",
             RunFault::Map => "Map",
+            RunFault::Sampling => "Sampling",
             RunFault::Elements(fault) => fault.name(),
             RunFault::Collect(fault) => fault.name(),
             RunFault::Merge(fault) => fault.name(),
@@ -96,7 +99,7 @@ impl RunFault {
 
 /// Each of them that is explained, in the order of the lines that have them. A fault within which there are
 /// others stands here with the first of them. OutOfMemory is a session's fault, too, and so is not among them.
-pub const RUN_FAULTS: [RunFault; 46] = [
+pub const RUN_FAULTS: [RunFault; 48] = [
     RunFault::PlanText(PlanTextFault::NotToml),
     RunFault::PlanText(PlanTextFault::UnknownField),
     RunFault::PlanText(PlanTextFault::Missing),
@@ -113,6 +116,7 @@ pub const RUN_FAULTS: [RunFault; 46] = [
     RunFault::Plan(PlanFault::Repeated),
     RunFault::Filter,
     RunFault::Map,
+    RunFault::Sampling,
     RunFault::Elements(ElementsFault::NotCsv),
     RunFault::Elements(ElementsFault::Column(Heading::Number)),
     RunFault::Elements(ElementsFault::Number),
@@ -126,6 +130,7 @@ pub const RUN_FAULTS: [RunFault; 46] = [
     RunFault::Collect(CollectFault::Link),
     RunFault::Collect(CollectFault::NoThread),
     RunFault::Collect(CollectFault::SumTooLarge),
+    RunFault::Collect(CollectFault::Sampled),
     RunFault::Merge(MergeFault::Session(SessionFault::Truncated)),
     RunFault::Merge(MergeFault::NotAnExport),
     RunFault::Merge(MergeFault::Lost),

@@ -6,7 +6,7 @@ ghost use Rattle.command_explain.specs.RunFaults.{guide_of};
 use crate::guide::explanation_of_message;
 use crate::run_faults::RunFault::{
     self, Collect, Dump, Elements, Export, Filter, Map, Merge, NotAReceipt, Part, Plan, PlanText,
-    Receipt, Row,
+    Receipt, Row, Sampling,
 };
 use command_receipt::ReceiptFault;
 use element_registry::ElementsFault;
@@ -43,6 +43,7 @@ impl RunFault {
             Plan(PlanFault::Repeated) => "an element twice among keys and counters",
             Filter => "a condition of the plan is none",
             Map => "a map of the plan is none",
+            Sampling => "sampling is none of its words, or counters of the plan can't be scaled",
             Elements(ElementsFault::NotCsv) => "a row has more or fewer fields than the first line",
             Elements(ElementsFault::Column(_)) => "the first line lacks a column",
             Elements(ElementsFault::Number) => "the number is not decimal, or above 32767",
@@ -59,6 +60,7 @@ impl RunFault {
             Collect(CollectFault::NoThread) => "a thread could not be started",
             Collect(CollectFault::SumTooLarge) | Merge(MergeFault::SumTooLarge) =>
                 "a sum or a count would be 2^64 or more",
+            Collect(CollectFault::Sampled) => "a flow was sampled, and the plan refuses that",
             Merge(MergeFault::Session(_)) => "a file is damaged or cut",
             Merge(MergeFault::NotAnExport) => "a file is no table of this program",
             Merge(MergeFault::Lost) => "rows of a file are missing, or come twice",
@@ -138,6 +140,8 @@ impl RunFault {
             Filter =>
                 "A [[where]] has an element, and in, not_in or both: 1 to 64 texts as \"80\", \"1024-65535\",\n\
                 \"192.0.2.1\", \"192.0.2.0/24\" or \"2001:db8::/32\". The next line says which one has none.",
+            Sampling =>
+                "Write \"ignore\", \"refuse\" or \"scale\". The next line says why counters can't be scaled.",
             Map =>
                 "A [[map]] has a name of letters, digits, _ and -, and a file. The next line says which one has\n\
                 none, or that keys of maps have the numbers of elements of a file.",
@@ -165,6 +169,8 @@ impl RunFault {
             Collect(CollectFault::SumTooLarge) | Merge(MergeFault::SumTooLarge) =>
                 "Take shorter intervals; or find the session that has such a counter, and leave it out\n\
                 (docs/RECIPES.md, A sum that is too large).",
+            Collect(CollectFault::Sampled) =>
+                "Let the exporter count all packets; or write sampling = \"scale\" or \"ignore\" into the plan.",
             Merge(MergeFault::Session(_)) =>
                 "The same line names the fault of its session. Copy the file again, or make it again.",
             Merge(MergeFault::NotAnExport) => "Merge files that were written with --format ipfix.",

@@ -1,5 +1,6 @@
 -- How a command ended that collects with a receipt, by how its sources were had and run.
 use Rattle.std.proofs.Common.{◌≡◌, ℕ, List, ◌++◌, All, Option, inl, inr, length, subst}
+use Rattle.std.specs.Prelude.{is_some}
 use Rattle.std.proofs.lemmas.Option.{IfSome_then}
 use Rattle.std.specs.declared.io.ErrorKind.{ErrorKind}
 use Rattle.ipfix_session.specs.Sources.{SourceView}
@@ -9,12 +10,13 @@ use Rattle.report_writing.proofs.Ended.{never_two, one_of_four}
 use Rattle.input_sources.specs.Had.{IsUnread}
 use Rattle.input_sources.specs.InputsTold.{opened_lines}
 use Rattle.command_collect.specs.Engines.{due_fault}
-use Rattle.command_collect.specs.Exporters.{in_context}
+use Rattle.command_collect.specs.Exporters.{in_noting_context}
 use Rattle.command_collect.specs.declared.job.CollectJob.{CollectJob}
 use Rattle.ipfix_session.specs.declared.report.FullReport.{FullReport}
+use Rattle.flow_estimates.specs.declared.report.SamplingReport.{SamplingReport}
 use Rattle.flow_table.specs.declared.table.Table.{Table}
 use Rattle.flow_collect.specs.InFull.{FullSerialAnswer, fulls_in}
-use Rattle.command_collect.specs.Gathered.{IsGathered}
+use Rattle.command_collect.specs.Gathered.{IsGathered, samplings_in}
 use Rattle.command_collect.specs.declared.gathered.Gathered.{Gathered}
 use Rattle.command_collect.proofs.Ran.{ends_so, of_gathered}
 use Rattle.command_receipt.specs.Runs.{CollectsReceipted, IsNotPut, IsPut, RunsReceipted, TellsNoReceipt}
@@ -27,14 +29,14 @@ use Rattle.command_receipt.specs.declared.run.Receipted.{Receipted}
 
 -- what is said of the receipt of what was gathered is said of what was collected
 pub put_of : {S : Type 0} (Holds : List ℕ → Type 0) (made : MadeWith) (job : CollectJob) (origins : List Origin) (digests : List (List ℕ)) (old : Option (List ℕ)) (c : FullSerialAnswer S) (g : Gathered S) → IsGathered c g
-    → IsPut Holds made job origins g.run.sessions.items digests old g.run.table → IsPut Holds made job origins (fulls_in c.sessions.items) digests old c.table
+    → IsPut Holds made job origins g.run.sessions.items g.sampling.items digests old g.run.table → IsPut Holds made job origins (fulls_in c.sessions.items) (samplings_in c.sessions.items) digests old c.table
 put_of {S = S} Holds made job origins digests old c g is put =
-    of_gathered (λ (sources : List S) (fulls : List FullReport) (table : Table) (n : ℕ). IsPut Holds made job origins fulls digests old table) c g is put
+    of_gathered (λ (sources : List S) (fulls : List FullReport) (samplings : List SamplingReport) (table : Table) (n : ℕ). IsPut Holds made job origins fulls samplings digests old table) c g is put
 
 pub not_put_of : {S : Type 0} (job : CollectJob) (origins : List Origin) (digests : List (List ℕ)) (IsUntouched : Type 0) (fault : RunFault) (c : FullSerialAnswer S) (g : Gathered S) → IsGathered c g
     → IsNotPut job origins g.run.sessions.items digests g.run.table IsUntouched fault → IsNotPut job origins (fulls_in c.sessions.items) digests c.table IsUntouched fault
 not_put_of {S = S} job origins digests IsUntouched fault c g is not =
-    of_gathered (λ (sources : List S) (fulls : List FullReport) (table : Table) (n : ℕ). IsNotPut job origins fulls digests table IsUntouched fault) c g is not
+    of_gathered (λ (sources : List S) (fulls : List FullReport) (samplings : List SamplingReport) (table : Table) (n : ℕ). IsNotPut job origins fulls digests table IsUntouched fault) c g is not
 
 -- the same, whatever became of the writer
 pub untouched : (job : CollectJob) (origins : List Origin) (fulls : List FullReport) (digests : List (List ℕ)) (table : Table) (IsUntouched : Type 0) (fault : RunFault)
@@ -57,7 +59,7 @@ module _ {S W P : Type 0} (contents : W → Option (List ℕ)) (holds : P → Li
       record {
         statuses = r.statuses;
         table = λ ran.
-            ends_so seen job.verbosity.strict job.plan.now job.engine (number_of ended.status) _ _ (in_context job sources origins)
+            ends_so seen job.verbosity.strict (is_some job.estimates) job.plan.now job.engine (number_of ended.status) _ _ (in_noting_context job sources origins)
             (λ c ends. ((ends.0.0, record { ended = ends.0.1.ended; are_ended = ends.0.1.are_ended; told = otherwise _ ends.0.1.told }), ends.1)) (r.table ran);
         failed = λ three. fault_told Told AreTold sources origins otherwise (r.failed three);
         refused = IfSome_then (due_fault job.engine (length sources)) r.refused (λ fault refused. (refused.0, refused.1, otherwise _ refused.2));

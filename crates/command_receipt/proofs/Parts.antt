@@ -1,12 +1,14 @@
 -- A run over sources that are parts of others.
-use Rattle.std.proofs.Common.{◌≡◌, ℕ, List, [], ◌∷◌, map, refl, sym, ap, subst, ◌∙◌}
-use Rattle.std.specs.Prelude.{Option}
+use Rattle.std.proofs.Common.{◌≡◌, ℕ, Bool, ◌||◌, true, List, [], ◌∷◌, map, refl, sym, ap, subst, ◌∙◌, inl, inr}
+use Rattle.std.specs.Prelude.{◌⊎◌, Option, Some}
+use Rattle.std.specs.List.{list_any}
 use Rattle.std.specs.declared.alloc.Global.{Global}
 use Rattle.std.specs.declared.net.ip_addr.IpAddr.{IpAddr}
 use Rattle.std.specs.declared.vec.Vec.{Vec}
 use Rattle.ipfix_message.specs.declared.record.DataRecord.{DataRecord}
 use Rattle.ipfix_session.specs.Given.{records_of}
 use Rattle.ipfix_session.specs.Sources.{SourceView}
+use Rattle.flow_estimates.specs.declared.report.SamplingReport.{SamplingReport}
 use Rattle.report_writing.specs.declared.origin.Origin.{Origin}
 use Rattle.flow_table.specs.Plans.{PlanValue}
 use Rattle.flow_table.specs.declared.table.Table.{Table}
@@ -15,12 +17,14 @@ use Rattle.flow_collect.specs.Contexts.{counted_in, records_in_context, sources_
 use Rattle.flow_collect.specs.Headline.{all_of}
 use Rattle.flow_collect.specs.InFull.{FullSerialAnswer, IsGivenInContext}
 use Rattle.flow_collect.specs.Places.{Each4}
-use Rattle.flow_collect.specs.Refusals.{AreTooLargeInContext}
+use Rattle.flow_collect.specs.Rated.{have_large, is_large, refuse_sampled, sampling_fault}
+use Rattle.flow_collect.specs.Refusals.{AreTooLargeInContext, IsRefused}
 use Rattle.flow_collect.specs.Texts.{AreTexts}
 use Rattle.flow_collect.specs.declared.collected.FilteredReport.{FilteredReport}
+use Rattle.flow_collect.specs.declared.fault.CollectFault.TheVariants.{Sampled}
 use Rattle.flow_collect.specs.declared.session_context.InContext.{InContext}
 use Rattle.command_collect.specs.Engines.{CollectsBy}
-use Rattle.command_collect.specs.Exporters.{exporter_of, first_origin, first_told, in_context, in_places, other_origins, others_told}
+use Rattle.command_collect.specs.Exporters.{asked_of, exporter_of, first_origin, first_told, in_context, in_places, other_origins, others_told}
 use Rattle.command_collect.specs.Gathered.{GathersBy}
 use Rattle.command_collect.specs.declared.engine.Engine.{Engine}
 use Rattle.command_collect.specs.declared.gathered.Gathered.{Gathered}
@@ -68,6 +72,7 @@ module _ {H S : Type 0} (part : H → S) (seen : S → SourceView) where
         };
         records_are = g.records_are;
         filtered_is = g.filtered_is;
+        sampling_is = g.sampling_is;
       }
 
   given_parts : (job : CollectJob) (befores : List H) (told : List (Option IpAddr)) (origins : List Origin) (afters : List H) (fulls : List FilteredReport) (records : List (List DataRecord))
@@ -97,9 +102,9 @@ module _ {H S : Type 0} (part : H → S) (seen : S → SourceView) where
 
   -- and so was what was gathered of it
   pub gathers_parts : (engine : Engine) (job : CollectJob) (plan : PlanValue) (wholes : List H) (sources : List S) (origins : List Origin) (whole : Gathered H) (run : Gathered S)
-      → map part wholes ≡ sources → run.run.sources.items ≡ map part whole.run.sources.items → run.run.sessions.items ≡ whole.run.sessions.items → run.run.table ≡ whole.run.table → run.filtered ≡ whole.filtered
+      → map part wholes ≡ sources → run.run.sources.items ≡ map part whole.run.sources.items → run.run.sessions.items ≡ whole.run.sessions.items → run.run.table ≡ whole.run.table → run.filtered ≡ whole.filtered → run.sampling ≡ whole.sampling
       → GathersBy engine (IsGivenInContext (λ h. seen (part h))) (in_context job wholes origins) plan whole → GathersBy engine (IsGivenInContext seen) (in_context job sources origins) plan run
-  gathers_parts engine job plan wholes sources origins whole run same afters sessions table filtered by =
+  gathers_parts engine job plan wholes sources origins whole run same afters sessions table filtered sampling by =
       let c = by.collected in
       let g = by.gathered in
       let s : FullSerialAnswer S = record { sessions = c.sessions; sources = run.run.sources; table = c.table } in
@@ -107,7 +112,7 @@ module _ {H S : Type 0} (part : H → S) (seen : S → SourceView) where
       record {
         collected = s;
         collects = collects_parts engine job plan wholes sources origins c s same those refl refl by.collects;
-        gathered = record { sessions_are = sessions ∙ g.sessions_are; sources_are = refl; table_is = table ∙ g.table_is; filtered_is = filtered ∙ g.filtered_is };
+        gathered = record { sessions_are = sessions ∙ g.sessions_are; sources_are = refl; table_is = table ∙ g.table_is; filtered_is = filtered ∙ g.filtered_is; sampling_is = ap (λ (v : Vec SamplingReport Global). v.items) sampling ∙ g.sampling_is };
       }
 
   -- and parts are too large if their wholes are
@@ -120,7 +125,7 @@ module _ {H S : Type 0} (part : H → S) (seen : S → SourceView) where
   -- those of the first text
   abbrev first_records : CollectJob → H → List (Option IpAddr) → List Origin → List ℕ → List DataRecord
   first_records job h told origins x =
-      counted_in (record { source = h; context = record { exporter = exporter_of (first_told told) (first_origin origins); wanted = job.wanted; options = job.options; maps = job.maps }; filter = job.filter }) (records_of x)
+      counted_in (record { source = h; context = record { exporter = exporter_of (first_told told) (first_origin origins); wanted = job.wanted; options = asked_of job; maps = job.maps; estimates = job.estimates; refuses_sampled = job.refuses_sampled }; filter = job.filter }) (records_of x)
 
   records_same : (job : CollectJob) (wholes : List H) (told : List (Option IpAddr)) (origins : List Origin) (texts : List (List ℕ))
       → records_in_context (in_places job wholes told origins) texts ≡ records_in_context (in_places job (map part wholes) told origins) texts
@@ -128,9 +133,38 @@ module _ {H S : Type 0} (part : H → S) (seen : S → SourceView) where
   records_same job (h ∷ wholes) told origins [] = refl
   records_same job (h ∷ wholes) told origins (x ∷ texts) = ap (λ (l : List (List DataRecord)). first_records job h told origins x ∷ l) (records_same job wholes (others_told told) (other_origins origins) texts)
 
+  -- whatever records they have
+  large_same : (job : CollectJob) (wholes : List H) (told : List (Option IpAddr)) (origins : List Origin) (qs : List (List DataRecord))
+      → have_large (in_places job wholes told origins) qs ≡ have_large (in_places job (map part wholes) told origins) qs
+  large_same job [] told origins qs = refl
+  large_same job (h ∷ wholes) told origins [] = refl
+  large_same job (h ∷ wholes) told origins (q ∷ qs) = ap (λ (b : Bool). list_any (is_large job.estimates) q || b) (large_same job wholes (others_told told) (other_origins origins) qs)
+
+  refuse_same : (job : CollectJob) (wholes : List H) (told : List (Option IpAddr)) (origins : List Origin)
+      → refuse_sampled (in_places job wholes told origins) ≡ refuse_sampled (in_places job (map part wholes) told origins)
+  refuse_same job [] told origins = refl
+  refuse_same job (h ∷ wholes) told origins = ap (λ (b : Bool). job.refuses_sampled || b) (refuse_same job wholes (others_told told) (other_origins origins))
+
   pub too_large_parts : (job : CollectJob) (plan : PlanValue) (wholes : List H) (sources : List S) (origins : List Origin) → map part wholes ≡ sources
       → AreTooLargeInContext (λ h. seen (part h)) plan (in_context job wholes origins) → AreTooLargeInContext seen plan (in_context job sources origins)
   too_large_parts job plan wholes sources origins same large =
-      subst (λ (l : List S). AreTooLargeInContext seen plan (in_context job l origins)) same
-      (λ texts t. subst (λ (l : List (List DataRecord)). IsTooLarge plan (all_of l)) (records_same job wholes job.exporters.now origins texts)
-      (large texts (sources_same job wholes job.exporters.now origins texts t)))
+      subst (λ (l : List S). AreTooLargeInContext seen plan (in_context job l origins)) same (λ texts t.
+      let told = job.exporters.now in
+      let records = records_same job wholes told origins texts in
+      elim (large texts (sources_same job wholes told origins texts t)) as (λ _. IsTooLarge plan (all_of (records_in_context (in_places job (map part wholes) told origins) texts)) ⊎ (have_large (in_places job (map part wholes) told origins) (records_in_context (in_places job (map part wholes) told origins) texts) ≡ true)) [
+        | inl sum ↦ inl (subst (λ (l : List (List DataRecord)). IsTooLarge plan (all_of l)) records sum)
+        | inr estimate ↦ inr (subst (λ (l : List (List DataRecord)). have_large (in_places job (map part wholes) told origins) l ≡ true) records (sym (large_same job wholes told origins (records_in_context (in_places job wholes told origins) texts)) ∙ estimate))
+      ])
+
+  -- and refused if they are
+  pub refused_parts : (job : CollectJob) (wholes : List H) (sources : List S) (origins : List Origin) → map part wholes ≡ sources
+      → IsRefused (λ h. seen (part h)) (in_context job wholes origins) → IsRefused seen (in_context job sources origins)
+  refused_parts job wholes sources origins same r =
+      let told = job.exporters.now in
+      subst (λ (l : List S). IsRefused seen (in_context job l origins)) same (record {
+        afters = map part r.afters;
+        reports = r.reports;
+        records = r.records;
+        given = given_parts job wholes told origins r.afters r.reports r.records r.given;
+        is = subst (λ (refuses : Bool). sampling_fault refuses r.reports ≡ Some Sampled) (refuse_same job wholes told origins) r.is;
+      })

@@ -1,9 +1,10 @@
 -- The receipt of a run.
-use Rattle.std.specs.Prelude.{◌≡◌, ◌↔◌, ℕ, Bool, List, map, IsTrue, string_bytes}
+use Rattle.std.specs.Prelude.{◌≡◌, ◌↔◌, ℕ, Bool, true, List, map, is_some, IsTrue, string_bytes}
 use Rattle.ipfix_session.specs.declared.report.FullReport.{FullReport}
+use Rattle.flow_estimates.specs.declared.report.SamplingReport.{SamplingReport}
 use Rattle.flow_table.specs.declared.table.Table.{Table}
-use Rattle.report_sessions.specs.Spotless.{IsSpotless}
 use Rattle.table_receipts.specs.Values.{InputValue, ReceiptValue, file_value}
+use Rattle.command_collect.specs.Runs.{WentWell}
 use Rattle.command_collect.specs.declared.job.CollectJob.{CollectJob}
 use Rattle.command_receipt.specs.Tables.{counts_of, table_of}
 use Rattle.command_receipt.specs.declared.making.MadeWith.{MadeWith}
@@ -23,6 +24,6 @@ receipt_of made job inputs text table complete = record {
 }
 
 -- it is complete exactly if a strict run of these sessions would end well
-pub record IsReceiptOf (made : MadeWith) (job : CollectJob) (inputs : List InputValue) (fulls : List FullReport) (text : TextDigest) (table : Table) (r : ReceiptValue) : Type 0 where
+pub record IsReceiptOf (made : MadeWith) (job : CollectJob) (inputs : List InputValue) (fulls : List FullReport) (samplings : List SamplingReport) (text : TextDigest) (table : Table) (r : ReceiptValue) : Type 0 where
   pub value : r ≡ receipt_of made job inputs text table r.complete
-  pub complete : IsTrue r.complete ↔ IsSpotless fulls table.tally table.missing
+  pub complete : IsTrue r.complete ↔ WentWell true (is_some job.estimates) fulls samplings table

@@ -5,14 +5,14 @@ use Rattle.ipfix_session.specs.Given.{IsPrefix}
 use Rattle.ipfix_session.specs.Sources.{SourceView}
 use Rattle.flow_collect.specs.Contexts.{records_in_context, sources_of}
 use Rattle.flow_collect.specs.InFull.{FullSerialAnswer, IsGivenInContext, fulls_in}
-use Rattle.flow_collect.specs.Refusals.{AreTooLargeInContext}
 use Rattle.flow_collect.specs.Texts.{AreTexts}
 use Rattle.output_tables.specs.TableTexts.{export_text}
 use Rattle.report_writing.specs.declared.origin.Origin.{Origin}
 use Rattle.table_receipts.specs.Values.{receipt_value}
 use Rattle.command_collect.specs.Engines.{CollectsBy}
-use Rattle.command_collect.specs.Exporters.{in_context}
-use Rattle.command_collect.specs.Runs.{IsCollectFault}
+use Rattle.command_collect.specs.Exporters.{in_noting_context}
+use Rattle.command_collect.specs.Gathered.{samplings_in}
+use Rattle.command_collect.specs.Runs.{IsFaultBy}
 use Rattle.command_collect.specs.declared.job.CollectJob.{CollectJob}
 use Rattle.command_receipt.specs.Digests.{AreDigestsOf}
 use Rattle.command_receipt.specs.Runs.{IsMade, IsNotReceipted}
@@ -26,17 +26,17 @@ module _ {S : Type 0} (seen : S → SourceView) where
   pub record IsRemade (job : CollectJob) (made : MadeWith) (sources : List S) (origins : List Origin) (remade : Remade) : Type 0 where
     -- what the headline says
     pub collected : FullSerialAnswer S
-    pub collects : CollectsBy job.engine (IsGivenInContext seen) (in_context job sources origins) job.plan.now collected
+    pub collects : CollectsBy job.engine (IsGivenInContext seen) (in_noting_context job sources origins) job.plan.now collected
     -- the records of each session are the first of those that its source's whole text gives
-    pub first : (texts : List (List ℕ)) → AreTexts seen (sources_of (in_context job sources origins)) texts
-        → AllZip IsPrefix collects.headline.records (records_in_context (in_context job sources origins) texts)
+    pub first : (texts : List (List ℕ)) → AreTexts seen (sources_of (in_noting_context job sources origins)) texts
+        → AllZip IsPrefix collects.headline.records (records_in_context (in_noting_context job sources origins) texts)
     pub text_is : remade.text.items ≡ export_text job.elements.now job.output job.plan.now collected.table
     pub digests : List (List ℕ)
     pub are_digests : AreDigestsOf seen sources (fulls_in collected.sessions.items) digests
-    pub is_made : IsMade made job origins (fulls_in collected.sessions.items) digests (Some []) collected.table (receipt_value remade.receipt)
+    pub is_made : IsMade made job origins (fulls_in collected.sessions.items) (samplings_in collected.sessions.items) digests (Some []) collected.table (receipt_value remade.receipt)
 
   -- nothing was collected, or there is no text or no receipt of it, for this reason
   abbrev pub IsNotRemade : CollectJob → List S → List Origin → RemakeFault → Type 0
   IsNotRemade job sources origins (Collect fault) =
-      IsCollectFault (length sources) (AreTooLargeInContext seen job.plan.now (in_context job sources origins)) job.engine fault
+      IsFaultBy seen (length sources) job.engine (in_noting_context job sources origins) job.plan.now fault
   IsNotRemade job sources origins (Run fault) = IsNotReceipted seen sources job origins (Unit {0}) fault

@@ -1,5 +1,5 @@
 -- How a run ended that puts a receipt.
-use Rattle.std.specs.Prelude.{◌≡◌, ◌⊎◌, ℕ, List, [], Option, length, map}
+use Rattle.std.specs.Prelude.{◌≡◌, ◌⊎◌, ℕ, List, [], Option, is_some, length, map}
 use Rattle.std.specs.Borrow.{Bor}
 use Rattle.std.specs.declared.io.ErrorKind.{ErrorKind}
 use Rattle.std.specs.declared.net.socket_addr.SocketAddr.{SocketAddr}
@@ -10,10 +10,10 @@ use Rattle.report_writing.specs.OpeningLines.{if_verbose, listening_line}
 use Rattle.report_writing.specs.Statuses.{number_of}
 use Rattle.report_writing.specs.declared.origin.Origin.{Origin}
 use Rattle.report_writing.specs.declared.reason.Reason.{Reason}
+use Rattle.flow_estimates.specs.declared.report.SamplingReport.{SamplingReport}
 use Rattle.flow_table.specs.AddedUp.{rows_in}
 use Rattle.flow_table.specs.declared.table.Table.{Table}
 use Rattle.flow_collect.specs.InFull.{FullSerialAnswer, IsGivenInContext, fulls_in}
-use Rattle.flow_collect.specs.Refusals.{AreTooLargeInContext}
 use Rattle.flow_collect.specs.declared.fault.CollectFault.{CollectFault}
 use Rattle.input_sources.specs.Had.{AreAccepted, PathsAreOpened}
 use Rattle.input_sources.specs.Origins.{AreFiles, ArePeers}
@@ -23,8 +23,9 @@ use Rattle.table_receipts.specs.Values.{ReceiptValue}
 use Rattle.command_collect.specs.CollectLines.{collect_fault_line}
 use Rattle.command_collect.specs.Collects.{Collects}
 use Rattle.command_collect.specs.Engines.{CollectsBy}
-use Rattle.command_collect.specs.Exporters.{in_context}
-use Rattle.command_collect.specs.Runs.{EndedWell, IsCollectFault, Runs, RunsSources, WritesAndTellsJob, WritesTable, texts_in_context}
+use Rattle.command_collect.specs.Exporters.{in_noting_context}
+use Rattle.command_collect.specs.Gathered.{samplings_in}
+use Rattle.command_collect.specs.Runs.{EndedWell, IsFaultBy, Runs, RunsSources, WritesAndTellsJob, WritesTable, texts_in_context}
 use Rattle.command_collect.specs.Told.{TellsBehind, TellsNotAccepted, TellsNotOpened}
 use Rattle.command_collect.specs.declared.job.CollectJob.{CollectJob}
 use Rattle.command_collect.specs.declared.job.Connections.{Connections}
@@ -42,17 +43,17 @@ use Rattle.command_receipt.specs.declared.run.Ended.{Ended}
 use Rattle.command_receipt.specs.declared.run.Receipted.{Receipted}
 
 -- the receipt of these inputs and of this table, by the digest of the table's text
-pub record IsMade (made : MadeWith) (job : CollectJob) (origins : List Origin) (fulls : List FullReport) (digests : List (List ℕ)) (old : Option (List ℕ)) (table : Table) (receipt : ReceiptValue) : Type 0 where
+pub record IsMade (made : MadeWith) (job : CollectJob) (origins : List Origin) (fulls : List FullReport) (samplings : List SamplingReport) (digests : List (List ℕ)) (old : Option (List ℕ)) (table : Table) (receipt : ReceiptValue) : Type 0 where
   pub text : TextDigest
   pub text_is : IsDigestOfAppended old text (export_text job.elements.now job.output job.plan.now table)
-  pub is : IsReceiptOf made job (inputs_of job origins fulls digests) fulls text table receipt
+  pub is : IsReceiptOf made job (inputs_of job origins fulls digests) fulls samplings text table receipt
   -- no input is in it twice
   pub once : EachOnce (inputs_of job origins fulls digests)
 
 -- and it was put
-pub record IsPut (Holds : List ℕ → Type 0) (made : MadeWith) (job : CollectJob) (origins : List Origin) (fulls : List FullReport) (digests : List (List ℕ)) (old : Option (List ℕ)) (table : Table) : Type 0 where
+pub record IsPut (Holds : List ℕ → Type 0) (made : MadeWith) (job : CollectJob) (origins : List Origin) (fulls : List FullReport) (samplings : List SamplingReport) (digests : List (List ℕ)) (old : Option (List ℕ)) (table : Table) : Type 0 where
   pub receipt : ReceiptValue
-  pub is_made : IsMade made job origins fulls digests old table receipt
+  pub is_made : IsMade made job origins fulls samplings digests old table receipt
   pub put : Holds (receipt_text receipt)
 
 -- none was put for this reason: the table wasn't written; or two inputs are the same, and then nothing was written; or memory was
@@ -80,13 +81,13 @@ module _ {S : Type 0} (seen : S → SourceView) (sources : List S) where
   -- all was collected, and there is no receipt of it for this reason
   pub record IsNotReceipted (job : CollectJob) (origins : List Origin) (IsUntouched : Type 0) (fault : RunFault) : Type 0 where
     pub collected : FullSerialAnswer S
-    pub collects : CollectsBy job.engine (IsGivenInContext seen) (in_context job sources origins) job.plan.now collected
+    pub collects : CollectsBy job.engine (IsGivenInContext seen) (in_noting_context job sources origins) job.plan.now collected
     pub not_put : WithDigests collected (λ digests. IsNotPut job origins (fulls_in collected.sessions.items) digests collected.table IsUntouched fault)
 
   -- why nothing was collected was told, and then nothing was written; or why there is no receipt
   abbrev pub TellsNoReceipt : CollectJob → List Origin → Type 0 → (List ℕ → Type 0) → Type 0
   TellsNoReceipt job origins IsUntouched AreTold =
-      ((fault : CollectFault) × IsCollectFault (length sources) (AreTooLargeInContext seen job.plan.now (in_context job sources origins)) job.engine fault × IsUntouched × AreTold (collect_fault_line fault))
+      ((fault : CollectFault) × IsFaultBy seen (length sources) job.engine (in_noting_context job sources origins) job.plan.now fault × IsUntouched × AreTold (collect_fault_line fault))
       ⊎ ((fault : RunFault) × IsNotReceipted job origins IsUntouched fault × AreTold (run_fault_line fault))
 
 -- how a run ended that had a table and a receipt to write: as one without a receipt, and its receipt was put after the table was written
@@ -94,13 +95,13 @@ module _ {S W P : Type 0} (contents : W → Option (List ℕ)) (holds : P → Li
   abbrev pub EndsReceipted : (List ℕ → Type 0) → List S → List Origin → FullSerialAnswer S → Type 0
   EndsReceipted AreTold sources origins c =
       WritesAndTellsJob contents to.out ended.out AreTold failure job origins c
-      × WithDigests seen sources c (λ digests. IsPut (holds ended.place) to.made job origins (fulls_in c.sessions.items) digests (contents to.out) c.table)
+      × WithDigests seen sources c (λ digests. IsPut (holds ended.place) to.made job origins (fulls_in c.sessions.items) (samplings_in c.sessions.items) digests (contents to.out) c.table)
 
   abbrev pub RunsReceipted : (List ℕ → Type 0) → List S → List Origin → Type 0
   RunsReceipted AreTold sources origins =
       let status = number_of ended.status in
       Runs job.engine (length sources) status (ended.out ≡ to.out)
-      (WritesTable (texts_in_context seen) (IsGivenInContext seen) (EndedWell job.verbosity.strict) job.plan.now job.engine status (EndsReceipted AreTold sources origins) (in_context job sources origins))
+      (WritesTable (texts_in_context seen) (IsGivenInContext seen) (EndedWell job.verbosity.strict (is_some job.estimates)) job.plan.now job.engine status (EndsReceipted AreTold sources origins) (in_noting_context job sources origins))
       (TellsNoReceipt seen sources job origins (ended.out ≡ to.out) AreTold) AreTold
 
   -- of sources that were had, of which the first lines and these tell

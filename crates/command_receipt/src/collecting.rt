@@ -3,9 +3,8 @@
 ghost use Rattle.std.specs.Prelude.{◌≡◌, None, IfOk, length, map, vec_len};
 ghost use Rattle.flow_table.specs.Fitting.{FitsPlan};
 ghost use Rattle.flow_collect.specs.InFull.{IsGivenInContext};
-ghost use Rattle.flow_collect.specs.Refusals.{AreTooLargeInContext, HasFaultsOf};
-ghost use Rattle.command_collect.specs.Engines.{due_fault};
-ghost use Rattle.command_collect.specs.Exporters.{in_context};
+ghost use Rattle.command_collect.specs.Engines.{due_fault, HasFaultsBy};
+ghost use Rattle.command_collect.specs.Exporters.{in_context, in_noting_context};
 ghost use Rattle.command_collect.specs.Gathered.{GathersBy};
 ghost use Rattle.command_receipt.specs.Digests.{AreDigestsOf, AreOfSessions, StartAt};
 
@@ -27,7 +26,7 @@ pub struct HashedRun<S: Drop> {
     pub digests: Vec<[u8; 32]>,
 }
 
-/// Does as [`collect_job`], and hashes what the sources give.
+/// Does as [`collect_job`], notes the rates of sampling, and hashes what the sources give.
 pub fn collect_hashed<S: Source + Send + Drop, R: Threads + Wait + Sync>(
     rt: &R,
     alloc: Global,
@@ -36,18 +35,18 @@ pub fn collect_hashed<S: Source + Send + Drop, R: Threads + Wait + Sync>(
     job: &CollectJob,
 ) -> Result<HashedRun<S>, CollectFault>
     ensures ok { IfOk result (λ h. GathersBy job.now.engine (IsGivenInContext S.seen)
-        (in_context job.now sources.items origins.now) job.now.plan.now h.gathered) }
+        (in_noting_context job.now sources.items origins.now) job.now.plan.now h.gathered) }
     ensures digests { IfOk result (λ h. AreDigestsOf S.seen sources.items
         h.gathered.run.sessions.items h.digests.items) }
     ensures fits { IfOk result (λ h. FitsPlan job.now.plan.now h.gathered.run.table) }
-    ensures faults { HasFaultsOf (due_fault job.now.engine (vec_len sources))
-        (AreTooLargeInContext S.seen job.now.plan.now
-        (in_context job.now sources.items origins.now)) result }
+    ensures faults { HasFaultsBy S.seen job.now.engine (in_noting_context job.now sources.items origins.now)
+        job.now.plan.now (vec_len sources) result }
 {
     if let Some(fault) = job.engine.refusal(sources.len()) {
         return Err(fault);
     }
-    collect_from::<S, R, Brand>(rt, alloc, sources, origins, job)
+    let noting = job.noting_rates();
+    collect_from::<S, R, Brand>(rt, alloc, sources, origins, &noting)
 }
 
 // The same of sources that hold what there is at the start, and are not too many.
@@ -65,9 +64,8 @@ fn collect_from<S: Source + Send + Drop, R: Threads + Wait + Sync, T: Start + Se
     ensures digests { IfOk result (λ h. AreDigestsOf S.seen sources.items
         h.gathered.run.sessions.items h.digests.items) }
     ensures fits { IfOk result (λ h. FitsPlan job.now.plan.now h.gathered.run.table) }
-    ensures faults { HasFaultsOf (due_fault job.now.engine (vec_len sources))
-        (AreTooLargeInContext S.seen job.now.plan.now
-        (in_context job.now sources.items origins.now)) result }
+    ensures faults { HasFaultsBy S.seen job.now.engine (in_context job.now sources.items origins.now)
+        job.now.plan.now (vec_len sources) result }
 {
     let Ok(hashed) = hash_each::<S, T>(alloc, sources) else {
         return Err(CollectFault::OutOfMemory);
@@ -94,10 +92,15 @@ fn finish_run<S: Source + Drop, T: Start>(
         ≡ gathered.run.sessions.items) }
     ensures table { IfOk result (λ h. h.gathered.run.table ≡ gathered.run.table) }
     ensures filtered { IfOk result (λ h. h.gathered.filtered ≡ gathered.filtered) }
+    ensures sampling { IfOk result (λ h. h.gathered.sampling ≡ gathered.sampling) }
     ensures digests { IfOk result (λ h. AreOfSessions S.seen T.texts 0 h.gathered.run.sources.items
         h.gathered.run.sessions.items h.digests.items) }
 {
-    let Gathered { run, filtered } = gathered;
+    let Gathered {
+        run,
+        filtered,
+        sampling,
+    } = gathered;
     let Serial {
         sessions,
         sources,
@@ -112,6 +115,7 @@ fn finish_run<S: Source + Drop, T: Start>(
                 table,
             },
             filtered,
+            sampling,
         },
         digests,
     })

@@ -12,11 +12,8 @@ use crate::fault::{ReceiptFault, RunFault};
 use crate::hashed_table::{TextDigest, WrittenTable, export_hashed};
 use crate::inputs::inputs_of;
 use crate::making::{MadeWith, make_receipt};
-use command_collect::CollectJob;
-use flow_collect::Serial;
+use command_collect::{CollectJob, Gathered};
 use flow_export::{AnyTable, Intervals};
-use flow_table::FlatTable;
-use ipfix_session::FullReport;
 use receipt_merging::first_twice;
 use report_writing::Origin;
 use std::alloc::{AllocError, Global};
@@ -43,8 +40,8 @@ pub fn make_run<S: Drop, W: Write + Drop>(
     ensures writes { OnOk result.answer (Writes job.now.elements.now job.now.plan.now job.now.output
         (W.contents out) (W.contents result.out) run.now.gathered.run.table) }
     ensures made { IfOk result.answer (λ r. IsMade made job.now origins.now
-        run.now.gathered.run.sessions.items run.now.digests.items (W.contents out)
-        run.now.gathered.run.table (receipt_value r)) }
+        run.now.gathered.run.sessions.items run.now.gathered.sampling.items run.now.digests.items
+        (W.contents out) run.now.gathered.run.table (receipt_value r)) }
     ensures not_made { IfErr result.answer (IsNotPut job.now origins.now
         run.now.gathered.run.sessions.items run.now.digests.items run.now.gathered.run.table
         (result.out ≡ out)) }
@@ -73,7 +70,7 @@ pub fn make_run<S: Drop, W: Write + Drop>(
     match answer {
         Ok(text) => {
             let contents = Contents { made, inputs, text };
-            let answer = receipt_of(alloc, job, collected, contents);
+            let answer = receipt_of(alloc, job, &run.gathered, contents);
             MadeRun { out, answer }
         }
         Err(fault) => MadeRun {
@@ -105,12 +102,13 @@ struct Contents {
 fn receipt_of<S: Drop>(
     alloc: Global,
     job: &CollectJob,
-    collected: &Serial<S, FullReport, FlatTable>,
+    gathered: &Gathered<S>,
     contents: Contents,
 ) -> Result<Receipt, RunFault>
-    requires { FitsPlan job.now.plan.now collected.now.table }
+    requires { FitsPlan job.now.plan.now gathered.now.run.table }
     ensures made { IfOk result (λ r. IsReceiptOf contents.made job.now (map input_value contents.inputs.items)
-        collected.now.sessions.items contents.text collected.now.table (receipt_value r)) }
+        gathered.now.run.sessions.items gathered.now.sampling.items contents.text
+        gathered.now.run.table (receipt_value r)) }
     ensures fault { IfErr result IsOfReceipt }
 {
     let Contents { made, inputs, text } = contents;
@@ -119,9 +117,10 @@ fn receipt_of<S: Drop>(
         made,
         job,
         inputs,
-        &collected.sessions,
+        &gathered.run.sessions,
+        &gathered.sampling,
         text,
-        &collected.table,
+        &gathered.run.table,
     ) {
         Ok(receipt) => Ok(receipt),
         Err(AllocError) => Err(RunFault::Receipt(ReceiptFault::OutOfMemory)),

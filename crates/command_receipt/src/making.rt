@@ -7,10 +7,10 @@ ghost use Rattle.command_receipt.specs.Made.{IsReceiptOf};
 
 use crate::hashed_table::TextDigest;
 use crate::table_part::{counts_of, table_of};
-use command_collect::CollectJob;
+use command_collect::{CollectJob, leaves_nothing_out};
+use flow_estimates::SamplingReport;
 use flow_table::FlatTable;
 use ipfix_session::FullReport;
-use report_sessions::is_spotless;
 use std::alloc::{AllocError, Global};
 use table_receipts::{FileReceipt, InputReceipt, Receipt};
 
@@ -34,12 +34,13 @@ pub fn make_receipt(
     job: &CollectJob,
     inputs: Vec<InputReceipt>,
     reports: &[FullReport],
+    sampling: &[SamplingReport],
     text: TextDigest,
     table: &FlatTable,
 ) -> Result<Receipt, AllocError>
     requires { FitsPlan job.now.plan.now table.now }
     ensures { IfOk result (λ r. IsReceiptOf made job.now (map input_value inputs.items) reports.now
-        text table.now (receipt_value r)) }
+        sampling.now text table.now (receipt_value r)) }
 {
     let table_part = table_of(alloc, job.elements, job.plan, job.output, text, table)?;
     let MadeWith {
@@ -56,6 +57,6 @@ pub fn make_receipt(
         inputs,
         records: counts_of(table.tally()),
         table: table_part,
-        complete: is_spotless(reports, &table.tally(), &table.missing()),
+        complete: leaves_nothing_out(job.is_scaled(), reports, sampling, table),
     })
 }

@@ -71,7 +71,8 @@ fn remake_run<S: Drop>(
     ensures text { IfOk result (λ m. m.text.items ≡ export_text job.now.elements.now job.now.output
         job.now.plan.now run.now.gathered.run.table) }
     ensures made { IfOk result (λ m. IsMade made job.now origins.now run.now.gathered.run.sessions.items
-        run.now.digests.items (Some []) run.now.gathered.run.table (receipt_value m.receipt)) }
+        run.now.gathered.sampling.items run.now.digests.items (Some []) run.now.gathered.run.table
+        (receipt_value m.receipt)) }
     ensures not_made { IfErr result (IsNotPut job.now origins.now run.now.gathered.run.sessions.items
         run.now.digests.items run.now.gathered.run.table (Unit {0})) }
 {

@@ -82,7 +82,7 @@ pub fn run_receipted<
         };
     }
     let _ = tell(job, origins, &run.gathered, err);
-    let status = status_of(job.verbosity.strict, &run.gathered);
+    let status = status_of(job, &run.gathered);
     Ended { status, out, place }
 }
 
@@ -106,8 +106,8 @@ fn write_run<S: Drop, W: Write + Drop, P: ReceiptPlace + Drop>(
     ensures writes { OnOk result.answer (Writes job.now.elements.now job.now.plan.now job.now.output
         (W.contents to.out) (W.contents result.out) run.now.gathered.run.table) }
     ensures put { OnOk result.answer (IsPut (P.holds result.place) to.made job.now origins.now
-        run.now.gathered.run.sessions.items run.now.digests.items (W.contents to.out)
-        run.now.gathered.run.table) }
+        run.now.gathered.run.sessions.items run.now.gathered.sampling.items run.now.digests.items
+        (W.contents to.out) run.now.gathered.run.table) }
     ensures not_put { IfErr result.answer (IsNotPut job.now origins.now
         run.now.gathered.run.sessions.items run.now.digests.items run.now.gathered.run.table
         (result.out ≡ to.out)) }

@@ -6,9 +6,9 @@ use Rattle.flow_plan_maps.specs.declared.named.NamedKey.{NamedKey}
 use Rattle.input_sources.specs.Had.{IsUnread, PathsAreOpened}
 use Rattle.input_sources.specs.MapsLoaded.{AreMapsOf, TellsNoMaps}
 use Rattle.input_sources.specs.Origins.{AreFiles}
-use Rattle.input_sources.specs.PlansTold.{IsLoaded, TellsNoText}
+use Rattle.input_sources.specs.PlansTold.{IsLoaded, TellsNoText, table_of}
 use Rattle.input_sources.specs.declared.maps.LoadedMap.{LoadedMap}
-use Rattle.input_sources.specs.declared.plan.LoadedPlan.{LoadedPlan}
+use Rattle.input_sources.specs.declared.loaded_plan.LoadedPlan.{LoadedPlan}
 use Rattle.ipfix_session.specs.Sources.{SourceView}
 use Rattle.report_writing.specs.declared.origin.Origin.{Origin}
 use Rattle.report_writing.specs.declared.reason.Reason.{Reason}
@@ -142,7 +142,7 @@ module _ {S O : Type 0} (seen : S → SourceView) (job : VerifyJob) (said : Rece
   -- it is that of a plan, with these elements
   pub record HasPlan (known : List Known) : Type 0 where
     pub loaded : LoadedPlan
-    pub is_loaded : IsLoaded known said.plan loaded.maps loaded.elements loaded.read
+    pub is_loaded : IsLoaded known said.plan loaded.maps (table_of loaded)
     pub compares : ComparesLoaded loaded
 
   -- with other files of elements than it was made with it isn't made again; else by the plan of the receipt

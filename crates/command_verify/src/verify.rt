@@ -40,8 +40,8 @@ pub struct VerifyJob<'a> {
 
 /// Compares a table with its receipt, by its octets and their SHA-256. With files it makes the table again of these, by
 /// the plan, the format and the export time in the receipt and by `elements`, those of the files that are given, and
-/// compares what they give with it: the files with the inputs by their octets and exporters, whatever their names or
-/// order, and the tables octet for octet. Its maps are those of the files that the receipt names. It isn't made again
+/// compares what they give with it: the files with the inputs by their octets, their exporters and what their sessions gave,
+/// whatever their names or order, and the tables octet for octet. Its maps are those of the files that the receipt names. It isn't made again
 /// by files of elements or of maps that haven't the octets of those in the receipt: then a line says so.
 ///
 /// The receipt is read first, then the table, then the plan, then the files of maps, and the files are opened last. The

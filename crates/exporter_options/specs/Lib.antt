@@ -3,3 +3,4 @@ pub mod Rates
 pub mod Telling
 pub mod Known
 pub mod Beside
+pub mod RateFields

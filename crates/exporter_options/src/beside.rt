@@ -63,8 +63,8 @@ pub const NOTHING_BESIDE: Beside = Beside {
     rate: None,
 };
 
-// A rate, if what was told is one.
-fn rate_in(sampling: Option<Sampling>) -> Option<Rate>
+/// A rate, if what was told is one.
+pub fn rate_in(sampling: Option<Sampling>) -> Option<Rate>
     ensures { result ≡ told.rate_in sampling }
 {
     match sampling? {

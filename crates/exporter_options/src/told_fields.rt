@@ -2,10 +2,12 @@
 
 ghost use Rattle.std.specs.Prelude.{◌≡◌, ◌⊎◌, IfOk, OnErr, OnOk};
 ghost use Rattle.exporter_options.specs.Beside.{asked_first, asked_next, with_told};
+ghost use Rattle.exporter_options.specs.RateFields.{rate_of_domain};
 
-use crate::beside::{Wanted, known_beside};
+use crate::beside::{Wanted, known_beside, rate_in};
 use crate::exporter_options::ExporterOptions;
 use crate::made_fields::MadeFields;
+use crate::sampling::Rate;
 use ipfix_message::DataRecord;
 use std::alloc::{AllocError, Global};
 use std::marker::Model;
@@ -59,5 +61,12 @@ impl ToldFields {
         self.made.change_to(self.alloc, beside)?;
         self.known.note(item)?;
         self.made.append_to(&mut item.fields)
+    }
+
+    /// The rate that was told last of a domain, or else of domain 0: by whichever selector.
+    pub fn rate_of_domain(&self, domain: u32) -> Option<Rate>
+        ensures { result ≡ rate_of_domain self.now.known domain }
+    {
+        rate_in(self.known.sampling(domain, None))
     }
 }

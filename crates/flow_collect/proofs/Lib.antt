@@ -1,6 +1,10 @@
 pub mod PlaceLists
 pub mod GivenLists
+pub mod Large
+pub mod Rated
 pub mod Contexts
+pub mod LargeRuns
+pub mod Judged
 pub mod InFull
 pub mod SameRuns
 pub mod Settled

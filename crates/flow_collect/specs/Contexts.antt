@@ -12,9 +12,13 @@ use Rattle.ipfix_session.specs.Given.{records_of}
 use Rattle.exporter_options.specs.Beside.{all_told, asked_first}
 use Rattle.flow_filter.specs.Sinks.{counted, left_out}
 use Rattle.flow_maps.specs.Numbers.{if_mapped}
+use Rattle.flow_estimates.specs.Estimates.{if_estimated}
+use Rattle.flow_estimates.specs.Noted.{Noted}
+use Rattle.exporter_options.specs.Known.{Known}
 use Rattle.exporter_options.specs.declared.beside.TheConstants as told
 use Rattle.flow_table.specs.declared.context.Context.{Context}
 use Rattle.flow_table.specs.declared.context.TheConstants.{EXPORTER, EXPORTER_IPV4_ADDRESS, EXPORTER_IPV6_ADDRESS, OBSERVATION_DOMAIN_ID}
+use Rattle.flow_collect.specs.Rated.{asked_after, noted_after, notes_first}
 use Rattle.flow_collect.specs.declared.session_context.Exporter.{Exporter}
 use Rattle.flow_collect.specs.declared.session_context.Exporter.TheVariants.{Ipv4, Ipv6}
 use Rattle.flow_collect.specs.declared.session_context.InContext.{InContext}
@@ -59,9 +63,9 @@ with_fields r fields = record { domain = r.domain; export_time = r.export_time; 
 abbrev pub with_session : SessionContext → DataRecord → DataRecord
 with_session c r = with_fields r (r.fields ++ context_fields c r.domain)
 
--- and then with the numbers of maps
+-- then with the numbers of maps, and then with the estimates of counters
 abbrev pub with_context : SessionContext → DataRecord → DataRecord
-with_context c r = with_fields r (if_mapped c.maps (r.fields ++ context_fields c r.domain))
+with_context c r = with_fields r (if_estimated c.estimates (if_mapped c.maps (r.fields ++ context_fields c r.domain)))
 
 -- a session's records: before these fields each has those of what options records told before it, as far as it is wanted
 abbrev pub all_with_context : SessionContext → List DataRecord → List DataRecord
@@ -69,7 +73,7 @@ all_with_context c records = map (with_context c) (all_told (asked_first c.optio
 
 -- nothing is known, and nothing is wanted
 abbrev pub nothing_known : SessionContext
-nothing_known = record { exporter = None; wanted = NOTHING_WANTED; options = told.NOTHING_WANTED; maps = None }
+nothing_known = record { exporter = None; wanted = NOTHING_WANTED; options = told.NOTHING_WANTED; maps = None; estimates = None; refuses_sampled = false }
 
 module _ {S : Type 0} where
   abbrev pub sources_of : List (InContext S) → List S
@@ -86,6 +90,14 @@ module _ {S : Type 0} where
   -- how many of them it does not count
   abbrev pub left_out_in : InContext S → List DataRecord → ℕ
   left_out_in s own = left_out s.filter (all_with_context s.context own)
+
+  -- what its options records told by the end
+  abbrev pub known_in : InContext S → List DataRecord → Known
+  known_in s own = (asked_after (asked_first s.context.options) own).known
+
+  -- what is noted of the rates of those that it counts, if rates are asked for
+  abbrev pub noted_in : InContext S → List DataRecord → Option Noted
+  noted_in s own = noted_after s.context.estimates (notes_first s.context.options.sampling) (counted_in s own)
 
   -- the records of these texts that count, each with what the session of its source knows
   abbrev pub records_in_context : List (InContext S) → List (List ℕ) → List (List DataRecord)

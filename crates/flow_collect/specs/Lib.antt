@@ -1,5 +1,6 @@
 -- What public contracts cite.
 pub mod Places
+pub mod Rated
 pub mod Contexts
 pub mod Headline
 pub mod InFull

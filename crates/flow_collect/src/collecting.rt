@@ -19,16 +19,18 @@
 //!              makes of Parts and the table what `collect_flat` answers, Collected.
 //! ```
 
-ghost use Rattle.std.specs.Prelude.{◌≡◌, IfOk, IfNone, MatchOption};
+ghost use Rattle.std.specs.Prelude.{◌≡◌, None, IfOk, IfNone, MatchOption};
 ghost use Rattle.flow_table.specs.Fitting.{FitsPlan};
 ghost use Rattle.flow_collect.specs.Dealt.{IsCapacity};
 ghost use Rattle.flow_collect.specs.InFull.{FullHeadline};
+ghost use Rattle.flow_collect.specs.Rated.{refuse_sampled, sampling_fault};
 ghost use Rattle.flow_collect.specs.Refusals.{fault_of_arguments, AreTooLargeInContext, HasFaultsInContext};
 
 use crate::collected::{Collected, FilteredReport, MAX_SESSIONS, MAX_WORKERS, Pool};
 use crate::dealing::deal;
 use crate::fault::CollectFault;
 use crate::gate::Gate;
+use crate::judging::{refuse_sampled, sampling_fault};
 use crate::session_context::InContext;
 use crate::settling::finish_all;
 use crate::shortage::Shortage;
@@ -56,14 +58,21 @@ pub fn collect_flat<S: Source + Send + Drop, G: Gate + Sync, R: Threads + Wait +
     ensures ok { IfOk result (FullHeadline S.seen sources.entry.items plan.now pool) }
     // The table fits the plan, as an export asks.
     ensures fits { IfOk result (λ c. FitsPlan plan.now c.table) }
-    // Exactly the first fault of the arguments, if they have one; `SumTooLarge` only if it is due.
+    // No estimate is too large, and if sampled records are refused none is told of.
+    ensures sampling { IfOk result (λ c. sampling_fault
+        (refuse_sampled sources.entry.items) c.sessions.items ≡ None) }
+    // Exactly the first fault of the arguments, if they have one; `SumTooLarge` and `Sampled` only if they are due.
     ensures faults { HasFaultsInContext S.seen sources.entry plan.now pool result }
 {
     if let Some(fault) = judge(pool, sources.len()) {
         return Err(fault);
     }
+    let refuses = refuse_sampled(&sources);
     match collect_judged(rt, alloc, sources, plan, pool, gate) {
-        Ok(Some(collected)) => Ok(collected),
+        Ok(Some(collected)) => match sampling_fault(refuses, &collected.sessions) {
+            Some(fault) => Err(fault),
+            None => Ok(collected),
+        },
         Ok(None) => Err(CollectFault::SumTooLarge),
         Err(Shortage::NoThread) => Err(CollectFault::NoThread),
         Err(Shortage::OutOfMemory) => Err(CollectFault::OutOfMemory),

@@ -4,6 +4,7 @@ ghost use Rattle.std.specs.Prelude.{◌≡◌, None, IfOk, OnErr, OnOk};
 ghost use Rattle.flow_collect.specs.Contexts.{with_context, with_session};
 
 use crate::session_context::SessionContext;
+use flow_estimates::append_estimates;
 use flow_maps::append_numbers;
 use ipfix_message::{DataRecord, SharedFields};
 use std::alloc::{AllocError, Global};
@@ -46,15 +47,17 @@ impl<'a> ContextFields<'a> {
         })
     }
 
-    /// Appends them to a record, and then the numbers of its maps. At an `Err` the record is as it was if there are no
-    /// maps.
+    /// Appends them to a record, then the numbers of its maps, and then the estimates of its counters. At an `Err` the
+    /// record is as it was if there are no maps and no estimates.
     pub fn append(&mut self, item: &mut DataRecord) -> Result<(), AllocError>
         ensures kept { self.new ≡ self.old }
         ensures ok { OnOk result (item.new ≡ with_context self.old item.old) }
-        ensures err { self.old.maps ≡ None → OnErr result (item.new ≡ item.old) }
+        ensures err { self.old.maps ≡ None → self.old.estimates ≡ None
+            → OnErr result (item.new ≡ item.old) }
     {
         self.append_session(item)?;
-        append_numbers(self.alloc, self.context.maps, &mut item.fields)
+        append_numbers(self.alloc, self.context.maps, &mut item.fields)?;
+        append_estimates(self.alloc, self.context.estimates, &mut item.fields)
     }
 
     // Appends what the session knows.

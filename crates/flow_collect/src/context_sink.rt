@@ -14,7 +14,8 @@ use ipfix_session::Sink;
 /// Once a record could not be put it gives all others back; what it took then is of no use.
 #[derive(Drop)]
 pub struct ContextSink<'a, K> {
-    told: ToldFields,
+    /// What options records told so far.
+    pub told: ToldFields,
     context: ContextFields<'a>,
     /// Why a record could not be put, if one could not.
     pub lost: Option<Shortage>,

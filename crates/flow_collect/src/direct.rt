@@ -1,12 +1,14 @@
 //! Collecting without links.
 
-ghost use Rattle.std.specs.Prelude.{◌≡◌, IfOk, IsErrOf, MatchOption};
+ghost use Rattle.std.specs.Prelude.{◌≡◌, None, IfOk, IsErrOf, MatchOption};
 ghost use Rattle.flow_table.specs.Fitting.{FitsPlan};
 ghost use Rattle.flow_collect.specs.InFull.{FullSerialHeadline};
+ghost use Rattle.flow_collect.specs.Rated.{refuse_sampled, sampling_fault};
 ghost use Rattle.flow_collect.specs.Refusals.{fault_of_lots, AreTooLargeInContext, HasFaultsInLots};
 
 use crate::collected::{FilteredReport, MAX_WORKERS, Serial};
 use crate::fault::CollectFault;
+use crate::judging::{refuse_sampled, sampling_fault};
 use crate::lots::{Lot, drive_lots};
 use crate::session_context::InContext;
 use flow_table::{FlatTable, Plan, TableFault};
@@ -37,7 +39,10 @@ pub fn collect_direct<S: Source + Send + Drop, R: Threads + Sync>(
     ensures ok { IfOk result (FullSerialHeadline S.seen sources.entry.items plan.now) }
     // The table fits the plan, as an export asks.
     ensures fits { IfOk result (λ s. FitsPlan plan.now s.table) }
-    // Exactly the first fault of the arguments, if they have one; `SumTooLarge` only if it is due.
+    // No estimate is too large, and if sampled records are refused none is told of.
+    ensures sampling { IfOk result (λ s. sampling_fault
+        (refuse_sampled sources.entry.items) s.sessions.items ≡ None) }
+    // Exactly the first fault of the arguments, if they have one; `SumTooLarge` and `Sampled` only if they are due.
     ensures faults { HasFaultsInLots S.seen sources.entry plan.now lots result }
     // There is always a thread: this one.
     ensures has_thread { IsErrOf result CollectFault.NoThread → ⊥ }
@@ -45,8 +50,12 @@ pub fn collect_direct<S: Source + Send + Drop, R: Threads + Sync>(
     if let Some(fault) = direct_refusal(lots, sources.len()) {
         return Err(fault);
     }
+    let refuses = refuse_sampled(&sources);
     match collect_lots(rt, alloc, sources, plan, lots) {
-        Ok(Some(serial)) => Ok(serial),
+        Ok(Some(serial)) => match sampling_fault(refuses, &serial.sessions) {
+            Some(fault) => Err(fault),
+            None => Ok(serial),
+        },
         Ok(None) => Err(CollectFault::SumTooLarge),
         Err(AllocError) => Err(CollectFault::OutOfMemory),
     }

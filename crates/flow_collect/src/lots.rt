@@ -9,6 +9,7 @@ ghost use Rattle.flow_collect.specs.Serials.{LotRan, MergesLots, RunsOne};
 use crate::collected::FilteredReport;
 use crate::context_fields::ContextFields;
 use crate::context_sink::ContextSink;
+use crate::rate_sink::{RateSink, first_notes};
 use crate::session_context::InContext;
 use exporter_options::ToldFields;
 use flow_filter::FilterSink;
@@ -135,15 +136,23 @@ fn drive_one<S: Source + Drop>(
     let table = TableSink { partial };
     let fields = ContextFields::new(alloc, context)?;
     let told = ToldFields::new(alloc, context.options)?;
-    let mut sink = ContextSink::new(told, fields, FilterSink::new(filter, table));
+    let notes = first_notes(alloc, context.options.sampling)?;
+    let rates = RateSink::new(context.estimates, notes, table);
+    let mut sink = ContextSink::new(told, fields, FilterSink::new(filter, rates));
     let full = drive_in_full(alloc, &mut source, &mut sink, READ_LIMIT);
     if sink.lost.is_some() || sink.refused > 0 {
         return Err(AllocError);
     }
-    let filtered = sink.sink.filtered;
+    let ContextSink { told, sink, .. } = sink;
+    let FilterSink { filtered, sink, .. } = sink;
+    let (sampling, table) = sink.finish(alloc, &told);
     sources.push(source)?;
-    sessions.push(FilteredReport { full, filtered })?;
-    let TableSink { partial } = sink.sink.sink;
+    sessions.push(FilteredReport {
+        full,
+        filtered,
+        sampling,
+    })?;
+    let TableSink { partial } = table;
     Ok(Lot {
         sources,
         sessions,

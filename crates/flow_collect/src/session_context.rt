@@ -4,6 +4,7 @@ ghost use Rattle.std.specs.Prelude.{◌≡◌, ◌≤◌, ◌++◌, length, map,
 ghost use Rattle.flow_collect.specs.Contexts.{alone, nothing_known, context_fields, exporter_at, exporter_fields, mapped, named};
 
 use exporter_options::Wanted;
+use flow_estimates::Estimates;
 use flow_filter::Filter;
 use flow_maps::Maps;
 use flow_table::{
@@ -51,6 +52,10 @@ pub struct SessionContext<'a> {
     pub options: Wanted,
     /// The keys whose values are numbers of maps, if there are some.
     pub maps: Option<&'a Maps>,
+    /// Which estimates of counters are wanted, if some are. They are by the rates that `options` asks for.
+    pub estimates: Option<&'a Estimates>,
+    /// Whether nothing is collected if a record that counts was sampled, by the rates that `options` asks for.
+    pub refuses_sampled: bool,
 }
 
 /// No elements of context.
@@ -70,6 +75,8 @@ pub fn no_context<'a>() -> SessionContext<'a>
         wanted: NOTHING_WANTED,
         options: exporter_options::NOTHING_WANTED,
         maps: None,
+        estimates: None,
+        refuses_sampled: false,
     }
 }
 

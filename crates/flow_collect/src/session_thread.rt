@@ -8,6 +8,7 @@ use crate::context_fields::ContextFields;
 use crate::context_sink::ContextSink;
 use crate::gate::Gate;
 use crate::link_sink::LinkSink;
+use crate::rate_sink::{RateSink, first_notes};
 use crate::session_context::SessionContext;
 use crate::shortage::Shortage;
 use exporter_options::ToldFields;
@@ -42,11 +43,11 @@ pub struct EndedSession<S> {
 ///
 /// The fault is `OutOfMemory` if a record's context could not be appended; `NoThread` if the receiver was gone
 /// before Last.
-pub fn run_session<S: Source + Drop, G: Gate, R: Wait>(
-    rt: &R,
+pub fn run_session<'x, S: Source + Drop, G: Gate, R: Wait>(
+    rt: &'x R,
     alloc: Global,
-    gate: &G,
-    start: Start<S>,
+    gate: &'x G,
+    start: Start<'x, S>,
 ) -> Result<EndedSession<S>, Shortage>
     requires { start.sender.sent ≡ [] }
     ensures { IfOk result (SessionRan S.seen start.entry) }
@@ -62,21 +63,27 @@ pub fn run_session<S: Source + Drop, G: Gate, R: Wait>(
     let link = LinkSink::new(rt, gate, session, sender);
     let fields = ContextFields::new(alloc, context)?;
     let told = ToldFields::new(alloc, context.options)?;
-    let mut sink = ContextSink::new(told, fields, FilterSink::new(filter, link));
+    let notes = first_notes(alloc, context.options.sampling)?;
+    let rates = RateSink::new(context.estimates, notes, link);
+    let mut sink = ContextSink::new(told, fields, FilterSink::new(filter, rates));
     let full = drive_in_full(alloc, &mut source, &mut sink, READ_LIMIT);
-    let sent = sink.sink.sink.send_last();
+    let sent = sink.sink.sink.sink.send_last();
     if let Some(shortage) = sink.lost {
         return Err(shortage);
     }
     if !sent || sink.refused > 0 {
         return Err(Shortage::NoThread);
     }
+    let ContextSink { told, sink, .. } = sink;
+    let FilterSink { filtered, sink, .. } = sink;
+    let (sampling, link) = sink.finish(alloc, &told);
     Ok(EndedSession {
         report: FilteredReport {
             full,
-            filtered: sink.sink.filtered,
+            filtered,
+            sampling,
         },
         source,
-        sender: sink.sink.sink.sender,
+        sender: link.sender,
     })
 }

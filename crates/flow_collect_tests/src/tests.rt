@@ -6,4 +6,5 @@ mod gates;
 mod meeting;
 mod memory;
 mod runs;
+mod sampling;
 mod texts;

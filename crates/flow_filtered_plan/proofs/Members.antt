@@ -10,7 +10,7 @@ use Rattle.toml.specs.View.{members_view, view}
 use Rattle.toml.specs.declared.value.Value.{Value}
 use Rattle.toml.proofs.Views.{view-lookup}
 use Rattle.flow_plan.specs.Places.{names}
-use Rattle.flow_filtered_plan.specs.FilteredPlans.{where_key, map_key, without, plan_members}
+use Rattle.flow_filtered_plan.specs.FilteredPlans.{where_key, map_key, sampling_key, without, plan_members}
 
 -- ---- the first name that fails a test
 
@@ -42,9 +42,12 @@ view-without name [] = refl
 view-without name (e ∷ es) = chosen (same_key name (string_bytes e.0)) es e _ _ (view-without name es)
 
 -- what was removed, and what is left
-pub left : (es others rest : List (String Global × Value)) → others ≡ remove_entry (is_at (λ k. slice_cmp nat_cmp where_key (string_bytes k))) es
-    → rest ≡ remove_entry (is_at (λ k. slice_cmp nat_cmp map_key (string_bytes k))) others → members_view rest ≡ plan_members (members_view es)
-left es others rest without_where is = ap members_view is ∙ view-without map_key others ∙ ap (without map_key) (ap members_view without_where ∙ view-without where_key es)
+pub left : (es others more rest : List (String Global × Value)) → others ≡ remove_entry (is_at (λ k. slice_cmp nat_cmp where_key (string_bytes k))) es
+    → more ≡ remove_entry (is_at (λ k. slice_cmp nat_cmp map_key (string_bytes k))) others → rest ≡ remove_entry (is_at (λ k. slice_cmp nat_cmp sampling_key (string_bytes k))) more
+    → members_view rest ≡ plan_members (members_view es)
+left es others more rest without_where without_maps is =
+    ap members_view is ∙ view-without sampling_key more
+    ∙ ap (without sampling_key) (ap members_view without_maps ∙ view-without map_key others ∙ ap (without map_key) (ap members_view without_where ∙ view-without where_key es))
 
 pub removed : (es : List (String Global × Value)) (value : Option Value) → value ≡ lookup (is_at (λ k. slice_cmp nat_cmp where_key (string_bytes k))) es → option_map view value ≡ get_member where_key (members_view es)
 removed es value is = ap (option_map view) is ∙ view-lookup where_key es

@@ -13,9 +13,9 @@ use Rattle.flow_plan.specs.PlanTexts.{plan_of_document}
 use Rattle.flow_plan.specs.declared.error.PlanTextError.{PlanTextError}
 use Rattle.flow_plan.specs.declared.error.PlanTextError.TheVariants as texts
 use Rattle.flow_filtered_plan.specs.Wheres.{IsNoWhere}
-use Rattle.flow_filtered_plan.specs.FilteredPlans.{values_of, where_key, plan_members, AreConditions, IsFilterOf}
+use Rattle.flow_filtered_plan.specs.FilteredPlans.{values_of, where_key, plan_members, sampling_key, sampling_of, AreConditions, IsFilterOf}
 use Rattle.flow_filtered_plan.specs.declared.place.FilteredPlanError.{FilteredPlanError}
-use Rattle.flow_filtered_plan.specs.declared.place.FilteredPlanError.TheVariants.{Plan, NoConditions, Where}
+use Rattle.flow_filtered_plan.specs.declared.place.FilteredPlanError.TheVariants.{Plan, NoConditions, Where, NoSampling}
 use Rattle.flow_filtered_plan.specs.declared.place.WhereFault.{WhereFault}
 use Rattle.flow_filtered_plan.specs.declared.place.WhereFault.TheVariants.{OutOfMemory}
 
@@ -23,11 +23,13 @@ abbrev pub number_of : FilteredPlanError → ℕ
 number_of (Plan error) = faults.number_of (fault_of error)
 number_of NoConditions = 8
 number_of (Where place fault) = 8
+number_of NoSampling = 10
 
 abbrev pub name_of : FilteredPlanError → List ℕ
 name_of (Plan error) = faults.name_of (fault_of error)
 name_of NoConditions = codes "Filter"
 name_of (Where place fault) = codes "Filter"
+name_of NoSampling = codes "Sampling"
 
 -- ---- conditions
 
@@ -70,7 +72,7 @@ ReadsFilter known value (Err error) = IsNoFilter known value error
 
 -- ---- the whole
 
--- octets are no document; or what their document has but for `where` and `map` is no plan, and its fault comes first
+-- octets are no document; or what their document has but for `where`, `map` and `sampling` is no plan, and its fault comes first
 abbrev pub IsNoPlan : List Known → List ℕ → PlanTextError → Type 0
 IsNoPlan known octets (texts.NotUtf8 line) = IsNoDocument octets (texts.NotUtf8 line)
 IsNoPlan known octets (texts.NotToml error line column message) = IsNoDocument octets (texts.NotToml error line column message)
@@ -78,8 +80,11 @@ IsNoPlan known octets texts.OutOfMemory = Unit {0}
 IsNoPlan known octets error =
     (d : Members) × IsDocument octets d × Fails (fault_of error) (plan_of_document known (plan_members d)) × TellsKey known (plan_members d) error
 
--- what has this fault: the plan; or the filter of a text that has a plan
+-- what has this fault: the plan; or the filter of a text that has a plan; or what one that has both says of sampling
 abbrev pub IsFilteredPlanError : List Known → List ℕ → FilteredPlanError → Type 0
 IsFilteredPlanError known octets (Plan error) = IsNoPlan known octets error
+IsFilteredPlanError known octets NoSampling =
+    (d : Members) × (plan : PlanValue) × (filter : Filter) × IsDocument octets d × (plan_of_document known (plan_members d) ≡ Ok plan)
+    × IsFilterOf known (get_member where_key d) filter × (sampling_of (get_member sampling_key d) ≡ None)
 IsFilteredPlanError known octets error =
     (d : Members) × (plan : PlanValue) × IsDocument octets d × (plan_of_document known (plan_members d) ≡ Ok plan) × IsNoFilter known (get_member where_key d) error

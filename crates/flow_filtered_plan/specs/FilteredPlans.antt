@@ -1,7 +1,8 @@
 -- The plan and the filter of a text.
-use Rattle.std.specs.Prelude.{◌≡◌, ℕ, ◌||◌, Bool, cond, List, [], ◌∷◌, codes, Option, Some, None, Ok}
+use Rattle.std.specs.Prelude.{◌≡◌, ℕ, ◌||◌, Bool, cond, List, [], ◌∷◌, codes, Option, Some, None, Ok, if◌then◌else◌}
 use Rattle.std.specs.List.{AllZip, flat_map, list_any}
-use Rattle.toml.specs.Data.{Data, Items, no_items, item, Members, no_members, member, as_array, get_member, same_key}
+use Rattle.std.specs.Str.{bytes_eq}
+use Rattle.toml.specs.Data.{Data, string, Items, no_items, item, Members, no_members, member, as_array, get_member, same_key}
 use Rattle.ipfix_wire.specs.declared.specifier.ElementId.{ElementId}
 use Rattle.element_registry.specs.Registries.{Known}
 use Rattle.flow_filter.specs.declared.condition.Condition.{Condition}
@@ -14,6 +15,8 @@ use Rattle.flow_plan.specs.PlanTexts.{plan_of_document}
 use Rattle.flow_filtered_plan.specs.Wheres.{conditions_of, IsWhere}
 use Rattle.flow_filtered_plan.specs.declared.place.Sides.{Sides}
 use Rattle.flow_filtered_plan.specs.declared.filtered_plan.FilteredPlan.{FilteredPlan}
+use Rattle.flow_filtered_plan.specs.declared.sampling.SamplingUse.{SamplingUse}
+use Rattle.flow_filtered_plan.specs.declared.sampling.SamplingUse.TheVariants.{Ignore, Refuse, Scale}
 
 -- ---- the conditions of a document
 
@@ -30,6 +33,24 @@ abbrev pub IsFilterOf : List Known → Option Data → Filter → Type 0
 IsFilterOf known None filter = filter.conditions.items ≡ []
 IsFilterOf known (Some value) filter = (items : Items) × (as_array value ≡ Some items) × AreConditions known (values_of items) filter.conditions.items
 
+-- ---- what becomes of sampling
+
+abbrev pub sampling_named : List ℕ → Option SamplingUse
+sampling_named name =
+    if bytes_eq name (codes "ignore") then Some Ignore
+    else if bytes_eq name (codes "refuse") then Some Refuse
+    else if bytes_eq name (codes "scale") then Some Scale
+    else None
+
+abbrev pub sampling_in : Data → Option SamplingUse
+sampling_in (string name) = sampling_named name
+sampling_in _ = None
+
+-- a value that may be missing: then it is ignored
+abbrev pub sampling_of : Option Data → Option SamplingUse
+sampling_of None = Some Ignore
+sampling_of (Some value) = sampling_in value
+
 -- ---- the whole
 
 -- the members but for the first with this key
@@ -43,16 +64,20 @@ where_key = codes "where"
 abbrev pub map_key : List ℕ
 map_key = codes "map"
 
+abbrev pub sampling_key : List ℕ
+sampling_key = codes "sampling"
+
 -- those of the plan itself: the maps were read before
 abbrev pub plan_members : Members → Members
-plan_members d = without map_key (without where_key d)
+plan_members d = without sampling_key (without map_key (without where_key d))
 
--- the plan is that of the members but for `where` and `map`, and the filter is that of its value
+-- the plan is that of the members but for `where`, `map` and `sampling`, and the filter is that of its value
 pub record IsFilteredPlanOf (known : List Known) (octets : List ℕ) (read : FilteredPlan) : Type 0 where
   pub d : Members
   pub document : IsDocument octets d
   pub plan : plan_of_document known (plan_members d) ≡ Ok read.plan
   pub filter : IsFilterOf known (get_member where_key d) read.filter
+  pub sampling : sampling_of (get_member sampling_key d) ≡ Some read.sampling
 
 -- some text says them, where these files name elements
 abbrev pub IsReadWith : List Known → FilteredPlan → Type 0

@@ -5,6 +5,7 @@ ghost use Rattle.std.specs.Option.{option_map};
 ghost use Rattle.flow_plan.specs.Places.{IsPlanOf};
 ghost use Rattle.flow_filtered_plan.specs.FilteredPlans as filtered;
 
+use crate::sampling::SamplingUse;
 use flow_filter::Filter;
 use flow_table::{
     Context, EXPORTER, EXPORTER_IPV4_ADDRESS, EXPORTER_IPV6_ADDRESS, OBSERVATION_DOMAIN_ID, Plan,
@@ -17,6 +18,8 @@ pub struct FilteredPlan {
     pub plan: Plan,
     /// Which records count: without conditions all.
     pub filter: Filter,
+    /// What becomes of the rates at which exporters select packets.
+    pub sampling: SamplingUse,
 }
 
 impl FilteredPlan {

@@ -5,9 +5,11 @@ mod filtered_plan;
 mod kinds;
 mod place;
 mod reading;
+mod sampling;
 mod sides;
 mod wheres;
 
 pub use filtered_plan::FilteredPlan;
 pub use place::{FilteredPlanError, Sides, WhereFault, side_key};
 pub use reading::read_filtered_plan;
+pub use sampling::SamplingUse;

@@ -69,6 +69,8 @@ pub enum FilteredPlanError {
     NoConditions,
     /// The `[[where]]` that has this place in the text, counted from 1, makes no conditions.
     Where { place: usize, fault: WhereFault },
+    /// The value of `sampling` is none of the words that there are.
+    NoSampling,
 }
 
 impl From<AllocError> for FilteredPlanError {
@@ -90,6 +92,7 @@ impl FilteredPlanError {
         match self {
             FilteredPlanError::Plan(error) => error.fault().number(),
             FilteredPlanError::NoConditions | FilteredPlanError::Where { .. } => 8,
+            FilteredPlanError::NoSampling => 10,
         }
     }
 
@@ -100,6 +103,7 @@ impl FilteredPlanError {
         match self {
             FilteredPlanError::Plan(error) => error.fault().name(),
             FilteredPlanError::NoConditions | FilteredPlanError::Where { .. } => "Filter",
+            FilteredPlanError::NoSampling => "Sampling",
         }
     }
 }

@@ -1,7 +1,7 @@
 use element_registry::Elements;
 use flow_filter::{Side, ValueRange};
 use flow_filtered_plan::{
-    FilteredPlan, FilteredPlanError, WhereFault, read_filtered_plan, side_key,
+    FilteredPlan, FilteredPlanError, SamplingUse, WhereFault, read_filtered_plan, side_key,
 };
 use flow_plan::PlanTextError;
 use flow_table::{EXPORTER, OBSERVATION_DOMAIN_ID};
@@ -47,6 +47,7 @@ fn fault_of(alloc: Global, conditions: &str) -> Result<String, AllocError> {
                 FilteredPlanError::Plan(_) => String::from_str(alloc, "plan")?,
                 FilteredPlanError::NoConditions => String::from_str(alloc, "no array")?,
                 FilteredPlanError::Where { place, fault } => told(alloc, *place, fault)?,
+                FilteredPlanError::NoSampling => String::from_str(alloc, "no word")?,
             };
             format!(in alloc; "{} {}: {words}", error.number(), error.name())
         }
@@ -174,6 +175,48 @@ fn faults(rt: HostRuntime) -> Result<(), Fail> {
     assert_eq!(rt;
         fault_of(alloc, "where = 7\nwhere = 8\n")?.as_str(),
         "1 NotToml: plan"
+    );
+    Ok(())
+}
+
+// What becomes of sampling, if a text after the keys of a plan has no fault.
+fn sampling_of(alloc: Global, text: &str) -> Option<SamplingUse> {
+    Some(read(alloc, text).ok()?.sampling)
+}
+
+#[test]
+fn reads_what_becomes_of_sampling(rt: HostRuntime) -> Result<(), Fail> {
+    let alloc = rt.alloc();
+    assert_eq!(rt; sampling_of(alloc, ""), Some(SamplingUse::Ignore));
+    assert_eq!(rt;
+        sampling_of(alloc, "sampling = 'ignore'\n"),
+        Some(SamplingUse::Ignore)
+    );
+    assert_eq!(rt;
+        sampling_of(alloc, "sampling = 'refuse'\n"),
+        Some(SamplingUse::Refuse)
+    );
+    assert_eq!(rt;
+        sampling_of(alloc, "sampling = 'scale'\n"),
+        Some(SamplingUse::Scale)
+    );
+    Ok(())
+}
+
+// The fault of the conditions comes before that of sampling.
+#[test]
+fn refuses_other_words_of_sampling(rt: HostRuntime) -> Result<(), Fail> {
+    let alloc = rt.alloc();
+    for text in [
+        "sampling = 'Scale'\n",
+        "sampling = 1\n",
+        "sampling = ['scale']\n",
+    ] {
+        assert_eq!(rt; fault_of(alloc, text)?.as_str(), "10 Sampling: no word");
+    }
+    assert_eq!(rt;
+        fault_of(alloc, "sampling = 1\nwhere = 7\n")?.as_str(),
+        "8 Filter: no array"
     );
     Ok(())
 }

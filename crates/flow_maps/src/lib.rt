@@ -5,4 +5,4 @@ mod map_key;
 mod maps;
 
 pub use map_key::{AddressElement, MapKey};
-pub use maps::{Maps, append_numbers};
+pub use maps::{Maps, append_numbers, remove};

@@ -86,8 +86,8 @@ fn number_at(maps: &[PrefixMap], place: usize, address: AddressBits) -> u32
     }
 }
 
-// Removes the fields of an element, if there are any.
-fn remove(alloc: Global, element: ElementId, fields: &mut Fields) -> Result<(), AllocError>
+/// Removes the fields of an element, if there are any.
+pub fn remove(alloc: Global, element: ElementId, fields: &mut Fields) -> Result<(), AllocError>
     ensures { OnOk result (fields.new ≡ numbers.without element fields.old) }
 {
     if fields.find(element).is_some() {

@@ -10,6 +10,8 @@ use Rattle.flow_table.specs.declared.choices.Times.{Times}
 use Rattle.flow_table.specs.declared.choices.Times.TheVariants.{Basic, All}
 use Rattle.flow_filtered_plan.specs.FilteredPlans.{context_of}
 use Rattle.flow_filtered_plan.specs.declared.filtered_plan.FilteredPlan.{FilteredPlan}
+use Rattle.flow_filtered_plan.specs.declared.sampling.SamplingUse.{SamplingUse}
+use Rattle.flow_filtered_plan.specs.declared.sampling.SamplingUse.TheVariants.{Ignore, Refuse, Scale}
 use Rattle.flow_maps.specs.declared.map_key.AddressElement.{AddressElement}
 use Rattle.flow_plan_maps.specs.declared.named.NamedKey.{NamedKey}
 use Rattle.flow_plan_maps.specs.declared.named.PlanMaps.{PlanMaps}
@@ -37,5 +39,20 @@ abbrev pub count_from_init_time : Times → Bool
 count_from_init_time Basic = false
 count_from_init_time All = true
 
+-- rates are of interest unless they are ignored
+abbrev pub are_asked : SamplingUse → Bool
+are_asked Ignore = false
+are_asked Refuse = true
+are_asked Scale = true
+
+-- a sampled record makes that there is no table
+abbrev pub is_refused : SamplingUse → Bool
+is_refused Ignore = false
+is_refused Refuse = true
+is_refused Scale = false
+
+abbrev pub refuses_sampled : FilteredPlan → Bool
+refuses_sampled read = is_refused read.sampling
+
 abbrev pub wanted_options : FilteredPlan → Wanted
-wanted_options read = record { init_time = count_from_init_time read.plan.choices.times; sampling = false }
+wanted_options read = record { init_time = count_from_init_time read.plan.choices.times; sampling = are_asked read.sampling }

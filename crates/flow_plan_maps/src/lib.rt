@@ -16,4 +16,4 @@ pub use keys::map_keys;
 pub use known::add_map_keys;
 pub use named::{EXAMPLES_PEN, MAX_MAP_KEYS, NamedKey, NamedMap, PlanMaps};
 pub use reading::read_plan_maps;
-pub use wanted::{wanted_context, wanted_options};
+pub use wanted::{refuses_sampled, wanted_context, wanted_options};

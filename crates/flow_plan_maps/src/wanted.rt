@@ -5,7 +5,7 @@ ghost use Rattle.flow_plan_maps.specs.Wants as wants;
 
 use crate::named::PlanMaps;
 use exporter_options::Wanted;
-use flow_filtered_plan::FilteredPlan;
+use flow_filtered_plan::{FilteredPlan, SamplingUse};
 use flow_maps::AddressElement;
 use flow_table::{Context, EXPORTER, EXPORTER_IPV4_ADDRESS, EXPORTER_IPV6_ADDRESS, Times};
 use ipfix_wire::ElementId;
@@ -24,14 +24,22 @@ pub fn wanted_context(read: &FilteredPlan, maps: &PlanMaps) -> Context
     }
 }
 
-/// What a plan wants of what options records tell: if it reads times of every kind, when the exporter was started.
+/// What a plan wants of what options records tell: if it reads times of every kind, when the exporter was started; and
+/// unless it ignores sampling at which rates packets are selected.
 pub fn wanted_options(read: &FilteredPlan) -> Wanted
     ensures { result ≡ wants.wanted_options read.now }
 {
     Wanted {
         init_time: read.plan.choices().times == Times::All,
-        sampling: false,
+        sampling: read.sampling != SamplingUse::Ignore,
     }
+}
+
+/// Whether a plan refuses sampled records.
+pub fn refuses_sampled(read: &FilteredPlan) -> bool
+    ensures { result ≡ wants.refuses_sampled read.now }
+{
+    read.sampling == SamplingUse::Refuse
 }
 
 // Whether a key of maps looks this element up.

@@ -3,6 +3,7 @@ pub mod Had
 pub mod Origins
 pub mod InputsTold
 pub mod PlaceLines
+pub mod ScalingLines
 pub mod WhereLines
 pub mod MapLines
 pub mod MapsLoaded

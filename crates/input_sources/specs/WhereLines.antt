@@ -3,11 +3,12 @@ use Rattle.std.specs.Prelude.{ℕ, List, [], ◌++◌, codes, decimal, string_by
 use Rattle.element_registry.specs.Registries.{Known}
 use Rattle.flow_filtered_plan.specs.Wheres.{side_key}
 use Rattle.flow_filtered_plan.specs.declared.place.FilteredPlanError.{FilteredPlanError}
-use Rattle.flow_filtered_plan.specs.declared.place.FilteredPlanError.TheVariants.{Plan, NoConditions, Where}
+use Rattle.flow_filtered_plan.specs.declared.place.FilteredPlanError.TheVariants.{Plan, NoConditions, Where, NoSampling}
 use Rattle.flow_filtered_plan.specs.declared.place.WhereFault.{WhereFault}
 use Rattle.flow_filtered_plan.specs.declared.place.WhereFault.TheVariants.{NoTable, UnknownKey, NoElement, UnknownElement, NoSide, NoTexts, Kind, Count, Text, OutOfMemory}
 use Rattle.report_writing.specs.FaultLines.{fault_text}
 use Rattle.report_writing.specs.Quoting.{quoted}
+use Rattle.input_sources.specs.ScalingLines.{sampling_lines}
 use Rattle.input_sources.specs.PlaceLines.{key_line, name_end, plan_lines, words_end}
 
 abbrev pub filter_fault : List ℕ
@@ -47,3 +48,4 @@ abbrev pub filtered_lines : List Known → FilteredPlanError → List ℕ
 filtered_lines known (Plan error) = plan_lines known error
 filtered_lines known NoConditions = filter_fault ++ key_line (codes "where") (codes "not an array of tables")
 filtered_lines known (Where place fault) = filter_fault ++ (where_start place ++ where_end fault)
+filtered_lines known NoSampling = sampling_lines

@@ -4,6 +4,7 @@
 
 mod accepting;
 mod files_in_turn;
+mod loaded_plan;
 mod map_places;
 mod maps;
 mod opening;
@@ -13,6 +14,7 @@ mod places;
 mod plan;
 mod plan_fault;
 mod progress;
+mod scaling_fault;
 mod system_listener;
 mod unread_sources;
 mod where_places;
@@ -21,10 +23,11 @@ mod with_reason;
 
 pub use accepting::{Accepted, AcceptedAll, Listener, accept_all};
 pub use files_in_turn::{FileInTurn, FilesInTurn};
+pub use loaded_plan::LoadedPlan;
 pub use maps::{LoadedMap, load_maps};
 pub use opening::{OpenSource, Opened, SystemFiles};
 pub use opening_all::{NotOpened, OpenedAll, open_all};
-pub use plan::{LoadedPlan, load_plan, load_plan_text};
+pub use plan::{load_plan, load_plan_text};
 pub use plan_fault::{write_filtered_fault, write_plan_fault};
 pub use progress::Progress;
 pub use system_listener::SystemListener;

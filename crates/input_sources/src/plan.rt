@@ -3,28 +3,21 @@
 ghost use Rattle.std.specs.Prelude.{ℕ, List, IfNone, IfSome, ◌≡◌};
 ghost use Rattle.std.specs.Option.{ForSome};
 ghost use Rattle.flow_table.specs.Plans.{IsPlan};
-ghost use Rattle.flow_filtered_plan.specs.FilteredPlans.{IsReadWith};
+ghost use Rattle.flow_plan_estimates.specs.Tables.{IsSaid};
 ghost use Rattle.report_writing.specs.Told.{AreToldTo};
-ghost use Rattle.input_sources.specs.PlansTold.{IsLoaded, TellsNoPlan, TellsNoText};
+ghost use Rattle.input_sources.specs.PlansTold.{IsLoaded, TellsNoPlan, TellsNoText, table_of};
 
+use crate::loaded_plan::LoadedPlan;
 use crate::map_places::{write_key_fault, write_map_fault};
 use crate::plan_fault::write_filtered_fault;
+use crate::scaling_fault::write_scaling_fault;
 use element_registry::Elements;
-use flow_filtered_plan::{FilteredPlan, read_filtered_plan};
+use flow_filtered_plan::read_filtered_plan;
+use flow_plan_estimates::{TablePlan, table_plan};
 use flow_plan_maps::{PlanMaps, add_map_keys, read_plan_maps};
 use input_files::ReadText;
 use report_writing::{Verbosity, WriteLines, write_not_had_because};
 use std::alloc::Global;
-
-/// A plan with its filter and its maps, and the elements that it was read with: by these its text names its keys,
-/// counters and conditions, and what is written under the plan names them. Keys of maps are among them.
-#[derive(Drop)]
-pub struct LoadedPlan {
-    pub read: FilteredPlan,
-    pub elements: Elements,
-    pub maps: PlanMaps,
-    ghost said: { IsReadWith elements read },
-}
 
 /// Reads the plan in the text of a path, which may name these elements. If there is no such text, or it is
 /// no plan, the answer is `None` and `err` has a line that says so, if `verbosity` is verbose with the
@@ -38,10 +31,10 @@ pub fn load_plan<T: ReadText, E: WriteLines>(
     err: &mut E,
 ) -> Option<LoadedPlan>
     // The plan, its filter and its maps are those of the text that the path has, which is UTF-8. The keys of maps are
-    // added to the elements, and nothing else.
+    // added to the elements, where counters are scaled their estimates, and nothing else.
     ensures text { ForSome result (λ loaded. (octets : List ℕ)
         × T.has files.now path.now octets
-        × IsLoaded elements octets loaded.maps loaded.elements loaded.read) }
+        × IsLoaded elements octets loaded.maps (table_of loaded)) }
     // Its numbers are in their ranges, its keys can be compared and its keys and counters are no times of flows, and
     // no element stands twice.
     ensures sound { ForSome result (λ loaded. IsPlan loaded.read.plan) }
@@ -72,7 +65,7 @@ pub fn load_plan_text<E: WriteLines>(
     err: &mut E,
 ) -> Option<LoadedPlan>
     ensures text { ForSome result
-        (λ loaded. IsLoaded elements octets.now loaded.maps loaded.elements loaded.read) }
+        (λ loaded. IsLoaded elements octets.now loaded.maps (table_of loaded)) }
     ensures sound { ForSome result (λ loaded. IsPlan loaded.read.plan) }
     ensures silent { IfSome result (λ _. err.new ≡ err.old) }
     ensures told { IfNone result (TellsNoText elements octets.now
@@ -93,15 +86,37 @@ pub fn load_plan_text<E: WriteLines>(
             return None;
         }
     };
-    match read_filtered_plan(alloc, &elements, octets) {
-        Ok(read) => Some(LoadedPlan {
-            read,
-            elements,
-            maps,
-        }),
+    let said = match read_filtered_plan(alloc, &elements, octets) {
+        Ok(said) => said,
         Err(error) => {
             let _ = write_filtered_fault(&elements, &error, err);
+            return None;
+        }
+    };
+    match table_plan(alloc, elements, said) {
+        Ok(table) => Some(loaded_of(maps, table)),
+        Err(fault) => {
+            let _ = write_scaling_fault(fault, err);
             None
         }
+    }
+}
+
+// What is loaded of a text.
+fn loaded_of(maps: PlanMaps, table: TablePlan) -> LoadedPlan
+    requires { IsSaid table.elements table.read table.estimates }
+    ensures maps_are { result.maps ≡ maps }
+    ensures table_is { table_of result ≡ table }
+{
+    let TablePlan {
+        elements,
+        read,
+        estimates,
+    } = table;
+    LoadedPlan {
+        read,
+        elements,
+        maps,
+        estimates,
     }
 }

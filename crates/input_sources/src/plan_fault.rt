@@ -9,6 +9,7 @@ ghost use Rattle.input_sources.specs.WhereLines.{filter_fault, filtered_lines, w
 ghost use Rattle.report_writing.specs.Writing.{Tells};
 
 use crate::places::{write_key_line, write_place};
+use crate::scaling_fault::write_no_sampling;
 use crate::where_places::write_where;
 use element_registry::Elements;
 use flow_filtered_plan::{FilteredPlanError, WhereFault};
@@ -45,6 +46,7 @@ pub fn write_filtered_fault<W: WriteLines>(
         FilteredPlanError::Plan(error) => write_plan_fault(elements, error, out),
         FilteredPlanError::NoConditions => write_no_conditions(out),
         FilteredPlanError::Where { place, fault } => write_no_condition(*place, fault, out),
+        FilteredPlanError::NoSampling => write_no_sampling(out),
     }
 }
 

@@ -1,3 +1,5 @@
+pub mod Alike
+pub mod Counts
 pub mod Ordered
 pub mod Silent
 pub mod Steps

@@ -1,17 +1,21 @@
 -- When nothing is told.
-use Rattle.std.proofs.Common.{◌≡◌, ◌∙◌, ℕ, ◌+◌, ◌≤◌, List, [], ◌∷◌, ◌++◌, length, refl, sym, ap, subst, arith, inl, inr}
-use Rattle.std.specs.Prelude.{◌⊎◌, ◌↔◌, ◌==◌, ◌&&◌, Bool, true, false, All, bytes_eq, codes, cond, nat_lt, if◌then◌else◌}
+use Rattle.std.proofs.Common.{◌≡◌, ◌∙◌, ℕ, ◌+◌, ◌≤◌, List, [], ◌∷◌, ◌++◌, length, refl, ap, arith}
+use Rattle.std.specs.Prelude.{◌↔◌, ◌==◌, ◌&&◌, Bool, true, false, All, bytes_eq, codes, not, if◌then◌else◌}
+use Rattle.std.specs.Cmp.{first_so}
 use Rattle.std.specs.List.{count_by, flat_map}
-use Rattle.std.proofs.lemmas.Bool.Decides.{Decides-eqb, nat_tests}
+use Rattle.std.proofs.lemmas.Bool.Decides.{Decides-eqb}
 use Rattle.std.proofs.lemmas.List.Elements.{All-cons, All-head, All-nil, All-tail, All-weaker}
-use Rattle.std.proofs.lemmas.List.Sums.{sum_by-cons}
 use Rattle.std.proofs.lemmas.Slice.Eq.{bytes_eq-Decides}
 use Rattle.sha2.specs.Sha256.{sha256}
-use Rattle.table_receipts.specs.Values.{ExporterValue, not_asked, unknown, address, InputValue, TableValue}
+use Rattle.table_receipts.specs.Values.{InputValue, TableValue}
 use Rattle.receipt_differences.specs.DifferenceLines.{named_line, line_start, number_differs, number_line, other_line, other_unless}
 use Rattle.receipt_differences.specs.Differences.{IsTableOf, table_differs}
 use Rattle.receipt_differences.specs.Remade.{again_line, text_differs}
-use Rattle.receipt_differences.specs.Inputs.{AreMatched, HaveSameInputs, count_like, exporter_same, file_differs, gave_other, has_octets, input_differs, inputs_differ, is_like, missing_of, report_differs}
+use Rattle.receipt_differences.specs.Inputs.{HaveSameInputs, count_alike, exporter_same, file_differs, file_end, input_differs, input_end, inputs_differ, is_alike, is_like, lacks, octets_same, report_same}
+use Rattle.receipt_differences.specs.declared.likeness.Likeness.{Likeness}
+use Rattle.receipt_differences.specs.declared.likeness.Likeness.TheVariants.{Octets, Exporter, Report}
+use Rattle.receipt_differences.proofs.Alike.{level_right, likeness_level}
+use Rattle.receipt_differences.proofs.Counts.{at_most, count_parts, count_same, dominated, less_not, not_less}
 
 -- ---- no lines at all
 
@@ -104,145 +108,76 @@ same_text found table = (
   λ same. silent_if (bytes_eq found table) again_line ((bytes_eq-Decides found table).1 same),
 )
 
--- ---- counts
-
-not_less : (a b : ℕ) → nat_lt a b ≡ false → b ≤ a
-not_less a b is = grind (arith, nat_tests)
-
-less_not : (a b : ℕ) → b ≤ a → nat_lt a b ≡ false
-less_not a b is = grind (arith, nat_tests)
-
-none_first : (b : Bool) (n : ℕ) → cond b 1 0 + n ≡ 0 → (b ≡ false) × (n ≡ 0)
-none_first true n e = absurd (omega arith)
-none_first false n e = (refl, omega arith)
-
-first_none : (b : Bool) (n : ℕ) → b ≡ false → n ≡ 0 → cond b 1 0 + n ≡ 0
-first_none true n is none = absurd cc
-first_none false n is none = omega arith
-
-pub count_cons : {X : Type 0} (p : X → Bool) (x : X) (xs : List X) → count_by p (x ∷ xs) ≡ cond (p x) 1 0 + count_by p xs
-count_cons p x xs = sum_by-cons (λ x. cond (p x) 1 0) x xs
-
-none_counted : {X : Type 0} (p : X → Bool) (xs : List X) → count_by p xs ≡ 0 → All (λ x. p x ≡ false) xs
-none_counted p [] e = All-nil (λ x. p x ≡ false)
-none_counted p (x ∷ xs) e =
-    let parts = none_first (p x) (count_by p xs) (sym (count_cons p x xs) ∙ e) in
-    All-cons (λ x. p x ≡ false) x xs parts.0 (none_counted p xs parts.1)
-
-pub count_none : {X : Type 0} (p : X → Bool) (xs : List X) → All (λ x. p x ≡ false) xs → count_by p xs ≡ 0
-count_none p [] none = refl
-count_none p (x ∷ xs) none =
-    let first = All-head (λ x. p x ≡ false) x xs none in
-    let rest = count_none p xs (All-tail (λ x. p x ≡ false) x xs none) in
-    count_cons p x xs ∙ first_none (p x) (count_by p xs) first rest
-
--- as many of all as of the others, if that is so wherever one is counted
-counted_within : {X : Type 0} (p : X → Bool) (xs all others : List X) → All (λ x. p x ≡ true → count_by p all ≤ count_by p others) xs → (count_by p xs ≡ 0) ⊎ (count_by p all ≤ count_by p others)
-counted_within p [] all others each = inl refl
-counted_within {X} p (x ∷ xs) all others each =
-    by (p x) refl (counted_within p xs all others (All-tail (λ x. p x ≡ true → count_by p all ≤ count_by p others) x xs each))
-  where
-    by : (b : Bool) → p x ≡ b → (count_by p xs ≡ 0) ⊎ (count_by p all ≤ count_by p others) → (count_by p (x ∷ xs) ≡ 0) ⊎ (count_by p all ≤ count_by p others)
-    by true is rest = inr (All-head (λ x. p x ≡ true → count_by p all ≤ count_by p others) x xs each is)
-    by false is (inl none) = inl (count_cons p x xs ∙ first_none (p x) (count_by p xs) is none)
-    by false is (inr enough) = inr enough
-
-at_most : {X : Type 0} (p : X → Bool) (all others : List X) → All (λ x. p x ≡ true → count_by p all ≤ count_by p others) all → count_by p all ≤ count_by p others
-at_most p all others each = by (counted_within p all all others each)
-  where
-    by : (count_by p all ≡ 0) ⊎ (count_by p all ≤ count_by p others) → count_by p all ≤ count_by p others
-    by (inl none) = omega arith
-    by (inr enough) = enough
-
 -- ---- inputs
 
-pub and_parts : (a b : Bool) → (a && b) ≡ true → (a ≡ true) × (b ≡ true)
-and_parts true b e = (refl, e)
-and_parts false b e = absurd cc
+alike_enough : (to : Likeness) (all others : List InputValue) (i x : InputValue) → is_alike to i x ≡ true → count_alike to x all ≤ count_alike to x others → count_alike to i all ≤ count_alike to i others
+alike_enough to all others i x is enough =
+    let same = λ (z : InputValue). (likeness_level to).congr i x z is in
+    let one = count_same (is_alike to i) (is_alike to x) same all in
+    let two = count_same (is_alike to i) (is_alike to x) same others in
+    omega arith
 
--- an input that has these octets has no others
-pub octets_are : (octets : ℕ) (digest : List ℕ) (i : InputValue) → has_octets octets digest i ≡ true → (i.file.octets ≡ octets) × (i.file.digest ≡ digest)
-octets_are octets digest i is =
-    let parts = and_parts (i.file.octets == octets) (bytes_eq i.file.digest digest) is in
-    ((Decides-eqb i.file.octets octets).0 parts.0, (bytes_eq-Decides i.file.digest digest).0 parts.1)
+-- no more of any than of the others, if that is so of each
+none_lacks : (to : Likeness) (all others : List InputValue) → All (λ x. lacks to all others x ≡ false) all → (i : InputValue) → count_alike to i all ≤ count_alike to i others
+none_lacks to all others each i =
+    at_most (is_alike to i) all others (All-weaker (λ x. lacks to all others x ≡ false) (λ x. is_alike to i x ≡ true → count_alike to i all ≤ count_alike to i others)
+    (λ x none is. alike_enough to all others i x is (not_less (count_alike to x others) (count_alike to x all) none)) all each)
 
-same_exporter : (e f : ExporterValue) → exporter_same e f ≡ true → e ≡ f
-same_exporter not_asked not_asked is = refl
-same_exporter not_asked unknown is = absurd cc
-same_exporter not_asked (address b) is = absurd cc
-same_exporter unknown not_asked is = absurd cc
-same_exporter unknown unknown is = refl
-same_exporter unknown (address b) is = absurd cc
-same_exporter (address a) not_asked is = absurd cc
-same_exporter (address a) unknown is = absurd cc
-same_exporter (address a) (address b) is = ap address ((bytes_eq-Decides a b).0 is)
+input_silent : (inputs files : List InputValue) (i : InputValue) → input_differs inputs files i ≡ [] → lacks Report inputs files i ≡ false
+input_silent inputs files i e = (else_silent (lacks Report inputs files i) (named_line (codes "input") i.file.name (input_end inputs files i)) [] (named_said _ _ _) e).0
 
--- nor an input that has this exporter
-pub parts_are : (octets : ℕ) (digest : List ℕ) (exporter : ExporterValue) (i : InputValue) → is_like octets digest exporter i ≡ true
-    → (i.file.octets ≡ octets) × (i.file.digest ≡ digest) × (i.exporter ≡ exporter)
-parts_are octets digest exporter i is =
-    let parts = and_parts (has_octets octets digest i) (exporter_same i.exporter exporter) is in
-    let same = octets_are octets digest i parts.0 in
-    (same.0, same.1, same_exporter i.exporter exporter parts.1)
+silent_input : (inputs files : List InputValue) (i : InputValue) → count_alike Report i inputs ≤ count_alike Report i files → input_differs inputs files i ≡ []
+silent_input inputs files i enough =
+    silent_else (lacks Report inputs files i) (named_line (codes "input") i.file.name (input_end inputs files i)) []
+    (less_not (count_alike Report i files) (count_alike Report i inputs) enough) refl
 
-enough_like : (octets : ℕ) (digest : List ℕ) (exporter : ExporterValue) (all others : List InputValue) (i : InputValue) → count_like i all ≤ count_like i others
-    → is_like octets digest exporter i ≡ true → count_by (is_like octets digest exporter) all ≤ count_by (is_like octets digest exporter) others
-enough_like octets digest exporter all others i enough is =
-    let same = parts_are octets digest exporter i is in
-    subst (λ (n : ℕ). count_by (is_like n digest exporter) all ≤ count_by (is_like n digest exporter) others) same.0
-    (subst (λ (d : List ℕ). count_by (is_like i.file.octets d exporter) all ≤ count_by (is_like i.file.octets d exporter) others) same.1
-    (subst (λ (e : ExporterValue). count_by (is_like i.file.octets i.file.digest e) all ≤ count_by (is_like i.file.octets i.file.digest e) others) same.2 enough))
+file_silent : (inputs files : List InputValue) (f : InputValue) → file_differs inputs files f ≡ [] → lacks Exporter files inputs f ≡ false
+file_silent inputs files f e = (else_silent (lacks Exporter files inputs f) (named_line (codes "file") f.file.name (file_end inputs files f)) [] (named_said _ _ _) e).0
 
-input_silent : (inputs files : List InputValue) (i : InputValue) → input_differs inputs files i ≡ [] → (count_like i inputs ≤ count_like i files) × All (λ f. gave_other i f ≡ false) files
-input_silent inputs files i e =
-    let parts = else_silent (nat_lt (count_like i files) (count_like i inputs)) (named_line (codes "input") i.file.name (missing_of inputs files i (codes ": no FILE for it\n"))) (report_differs files i) (named_said _ _ _) e in
-    let report = else_silent (nat_lt 0 (count_by (gave_other i) files)) (named_line (codes "input") i.file.name (codes ": another report\n")) [] (named_said _ _ _) parts.1 in
-    let none : count_by (gave_other i) files ≤ 0 = not_less 0 (count_by (gave_other i) files) report.0 in
-    (not_less (count_like i files) (count_like i inputs) parts.0, none_counted (gave_other i) files (omega arith))
-
-silent_input : (inputs files : List InputValue) (i : InputValue) → count_like i inputs ≤ count_like i files → All (λ f. gave_other i f ≡ false) files → input_differs inputs files i ≡ []
-silent_input inputs files i enough none =
-    let count : count_by (gave_other i) files ≡ 0 = count_none (gave_other i) files none in
-    silent_else (nat_lt (count_like i files) (count_like i inputs)) (named_line (codes "input") i.file.name (missing_of inputs files i (codes ": no FILE for it\n"))) (report_differs files i)
-    (less_not (count_like i files) (count_like i inputs) enough)
-    (silent_else (nat_lt 0 (count_by (gave_other i) files)) (named_line (codes "input") i.file.name (codes ": another report\n")) [] (less_not 0 (count_by (gave_other i) files) (omega arith)) refl)
-
-file_silent : (inputs files : List InputValue) (f : InputValue) → file_differs inputs files f ≡ [] → count_like f files ≤ count_like f inputs
-file_silent inputs files f e =
-    not_less (count_like f inputs) (count_like f files) (else_silent (nat_lt (count_like f inputs) (count_like f files)) (named_line (codes "file") f.file.name (missing_of files inputs f (codes ": no input for it\n"))) [] (named_said _ _ _) e).0
-
-silent_file : (inputs files : List InputValue) (f : InputValue) → count_like f files ≤ count_like f inputs → file_differs inputs files f ≡ []
+silent_file : (inputs files : List InputValue) (f : InputValue) → count_alike Exporter f files ≤ count_alike Exporter f inputs → file_differs inputs files f ≡ []
 silent_file inputs files f enough =
-    silent_else (nat_lt (count_like f inputs) (count_like f files)) (named_line (codes "file") f.file.name (missing_of files inputs f (codes ": no input for it\n"))) [] (less_not (count_like f inputs) (count_like f files) enough) refl
+    silent_else (lacks Exporter files inputs f) (named_line (codes "file") f.file.name (file_end inputs files f)) []
+    (less_not (count_alike Exporter f inputs) (count_alike Exporter f files) enough) refl
 
 all_so : {X : Type 0} (P : X → Type 0) → ((x : X) → P x) → (xs : List X) → All P xs
 all_so P each [] = All-nil P
 all_so P each (x ∷ xs) = All-cons P x xs (each x) (all_so P each xs)
 
-one_each : (inputs files : List InputValue) → All (λ i. input_differs inputs files i ≡ []) inputs → All (λ f. file_differs inputs files f ≡ []) files → AreMatched inputs files
-one_each inputs files of_inputs of_files = λ octets digest exporter.
-    let p = is_like octets digest exporter in
-    let first : count_by p inputs ≤ count_by p files = at_most p inputs files (All-weaker (λ i. input_differs inputs files i ≡ []) (λ i. p i ≡ true → count_by p inputs ≤ count_by p files)
-    (λ i silent. enough_like octets digest exporter inputs files i (input_silent inputs files i silent).0) inputs of_inputs) in
-    let second : count_by p files ≤ count_by p inputs = at_most p files inputs (All-weaker (λ f. file_differs inputs files f ≡ []) (λ f. p f ≡ true → count_by p files ≤ count_by p inputs)
-    (λ f silent. enough_like octets digest exporter files inputs f (file_silent inputs files f silent)) files of_files) in
+-- those that are like one are of its exporter
+like_within : (i x : InputValue) → is_like i x ≡ true → is_alike Exporter i x ≡ true
+like_within i x is = first_so (is_alike Exporter i x) (report_same i x) is
+
+like_keeps : (to : Likeness) (i x y : InputValue) → is_like x y ≡ true → is_alike to i x ≡ is_alike to i y
+like_keeps Octets i x y is = level_right Octets x y i (first_so (octets_same x y) (exporter_same x.exporter y.exporter) (like_within x y is))
+like_keeps Exporter i x y is = level_right Exporter x y i (like_within x y is)
+like_keeps Report i x y is = level_right Report x y i is
+
+-- one for one: no more inputs than files are like any, and no more files than inputs have an exporter
+one_each : (inputs files : List InputValue) → ((i : InputValue) → count_alike Report i inputs ≤ count_alike Report i files)
+    → ((f : InputValue) → count_alike Exporter f files ≤ count_alike Exporter f inputs) → (i : InputValue) → count_by (is_like i) inputs ≡ count_by (is_like i) files
+one_each inputs files of_inputs of_files i =
+    let other = λ (x : InputValue). is_alike Exporter i x && not (is_like i x) in
+    let kept : (x y : InputValue) → is_like x y ≡ true → other x ≡ other y = λ x y is k. like_keeps Exporter i x y is k && not (like_keeps Report i x y is k) in
+    let most : count_by other inputs ≤ count_by other files = dominated is_like (likeness_level Report) other kept inputs files of_inputs in
+    let all_inputs = count_parts (is_alike Exporter i) (is_like i) (like_within i) inputs in
+    let all_files = count_parts (is_alike Exporter i) (is_like i) (like_within i) files in
+    let like = of_inputs i in
+    let exporter = of_files i in
     omega arith
 
 pub same_inputs : (inputs files : List InputValue) → (inputs_differ inputs files ≡ []) ↔ HaveSameInputs inputs files
 same_inputs inputs files = (
   λ silent.
       let parts = both_empty (flat_map (input_differs inputs files) inputs) (flat_map (file_differs inputs files) files) silent in
-      let of_inputs = flat_silent (input_differs inputs files) inputs parts.0 in
-      let of_files = flat_silent (file_differs inputs files) files parts.1 in
-      record {
-        matched = one_each inputs files of_inputs of_files;
-        reports = All-weaker (λ i. input_differs inputs files i ≡ []) (λ i. All (λ f. gave_other i f ≡ false) files) (λ i silent. (input_silent inputs files i silent).1) inputs of_inputs;
-      },
+      let of_inputs = All-weaker (λ i. input_differs inputs files i ≡ []) (λ i. lacks Report inputs files i ≡ false) (input_silent inputs files) inputs (flat_silent (input_differs inputs files) inputs parts.0) in
+      let of_files = All-weaker (λ f. file_differs inputs files f ≡ []) (λ f. lacks Exporter files inputs f ≡ false) (file_silent inputs files) files (flat_silent (file_differs inputs files) files parts.1) in
+      record { matched = one_each inputs files (none_lacks Report inputs files of_inputs) (none_lacks Exporter files inputs of_files) },
   λ same.
       empty_both (flat_map (input_differs inputs files) inputs) (flat_map (file_differs inputs files) files)
       (silent_flat (input_differs inputs files) inputs
-      (All-weaker (λ i. All (λ f. gave_other i f ≡ false) files) (λ i. input_differs inputs files i ≡ [])
-      (λ i none. let level = same.matched i.file.octets i.file.digest i.exporter in silent_input inputs files i (omega (arith, level)) none) inputs same.reports))
+      (all_so (λ i. input_differs inputs files i ≡ []) (λ i. let level = same.matched i in silent_input inputs files i (omega (arith, level))) inputs))
       (silent_flat (file_differs inputs files) files
-      (all_so (λ f. file_differs inputs files f ≡ []) (λ f. let level = same.matched f.file.octets f.file.digest f.exporter in silent_file inputs files f (omega (arith, level))) files)),
+      (all_so (λ f. file_differs inputs files f ≡ [])
+      (λ f. silent_file inputs files f (dominated is_like (likeness_level Report) (is_alike Exporter f) (like_keeps Exporter f) files inputs
+      (λ i. let level = same.matched i in omega (arith, level)))) files)),
 )

@@ -1,24 +1,23 @@
 //! Inputs that differ from those that files gave.
 
-ghost use Rattle.std.specs.Prelude.{◌≡◌, map, nat_lt, string_bytes};
-ghost use Rattle.std.specs.List.{count_by, flat_map};
-ghost use Rattle.std.specs.List.Sorted.{IsNonDecreasingBy};
+ghost use Rattle.std.specs.Prelude.{◌≡◌, map, string_bytes};
+ghost use Rattle.std.specs.List.{flat_map};
 ghost use Rattle.report_writing.specs.Writing.{Tells};
-ghost use Rattle.table_receipts.specs.Values.{InputValue, input_value};
+ghost use Rattle.table_receipts.specs.Values.{input_value};
 ghost use Rattle.table_receipts.specs.declared.receipt.InputReceipt.{InputReceipt as Input};
 ghost use Rattle.receipt_differences.specs.DifferenceLines.{line_start, named_line};
-ghost use Rattle.receipt_differences.specs.Inputs.{count_like as likes, file_differs, gave_other, has_octets, input_differs, inputs_differ, missing_of, report_differs};
-ghost use Rattle.receipt_differences.specs.Orders.{IsOrderOf, mark_of, values_of};
+ghost use Rattle.receipt_differences.specs.Inputs.{file_differs, file_end as end_of_file, input_differs, input_end as end_of_input, inputs_differ, lacks as lacks_any};
+ghost use Rattle.receipt_differences.specs.Orders.{Ascends, IsOrderOf, values_of};
 
-use crate::order::like;
-use crate::reports::{has_octets_of, has_report_of, is_like_it};
+use crate::likeness::Likeness;
+use crate::order::count_alike;
 use report_writing::{Origin, WriteLines, write_origin};
 use std::io;
 use table_receipts::{FileReceipt, InputReceipt};
 
 /// Writes a line for each input that a receipt tells of for which there is no file, or whose file gave something else, and
-/// then for each file for which there is no input. They are matched by their octets and their exporters, whatever their
-/// names; `own` and `others` are the inputs and the files in the order of their digests.
+/// then for each file for which there is no input. Each file is matched with one input at most, by their octets, their exporters
+/// and what their sessions gave, whatever their names; `own` and `others` are the inputs and the files in the order of these.
 pub fn write_input_differences<E: WriteLines>(
     inputs: &[InputReceipt],
     files: &[InputReceipt],
@@ -42,8 +41,8 @@ fn write_inputs<E: WriteLines>(
     others: &[&InputReceipt],
     err: &mut E,
 ) -> io::Result<()>
-    requires own { IsNonDecreasingBy mark_of own.now }
-    requires others { IsNonDecreasingBy mark_of others.now }
+    requires own { Ascends own.now }
+    requires others { Ascends others.now }
     ensures { Tells E.contents E.failed err.old err.new result (flat_map (λ (i : Input).
         input_differs (values_of own.now) (values_of others.now) (input_value i)) inputs.now) }
 {
@@ -59,75 +58,45 @@ fn write_input<E: WriteLines>(
     others: &[&InputReceipt],
     err: &mut E,
 ) -> io::Result<()>
-    requires own { IsNonDecreasingBy mark_of own.now }
-    requires others { IsNonDecreasingBy mark_of others.now }
+    requires own { Ascends own.now }
+    requires others { Ascends others.now }
     ensures { Tells E.contents E.failed err.old err.new result (input_differs
         (values_of own.now) (values_of others.now) (input_value input.now)) }
 {
-    if is_lacking(input, own, others) {
-        write_missing("input", input, own, others, ": no FILE for it\n", err)
-    } else {
-        write_other_report(input, others, err)
-    }
-}
-
-fn write_other_report<E: WriteLines>(
-    input: &InputReceipt,
-    files: &[&InputReceipt],
-    err: &mut E,
-) -> io::Result<()>
-    requires { IsNonDecreasingBy mark_of files.now }
-    ensures { Tells E.contents E.failed err.old err.new result
-        (report_differs (values_of files.now) (input_value input.now)) }
-{
-    if has_other(input, files) {
-        write_named("input", &input.file, ": another report\n", err)
+    if lacks(Likeness::Report, input, own, others) {
+        write_named("input", &input.file, input_end(input, own, others), err)
     } else {
         Ok(())
     }
 }
 
-// Whether fewer of the others have the same octets and the same exporter.
-fn is_lacking(input: &InputReceipt, own: &[&InputReceipt], others: &[&InputReceipt]) -> bool
-    requires own { IsNonDecreasingBy mark_of own.now }
-    requires others { IsNonDecreasingBy mark_of others.now }
-    ensures { result ≡ nat_lt (likes (input_value input.now) (values_of others.now))
-        (likes (input_value input.now) (values_of own.now)) }
+// What an input has no file with: its octets; or its exporter, too; or its report.
+fn input_end(input: &InputReceipt, own: &[&InputReceipt], others: &[&InputReceipt]) -> &'static str
+    requires own { Ascends own.now }
+    requires others { Ascends others.now }
+    ensures { result.now ≡ end_of_input (values_of own.now) (values_of others.now) (input_value input.now) }
 {
-    count_like(input, others) < count_like(input, own)
-}
-
-// Writes what the others lack: one with the same octets, which `none` says, or one with the same exporter, too.
-fn write_missing<E: WriteLines>(
-    what: &str,
-    input: &InputReceipt,
-    own: &[&InputReceipt],
-    others: &[&InputReceipt],
-    none: &str,
-    err: &mut E,
-) -> io::Result<()>
-    requires own { IsNonDecreasingBy mark_of own.now }
-    requires others { IsNonDecreasingBy mark_of others.now }
-    ensures { Tells E.contents E.failed err.old err.new result
-        (named_line what.now (string_bytes input.now.file.name)
-        (missing_of (values_of own.now) (values_of others.now) (input_value input.now) none.now)) }
-{
-    if lacks_octets(&input.file, own, others) {
-        write_named(what, &input.file, none, err)
+    if lacks(Likeness::Octets, input, own, others) {
+        ": no FILE for it\n"
+    } else if lacks(Likeness::Exporter, input, own, others) {
+        ": another exporter\n"
     } else {
-        write_named(what, &input.file, ": another exporter\n", err)
+        ": another report\n"
     }
 }
 
-// Whether fewer of the others have the same octets.
-fn lacks_octets(file: &FileReceipt, own: &[&InputReceipt], others: &[&InputReceipt]) -> bool
-    requires own { IsNonDecreasingBy mark_of own.now }
-    requires others { IsNonDecreasingBy mark_of others.now }
-    ensures { result ≡ nat_lt
-        (count_by (has_octets file.now.octets file.now.sha256) (values_of others.now))
-        (count_by (has_octets file.now.octets file.now.sha256) (values_of own.now)) }
+// Whether fewer of the others than of its own are so far alike to an input.
+fn lacks(
+    to: Likeness,
+    input: &InputReceipt,
+    own: &[&InputReceipt],
+    others: &[&InputReceipt],
+) -> bool
+    requires own { Ascends own.now }
+    requires others { Ascends others.now }
+    ensures { result ≡ lacks_any to (values_of own.now) (values_of others.now) (input_value input.now) }
 {
-    count_octets(file, others) < count_octets(file, own)
+    count_alike(to, input, others) < count_alike(to, input, own)
 }
 
 // Writes the lines of the files.
@@ -137,8 +106,8 @@ fn write_files<E: WriteLines>(
     others: &[&InputReceipt],
     err: &mut E,
 ) -> io::Result<()>
-    requires own { IsNonDecreasingBy mark_of own.now }
-    requires others { IsNonDecreasingBy mark_of others.now }
+    requires own { Ascends own.now }
+    requires others { Ascends others.now }
     ensures { Tells E.contents E.failed err.old err.new result (flat_map (λ (f : Input).
         file_differs (values_of own.now) (values_of others.now) (input_value f)) files.now) }
 {
@@ -154,15 +123,28 @@ fn write_file<E: WriteLines>(
     others: &[&InputReceipt],
     err: &mut E,
 ) -> io::Result<()>
-    requires own { IsNonDecreasingBy mark_of own.now }
-    requires others { IsNonDecreasingBy mark_of others.now }
+    requires own { Ascends own.now }
+    requires others { Ascends others.now }
     ensures { Tells E.contents E.failed err.old err.new result (file_differs
         (values_of own.now) (values_of others.now) (input_value file.now)) }
 {
-    if is_lacking(file, others, own) {
-        write_missing("file", file, others, own, ": no input for it\n", err)
+    if lacks(Likeness::Exporter, file, others, own) {
+        write_named("file", &file.file, file_end(file, own, others), err)
     } else {
         Ok(())
+    }
+}
+
+// What a file has no input with: its octets; or its exporter, too.
+fn file_end(file: &InputReceipt, own: &[&InputReceipt], others: &[&InputReceipt]) -> &'static str
+    requires own { Ascends own.now }
+    requires others { Ascends others.now }
+    ensures { result.now ≡ end_of_file (values_of own.now) (values_of others.now) (input_value file.now) }
+{
+    if lacks(Likeness::Octets, file, others, own) {
+        ": no input for it\n"
+    } else {
+        ": another exporter\n"
     }
 }
 
@@ -188,55 +170,4 @@ fn write_start<E: WriteLines>(what: &str, err: &mut E) -> io::Result<()>
     ensures { Tells E.contents E.failed err.old err.new result (line_start what.now) }
 {
     write!(err, "collectd: verify: {what}")
-}
-
-// How many have the same octets and the same exporter.
-fn count_like(input: &InputReceipt, ordered: &[&InputReceipt]) -> usize
-    requires { IsNonDecreasingBy mark_of ordered.now }
-    ensures { result ≡ likes (input_value input.now) (values_of ordered.now) }
-{
-    count_like_among(input, like(ordered, &input.file))
-}
-
-fn count_like_among(input: &InputReceipt, some: &[&InputReceipt]) -> usize
-    ensures { result ≡ likes (input_value input.now) (values_of some.now) }
-{
-    some.iter().filter(|other| is_like_it(input, other)).count()
-}
-
-// How many have the same octets.
-fn count_octets(file: &FileReceipt, ordered: &[&InputReceipt]) -> usize
-    requires { IsNonDecreasingBy mark_of ordered.now }
-    ensures { result ≡ count_by (has_octets file.now.octets file.now.sha256) (values_of ordered.now) }
-{
-    count_octets_among(file, like(ordered, file))
-}
-
-fn count_octets_among(file: &FileReceipt, some: &[&InputReceipt]) -> usize
-    ensures { result ≡ count_by (has_octets file.now.octets file.now.sha256) (values_of some.now) }
-{
-    some.iter()
-        .filter(|other| has_octets_of(file, other))
-        .count()
-}
-
-// Whether a file has the octets of an input, and gave something else.
-fn has_other(input: &InputReceipt, files: &[&InputReceipt]) -> bool
-    requires { IsNonDecreasingBy mark_of files.now }
-    ensures { result ≡ nat_lt 0
-        (count_by (gave_other (input_value input.now)) (values_of files.now)) }
-{
-    count_others(input, like(files, &input.file)) > 0
-}
-
-fn count_others(input: &InputReceipt, some: &[&InputReceipt]) -> usize
-    ensures { result ≡ count_by (gave_other (input_value input.now)) (values_of some.now) }
-{
-    some.iter().filter(|file| is_other(input, file)).count()
-}
-
-fn is_other(input: &InputReceipt, file: &InputReceipt) -> bool
-    ensures { result ≡ gave_other (input_value input.now) (input_value file.now) }
-{
-    has_octets_of(&input.file, file) && !has_report_of(input, file)
 }

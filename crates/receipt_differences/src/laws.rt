@@ -17,7 +17,8 @@ pub fn no_line_of_same_text()
     ensures { (found table : List ℕ) → (text_differs found table ≡ []) ↔ (found ≡ table) }
 {}
 
-/// Nothing is told of inputs and files exactly if they have the same octets and exporters, one for one, and gave the same.
+/// Nothing is told of inputs and files exactly if each input has a file of its own with the same octets and exporter, whose session gave
+/// the same, and each file an input.
 pub fn no_line_of_same_inputs()
     ensures { (inputs files : List InputValue)
         → (inputs_differ inputs files ≡ []) ↔ HaveSameInputs inputs files }

@@ -3,6 +3,7 @@
 
 mod inputs;
 pub mod laws;
+mod likeness;
 mod maps;
 mod numbers;
 mod order;

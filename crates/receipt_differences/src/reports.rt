@@ -1,83 +1,66 @@
-//! The octets and the exporters of inputs, and what their sessions gave, compared.
+//! An order of what the sessions of inputs gave.
 
-ghost use Rattle.std.specs.Prelude.{◌≡◌, ◌&&◌, option_map, string_bytes};
-ghost use Rattle.table_receipts.specs.Values.{exporter_value, input_value};
-ghost use Rattle.receipt_differences.specs.Inputs.{domain_same, domains_same, exporter_same, fault_same, has_octets, is_like, report_same};
+ghost use Rattle.std.specs.Prelude.{◌≡◌, option_map, string_bytes};
+ghost use Rattle.std.specs.Cmp.Lexicographic.{slice_cmp};
+ghost use Rattle.std.specs.Option.{option_cmp};
+ghost use Rattle.std.specs.Ordering.{nat_cmp};
+ghost use Rattle.table_receipts.specs.Values.{input_value};
+ghost use Rattle.receipt_differences.specs.Orders.{domain_cmp, report_cmp};
 
-use table_receipts::{DomainReceipt, ExporterReceipt, FileReceipt, InputReceipt};
+use std::cmp::Ordering;
+use table_receipts::{DomainReceipt, InputReceipt};
 
-/// Whether two files have the same octets, by their number and digest.
-pub fn has_octets_of(file: &FileReceipt, other: &InputReceipt) -> bool
-    ensures { result ≡ has_octets file.now.octets file.now.sha256 (input_value other.now) }
+/// Which of two inputs comes first by what their sessions gave: those whose sessions gave the same are equal.
+pub fn by_report(input: &InputReceipt, other: &InputReceipt) -> Ordering
+    ensures { result ≡ report_cmp (input_value input.now) (input_value other.now) }
 {
-    other.file.octets == file.octets && other.file.sha256 == file.sha256
+    let faults = by_fault(&input.fault, &other.fault);
+    let sessions = faults.then(by_domains(&input.domains, &other.domains));
+    let records = input.records.cmp(&other.records).then(sessions);
+    input.messages.cmp(&other.messages).then(records)
 }
 
-/// Whether two inputs have the same octets, and the same exporter.
-pub fn is_like_it(input: &InputReceipt, other: &InputReceipt) -> bool
-    ensures { result ≡ is_like input.now.file.octets input.now.file.sha256
-        (exporter_value input.now.exporter) (input_value other.now) }
-{
-    has_octets_of(&input.file, other) && is_same_exporter(&other.exporter, &input.exporter)
-}
-
-fn is_same_exporter(exporter: &ExporterReceipt, other: &ExporterReceipt) -> bool
-    ensures { result ≡ exporter_same (exporter_value exporter.now) (exporter_value other.now) }
-{
-    match (exporter, other) {
-        (ExporterReceipt::NotAsked, ExporterReceipt::NotAsked) => true,
-        (ExporterReceipt::Unknown, ExporterReceipt::Unknown) => true,
-        (ExporterReceipt::Address(text), ExporterReceipt::Address(other)) => {
-            text.as_str() == other.as_str()
-        }
-        _ => false,
-    }
-}
-
-/// Whether the sessions of two inputs gave the same.
-pub fn has_report_of(input: &InputReceipt, other: &InputReceipt) -> bool
-    ensures { result ≡ report_same (input_value input.now) (input_value other.now) }
-{
-    input.messages == other.messages
-        && input.records == other.records
-        && is_same_fault(&input.fault, &other.fault)
-        && are_same_domains(&input.domains, &other.domains)
-}
-
-fn is_same_fault(fault: &Option<String>, other: &Option<String>) -> bool
-    ensures { result ≡ fault_same (option_map string_bytes fault.now) (option_map string_bytes other.now) }
+fn by_fault(fault: &Option<String>, other: &Option<String>) -> Ordering
+    ensures { result ≡ option_cmp (slice_cmp nat_cmp)
+        (option_map string_bytes fault.now) (option_map string_bytes other.now) }
 {
     match (fault, other) {
-        (None, None) => true,
-        (Some(name), Some(other)) => name.as_str() == other.as_str(),
-        _ => false,
+        (None, None) => Ordering::Equal,
+        (None, Some(_)) => Ordering::Less,
+        (Some(_), None) => Ordering::Greater,
+        (Some(name), Some(other)) => name.as_str().cmp(other.as_str()),
     }
 }
 
-fn are_same_domains(domains: &[DomainReceipt], others: &[DomainReceipt]) -> bool
-    ensures { result ≡ domains_same domains.now others.now }
+fn by_domains(domains: &[DomainReceipt], others: &[DomainReceipt]) -> Ordering
+    ensures { result ≡ slice_cmp domain_cmp domains.now others.now }
 {
     let mut left = domains;
     let mut rest = others;
     while let Some((domain, later)) = left.split_first() {
         let Some((other, after)) = rest.split_first() else {
-            return false;
+            return Ordering::Greater;
         };
-        if !is_same_domain(domain, other) {
-            return false;
+        let order = by_domain(domain, other);
+        if order.is_ne() {
+            return order;
         }
         left = later;
         rest = after;
     }
-    rest.is_empty()
+    if rest.is_empty() {
+        Ordering::Equal
+    } else {
+        Ordering::Less
+    }
 }
 
-fn is_same_domain(domain: &DomainReceipt, other: &DomainReceipt) -> bool
-    ensures { result ≡ domain_same domain.now other.now }
+fn by_domain(domain: &DomainReceipt, other: &DomainReceipt) -> Ordering
+    ensures { result ≡ domain_cmp domain.now other.now }
 {
-    domain.domain == other.domain
-        && domain.lost == other.lost
-        && domain.backward == other.backward
-        && domain.unaccounted == other.unaccounted
-        && domain.unknown_sets == other.unknown_sets
+    let sets = domain.unknown_sets.cmp(&other.unknown_sets);
+    let unaccounted = domain.unaccounted.cmp(&other.unaccounted).then(sets);
+    let backward = domain.backward.cmp(&other.backward).then(unaccounted);
+    let lost = domain.lost.cmp(&other.lost).then(backward);
+    domain.domain.cmp(&other.domain).then(lost)
 }

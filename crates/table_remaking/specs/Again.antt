@@ -8,7 +8,7 @@ use Rattle.flow_collect.specs.Texts.{AreTexts}
 use Rattle.flow_export.specs.declared.format.Format.{Format}
 use Rattle.flow_export.specs.declared.format.Format.TheVariants.{Csv, Json, Ipfix}
 use Rattle.flow_filtered_plan.specs.FilteredPlans.{filter_of}
-use Rattle.flow_plan_maps.specs.Wants.{wanted_context, wanted_options}
+use Rattle.flow_plan_maps.specs.Wants.{refuses_sampled, wanted_context, wanted_options}
 use Rattle.ipfix_session.specs.Given.{IsPrefix}
 use Rattle.ipfix_session.specs.Sources.{SourceView}
 use Rattle.output_tables.specs.TableTexts.{export_text}
@@ -21,7 +21,7 @@ use Rattle.receipt_differences.specs.Differences.{IsTableOf, table_differs}
 use Rattle.receipt_differences.specs.Inputs.{HaveSameInputs}
 use Rattle.receipt_differences.specs.Remade.{remade_differs, text_differs}
 use Rattle.command_collect.specs.Engines.{CollectsBy}
-use Rattle.command_collect.specs.Exporters.{in_context}
+use Rattle.command_collect.specs.Exporters.{in_noting_context}
 use Rattle.command_collect.specs.declared.engine.Engine.TheVariants.{Lots}
 use Rattle.command_collect.specs.declared.job.CollectJob.{CollectJob}
 use Rattle.command_receipt.specs.Digests.{AreDigestsOf}
@@ -48,6 +48,8 @@ pub record IsJobOf (by : MadeBy) (said : TableValue) (job : CollectJob) : Type 0
   pub wanted : job.wanted ≡ wanted_context by.loaded.read by.loaded.maps
   pub options : job.options ≡ wanted_options by.loaded.read
   pub maps : option_copied job.maps ≡ by.maps
+  pub estimates : option_map (λ e. e.now) job.estimates ≡ by.loaded.estimates
+  pub refuses : job.refuses_sampled ≡ refuses_sampled by.loaded.read
   pub filter : option_map (λ f. f.now) job.filter ≡ filter_of by.loaded.read
   pub exporters : job.exporters.now ≡ by.exporters.items
 
@@ -64,9 +66,9 @@ again_differs said table found text = table_differs said.table table ++ (remade_
 pub record IsVerified {S : Type 0} (seen : S → SourceView) (job : CollectJob) (said : ReceiptValue) (table : List ℕ) (sources : List S) (origins : List Origin) : Type 0 where
   pub table_is : IsTableOf said.table table
   pub collected : FullSerialAnswer S
-  pub collects : CollectsBy job.engine (IsGivenInContext seen) (in_context job sources origins) job.plan.now collected
-  pub first : (texts : List (List ℕ)) → AreTexts seen (sources_of (in_context job sources origins)) texts
-      → AllZip IsPrefix collects.headline.records (records_in_context (in_context job sources origins) texts)
+  pub collects : CollectsBy job.engine (IsGivenInContext seen) (in_noting_context job sources origins) job.plan.now collected
+  pub first : (texts : List (List ℕ)) → AreTexts seen (sources_of (in_noting_context job sources origins)) texts
+      → AllZip IsPrefix collects.headline.records (records_in_context (in_noting_context job sources origins) texts)
   pub digests : List (List ℕ)
   pub are_digests : AreDigestsOf seen sources (fulls_in collected.sessions.items) digests
   pub same : HaveSameInputs said.inputs (inputs_of job origins (fulls_in collected.sessions.items) digests)

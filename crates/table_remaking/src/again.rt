@@ -11,7 +11,7 @@ use command_collect::{CollectJob, Engine};
 use command_receipt::{MadeWith, Remade, RemakeFault, remake};
 use flow_export::Format;
 use flow_maps::Maps;
-use flow_plan_maps::{wanted_context, wanted_options};
+use flow_plan_maps::{refuses_sampled, wanted_context, wanted_options};
 use input_sources::LoadedPlan;
 use ipfix_session::Source;
 use output_tables::Output;
@@ -105,6 +105,8 @@ fn collect_job<'a>(by: &'a MadeBy, said: &TableReceipt) -> CollectJob<'a>
         wanted: wanted_context(&loaded.read, &loaded.maps),
         options: wanted_options(&loaded.read),
         maps: by.maps.as_ref(),
+        estimates: loaded.estimates.as_ref(),
+        refuses_sampled: refuses_sampled(&loaded.read),
         filter: loaded.read.conditions(),
         exporters: by.exporters.as_slice(),
     }

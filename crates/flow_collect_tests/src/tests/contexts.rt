@@ -95,6 +95,8 @@ fn fields_follow_the_records_own(rt: HostRuntime) -> Result<(), Fail> {
         wanted: ALL,
         options: NOTHING_WANTED,
         maps: None,
+        estimates: None,
+        refuses_sampled: false,
     };
     ContextFields::new(rt.alloc(), context)?.append(&mut item)?;
     assert_eq!(rt; item.fields.len(), 4);
@@ -112,6 +114,8 @@ fn each_domain_has_its_own_fields(rt: HostRuntime) -> Result<(), Fail> {
         wanted: ALL,
         options: NOTHING_WANTED,
         maps: None,
+        estimates: None,
+        refuses_sampled: false,
     };
     let mut fields = ContextFields::new(rt.alloc(), context)?;
     for domain in [7, 0, 7, 8] {
@@ -134,6 +138,8 @@ fn only_what_is_wanted_is_appended(rt: HostRuntime) -> Result<(), Fail> {
         wanted: ALL,
         options: NOTHING_WANTED,
         maps: None,
+        estimates: None,
+        refuses_sampled: false,
     };
     ContextFields::new(rt.alloc(), of_ipv6)?.append(&mut item)?;
     assert_eq!(rt; item.fields.len(), 4);
@@ -158,6 +164,8 @@ fn three_sessions(
                     wanted,
                     options: NOTHING_WANTED,
                     maps: None,
+                    estimates: None,
+                    refuses_sampled: false,
                 },
                 filter: None,
             })?;

@@ -2,7 +2,6 @@ use Rattle.std.proofs.Common.{◌≡◌, List, length, subst, sym, ap, ◌∙◌
 use Rattle.std.specs.Prelude.{Ok, Err, vec_len}
 use Rattle.flow_collect.specs.InFull.{IsGivenInContext}
 use Rattle.flow_collect.specs.declared.session_context.InContext.{InContext}
-use Rattle.flow_collect.specs.Refusals.{AreTooLargeInContext}
 use Rattle.flow_collect.specs.declared.fault.CollectFault.TheVariants.{OutOfMemory}
 use Rattle.flow_table.specs.Fitting.{FitsPlan}
 use Rattle.command_collect.specs.Engines.{due_fault, CollectsBy}
@@ -14,7 +13,7 @@ use Rattle.command_collect.proofs.table.collect_job.Goals as goal
 pub returns-in-Some-clause-faults : goal.returns-in-Some-clause-faults
 returns-in-Some-clause-faults g c =
     let job = c.args.job.now in
-    refused_first job.engine (vec_len c.args.sources) (AreTooLargeInContext g.S.Source.seen job.plan.now (in_context job c.args.sources.items c.args.origins.now)) c.in-Some.fault
+    refused_first job.engine (vec_len c.args.sources) _ _ c.in-Some.fault
     (ap (due_fault job.engine) (sym c.len.ensures) ∙ sym c.refusal.ensures ∙ c.in-Some.is)
 
 pub returns-in-Ok-gather-clause-ok : goal.returns-in-Ok-gather-clause-ok
@@ -35,7 +34,7 @@ returns-in-Ok-gather-clause-faults g c =
     let given = in_context job c.args.sources.items c.args.origins.now in
     let many : vec_len c.in-Ok.given ≡ vec_len c.args.sources = c.in-Ok.given.ok.0 ∙ ap length c.in-Ok.ensures ∙ as_many job c.args.sources.items job.exporters.now c.args.origins.now ∙ sym c.args.sources.ok.0 in
     faults_elsewhere g.S.Source.seen job.plan.now job.engine _ _ c.in-Ok.given.items given (Ok c.in-Ok-gather.gathered) many c.in-Ok.ensures
-    (faults_if_had _ _ c.in-Ok-collect.collected c.in-Ok-gather.gathered c.in-Ok-collect.ensures.faults)
+    (faults_if_had _ _ _ c.in-Ok-collect.collected c.in-Ok-gather.gathered c.in-Ok-collect.ensures.faults)
 
 pub returns-in-Err-gather-clause-faults : goal.returns-in-Err-gather-clause-faults
 returns-in-Err-gather-clause-faults g c =
@@ -43,7 +42,7 @@ returns-in-Err-gather-clause-faults g c =
     let given = in_context job c.args.sources.items c.args.origins.now in
     let many : vec_len c.in-Ok.given ≡ vec_len c.args.sources = c.in-Ok.given.ok.0 ∙ ap length c.in-Ok.ensures ∙ as_many job c.args.sources.items job.exporters.now c.args.origins.now ∙ sym c.args.sources.ok.0 in
     faults_elsewhere g.S.Source.seen job.plan.now job.engine _ _ c.in-Ok.given.items given (Err OutOfMemory) many c.in-Ok.ensures
-    (faults_if_memory _ _ c.in-Ok-collect.collected c.in-Ok-collect.ensures.faults)
+    (faults_if_memory _ _ _ c.in-Ok-collect.collected c.in-Ok-collect.ensures.faults)
 
 pub returns-in-Err-collect-clause-faults : goal.returns-in-Err-collect-clause-faults
 returns-in-Err-collect-clause-faults g c =
@@ -51,4 +50,4 @@ returns-in-Err-collect-clause-faults g c =
     let given = in_context job c.args.sources.items c.args.origins.now in
     let many : vec_len c.in-Ok.given ≡ vec_len c.args.sources = c.in-Ok.given.ok.0 ∙ ap length c.in-Ok.ensures ∙ as_many job c.args.sources.items job.exporters.now c.args.origins.now ∙ sym c.args.sources.ok.0 in
     faults_elsewhere g.S.Source.seen job.plan.now job.engine _ _ c.in-Ok.given.items given (Err c.in-Err-collect.fault) many c.in-Ok.ensures
-    (faults_if_not_had _ _ c.in-Err-collect.fault c.in-Err-collect.ensures.faults)
+    (faults_if_not_had _ _ _ c.in-Err-collect.fault c.in-Err-collect.ensures.faults)

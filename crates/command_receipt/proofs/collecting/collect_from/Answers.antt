@@ -9,7 +9,7 @@ use Rattle.input_digests.specs.declared.hashed_source.HashedSource.{HashedSource
 use Rattle.command_collect.specs.Engines.{due_fault}
 use Rattle.command_collect.specs.Exporters.{in_context}
 use Rattle.command_collect.specs.Gathered.{GathersBy}
-use Rattle.command_receipt.proofs.Parts.{gathers_parts, too_large_parts}
+use Rattle.command_receipt.proofs.Parts.{gathers_parts, refused_parts, too_large_parts}
 use Rattle.command_receipt.proofs.Placed.{as_many_each, gathered_digests}
 use Rattle.command_receipt.proofs.Refusals.{fault_of_part}
 use Rattle.command_receipt.proofs.collecting.collect_from.Goals as goal
@@ -19,7 +19,8 @@ returns-in-Err-clause-faults g c =
     let part = λ (h : HashedSource g.row.S.Denot g.row.T.Denot g.S.Source g.T.Start). h.source in
     let job = c.args.job.now in
     let many : vec_len c.in-Ok.hashed ≡ vec_len c.args.sources = c.in-Ok.hashed.ok.0 ∙ sym (length-map c.in-Ok.hashed.items part) ∙ ap length c.in-Ok.ensures ∙ sym c.args.sources.ok.0 in
-    fault_of_part _ _ _ _ c.in-Err.fault (ap (due_fault job.engine) many) (too_large_parts part g.S.Source.seen job job.plan.now c.in-Ok.hashed.items c.args.sources.items c.args.origins.now c.in-Ok.ensures) c.in-Err.ensures.faults
+    fault_of_part _ _ _ _ _ _ c.in-Err.fault (ap (due_fault job.engine) many) (too_large_parts part g.S.Source.seen job job.plan.now c.in-Ok.hashed.items c.args.sources.items c.args.origins.now c.in-Ok.ensures)
+    (refused_parts part g.S.Source.seen job c.in-Ok.hashed.items c.args.sources.items c.args.origins.now c.in-Ok.ensures) c.in-Err.ensures.faults
 
 pub finish_run-requires : goal.finish_run-requires
 finish_run-requires g c =
@@ -33,7 +34,7 @@ returns-in-Ok-finish_run-clause-ok g c =
     let job = c.args.job.now in
     let run = c.in-Ok-finish_run.ensures in
     gathers_parts part g.S.Source.seen job.engine job job.plan.now c.in-Ok.hashed.items c.args.sources.items c.args.origins.now c.in-Ok-collect_job.gathered c.in-Ok-finish_run.run'.gathered
-    c.in-Ok.ensures run.sources run.sessions run.table run.filtered c.in-Ok-collect_job.ensures.ok
+    c.in-Ok.ensures run.sources run.sessions run.table run.filtered run.sampling c.in-Ok-collect_job.ensures.ok
 
 pub returns-in-Ok-finish_run-clause-digests : goal.returns-in-Ok-finish_run-clause-digests
 returns-in-Ok-finish_run-clause-digests g c =

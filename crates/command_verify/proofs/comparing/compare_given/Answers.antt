@@ -2,7 +2,7 @@ use Rattle.std.proofs.Common.{◌≡◌, ◌∙◌, ℕ, List, inl, inr, refl, s
 use Rattle.std.specs.Prelude.{◌==◌, false, true}
 use Rattle.report_writing.specs.Told.{AreToldTo}
 use Rattle.table_receipts.specs.Values.{receipt_value}
-use Rattle.input_sources.specs.PlansTold.{IsLoaded, TellsNoText}
+use Rattle.input_sources.specs.PlansTold.{IsLoaded, TellsNoText, table_of}
 use Rattle.command_verify.specs.Again.{ComparesAlone}
 use Rattle.command_verify.proofs.Empty.{empty_of, filled_of}
 use Rattle.command_verify.proofs.comparing.compare_given.Goals as goal
@@ -22,7 +22,7 @@ pub returns-in-Some-clause-compares : goal.returns-in-Some-clause-compares
 returns-in-Some-clause-compares g c =
     let none = empty_of c.in-Ok.lines.items (subst (λ (n : ℕ). (n == 0) ≡ true) c.in-Ok.lines.ok.0 (sym c.is_empty.ensures ∙ c.if-not-is_empty.false)) in
     let loaded = c.in-Some.loaded in
-    let is_loaded = subst (λ (octets : List ℕ). IsLoaded c.args.elements octets loaded.maps loaded.elements loaded.read) c.as_bytes.ensures.value (c.load_plan_text.ensures.text loaded c.in-Some.is) in
+    let is_loaded = subst (λ (octets : List ℕ). IsLoaded c.args.elements octets loaded.maps (table_of loaded)) c.as_bytes.ensures.value (c.load_plan_text.ensures.text loaded c.in-Some.is) in
     inr (inr (sym c.in-Ok.ensures ∙ none, inr (record { loaded = loaded; is_loaded = is_loaded; compares = rw c.in-Some.ensures.silent at c.compare_loaded.ensures.compares })))
 
 pub returns-clause-compares : goal.returns-clause-compares

@@ -1,5 +1,5 @@
 use Rattle.std.proofs.Common.{ℕ, List, subst, inl, inr}
-use Rattle.input_sources.specs.PlansTold.{IsLoaded}
+use Rattle.input_sources.specs.PlansTold.{IsLoaded, table_of}
 use Rattle.report_writing.proofs.LinesTold.{is_told}
 use Rattle.input_sources.proofs.plan.load_plan.Goals as goal
 
@@ -11,5 +11,5 @@ pub returns-clause-text : goal.returns-clause-text
 returns-clause-text g c = λ loaded is. (
   c.in-Ok.octets.items,
   c.in-Ok.ensures.text,
-  subst (λ (octets : List ℕ). IsLoaded c.args.elements octets loaded.maps loaded.elements loaded.read) c.deref.ensures.value (c.load_plan_text.ensures.text loaded is),
+  subst (λ (octets : List ℕ). IsLoaded c.args.elements octets loaded.maps (table_of loaded)) c.deref.ensures.value (c.load_plan_text.ensures.text loaded is),
 )

@@ -1,0 +1,3 @@
+-- What public contracts cite.
+pub mod Estimates
+pub mod Noted

@@ -1,0 +1,5 @@
+//! The tests of `flow_estimates`.
+#![tactic(auto)]
+
+#[cfg(test)]
+mod tests;

@@ -1,0 +1,3 @@
+-- What public contracts cite.
+pub mod Scaled
+pub mod Tables

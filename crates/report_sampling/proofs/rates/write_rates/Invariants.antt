@@ -1,0 +1,11 @@
+use Rattle.std.proofs.Common.{take}
+use Rattle.std.specs.List.{flat_map}
+use Rattle.std.specs.Io.KnownBytes.{Appends}
+use Rattle.report_sampling.specs.SamplingLines.{rate_line}
+use Rattle.report_sampling.proofs.rates.write_rates.Given as goal
+
+abbrev pub invariant-loop-index : goal.invariant-loop-index
+invariant-loop-index g l = record {
+  told : Appends (g.W.WriteLines.contents l.initial.out) (g.W.WriteLines.contents l.out) (flat_map (rate_line l.session l.origin) (take l.index l.counts.items));
+  kept : g.W.WriteLines.failed l.initial.out → g.W.WriteLines.failed l.out;
+}
