@@ -100,9 +100,9 @@ pub fn tell<S: Source + Drop, E: WriteLines>(
     gathered: &Gathered<S>,
     err: &mut E,
 ) -> io::Result<()>
-    ensures { TellsEnded S.failure gathered.now.run.sources.items gathered.now.run.sessions.items
-        (run_lines job.now origins.now gathered.now.sampling.items gathered.now.run.table
-        gathered.now.filtered) (Tells E.contents E.failed err.old err.new result) }
+    ensures { let run = gathered.now.run in TellsEnded S.failure run.sources.items run.sessions.items
+        (run_lines job.now origins.now gathered.now.sampling.items run.table gathered.now.filtered)
+        (Tells E.contents E.failed err.old err.new result) }
 {
     let run = &gathered.run;
     write_told_reports(

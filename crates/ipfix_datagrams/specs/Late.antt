@@ -12,7 +12,7 @@ use Rattle.ipfix_message.specs.declared.record.Template.{Template}
 use Rattle.ipfix_message.specs.Domains.{History, Message}
 use Rattle.ipfix_message.specs.TemplatesInForce.{is_other}
 use Rattle.ipfix_session.specs.Ledger.{gap}
-use Rattle.ipfix_datagrams.specs.Datagrams.{KeepsKnown, barred_after, barred_in, known_in, last_definition, has_data_set, is_changed}
+use Rattle.ipfix_datagrams.specs.Datagrams.{KeepsKnown, barred_after, barred_in, known_in, template_in, last_definition, has_data_set, is_changed}
 use Rattle.ipfix_datagrams.specs.declared.known_templates.KnownTemplates.{KnownTemplates}
 use Rattle.ipfix_datagrams.specs.declared.moment.Moment.{Moment}
 
@@ -41,13 +41,20 @@ abbrev pub newly : Option Template → Option Template → Moment → Option Mom
 newly known None now = None
 newly known (Some t) now = if is_known t known then None else Some now
 
+-- what is known of an id, by the templates in force and by those that were withdrawn
+abbrev pub known_as : Option (BTreeMap ℕ Template) → Option (BTreeMap ℕ Template) → ℕ → Option Template
+known_as in_force withdrawn id = option_or (template_in in_force id) (template_in withdrawn id)
+
+-- when the template of an id was defined, after definitions that were taken now: a definition of the template that is known changes nothing
+abbrev pub retimed : (ℕ → Option Template) → (ℕ → Option Template) → Moment → (ℕ → Option Moment) → ℕ → Option Moment
+retimed known last now old id = option_or (newly (known id) (last id) now) (old id)
+
 abbrev pub Times : Type 0
 Times = ℕ → ℕ → Option Moment
 
--- after a datagram of a domain: a definition of the template that is known changes nothing
+-- after a datagram of a domain
 abbrev pub times_after : Times → History → List ℕ → ℕ → Moment → Times
-times_after old ds m d now domain id =
-    if domain == d then option_or (newly (known_in ds domain id) (last_definition m id) now) (old domain id) else old domain id
+times_after old ds m d now domain id = if domain == d then retimed (known_in ds domain) (last_definition m) now (old domain) id else old domain id
 
 -- what a map of maps has
 abbrev pub time_in : Option (BTreeMap ℕ Moment) → ℕ → Option Moment
@@ -65,6 +72,10 @@ Withheld = ℕ → Bool
 -- those of a domain whose template is later
 abbrev pub later_in : ℕ → Moment → (ℕ → Option Moment) → Withheld
 later_in reorder at times id = is_later reorder at (times id)
+
+-- those of the domain of a datagram with this header, which is taken at a second
+abbrev pub withheld_from : KnownTemplates → Header → ℕ → Withheld
+withheld_from known h second = later_in known.reorder (moment_of h second) (time_at known.times h.domain)
 
 -- it defines one of them otherwise
 pub record ChangesOne (withheld : Withheld) (ds : History) (m : List ℕ) (domain : ℕ) : Type 0 where

@@ -4,9 +4,8 @@ ghost use Rattle.std.specs.Prelude.{◌≡◌, ◌==◌, ℕ, false, OnOk, if◌
 ghost use Rattle.std.specs.Option.{option_or};
 ghost use Rattle.std.specs.BTreeMap.{get};
 ghost use Rattle.std.specs.Ordering.{nat_cmp};
-ghost use Rattle.ipfix_datagrams.specs.Datagrams.{template_in};
 ghost use Rattle.ipfix_datagrams.specs.Late as late;
-ghost use Rattle.ipfix_datagrams.specs.Late.{newly, time_at};
+ghost use Rattle.ipfix_datagrams.specs.Late.{known_as, newly, retimed, time_at};
 
 use crate::changes::known_of;
 use crate::moment::Moment;
@@ -61,10 +60,8 @@ fn put_times(
     now: Moment,
     times: &mut Times,
 ) -> Result<(), AllocError>
-    ensures { OnOk result ((q : ℕ) → get nat_cmp times.new q ≡ option_or
-        (newly (option_or (template_in (option_copied in_force.entry) q)
-        (template_in (option_copied withdrawn.entry) q)) (get nat_cmp last.now q) now)
-        (get nat_cmp times.old q)) }
+    ensures { let known = known_as (option_copied in_force.entry) (option_copied withdrawn.entry) in OnOk result
+        ((q : ℕ) → get nat_cmp times.new q ≡ retimed known (get nat_cmp last.now) now (get nat_cmp times.old) q) }
 {
     for id in last.keys() {
         let known = known_of(*id, in_force, withdrawn);
@@ -104,10 +101,9 @@ pub fn keep_times(
     withdrawn: Option<&Templates>,
     now: Moment,
 ) -> Result<(), AllocError>
-    ensures { OnOk result ((q id : ℕ) → time_at times.new q id ≡ (if q == domain then option_or
-        (newly (option_or (template_in (option_copied in_force.entry) id)
-        (template_in (option_copied withdrawn.entry) id)) (get nat_cmp last.now id) now)
-        (time_at times.old q id) else time_at times.old q id)) }
+    ensures { let known = known_as (option_copied in_force.entry) (option_copied withdrawn.entry) in OnOk result
+        ((q id : ℕ) → time_at times.new q id ≡ (if q == domain
+        then retimed known (get nat_cmp last.now) now (time_at times.old q) id else time_at times.old q id)) }
 {
     if last.is_empty() {
         return Ok(());

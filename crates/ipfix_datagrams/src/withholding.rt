@@ -6,7 +6,7 @@ ghost use Rattle.std.specs.List.{list_any};
 ghost use Rattle.ipfix_message.specs.Domains.{History, message_header};
 ghost use Rattle.ipfix_datagrams.specs.Datagrams.{IfOf, barred_in};
 ghost use Rattle.ipfix_datagrams.specs.Late as late;
-ghost use Rattle.ipfix_datagrams.specs.Late.{FailsLate, IsReadLate, later_in, moment_of, time_at, time_in};
+ghost use Rattle.ipfix_datagrams.specs.Late.{FailsLate, IsReadLate, time_in, withheld_from};
 
 use crate::changes::changed;
 use crate::data_sets::set_ids;
@@ -101,8 +101,7 @@ pub fn barred_late(
     datagram: &[u8],
 ) -> Result<Vec<u16>, MessageFault>
     requires { message_header datagram.now ≡ Ok header.now }
-    ensures { let d = header.now.domain in let at = moment_of header.now second in
-        let withheld = later_in known.now.reorder at (time_at known.now.times d) in
+    ensures { let d = header.now.domain in let withheld = withheld_from known.now header.now second in
         (ds : History) → IfOf domains.now known.now ds (MatchResult result
         (λ ids. IsReadLate withheld (barred_in known.now.barred d) ds datagram.now d ids.items)
         (FailsLate withheld ds datagram.now d)) }
