@@ -1,1 +1,2 @@
+pub mod FlowBags
 pub mod GivenAll

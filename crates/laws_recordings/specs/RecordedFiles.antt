@@ -8,6 +8,8 @@ use Rattle.recording_files.specs.Files.{Contents, FilesView, AreSeen, all_of}
 use Rattle.recording_files.specs.Sessions.{Progress, HoldsAll, IsTold}
 use Rattle.recording_files.specs.declared.recorded_session.RecordedSession.{RecordedSession}
 use Rattle.flow_table.specs.Plans.{PlanValue}
+use Rattle.flow_table.specs.Tables.{count_of}
+use Rattle.flow_table.specs.declared.class.Class.TheVariants.{Options}
 use Rattle.flow_table.specs.declared.table.Table.{Table}
 use Rattle.flow_merge.specs.Merging.{AddsAllUp}
 use Rattle.laws_merge.specs.Exports.{AreExportsOf}
@@ -49,3 +51,7 @@ pub record IsMergedFrom {S : Type 0} (seen : S → SourceView) (plan : PlanValue
   pub sources : List S
   pub exports : AreExportsOf seen plan sources (records_of_each periods)
   pub adds_up : AddsAllUp seen limit plan sources table
+
+-- a table that has as many options records as these
+abbrev pub with_options : PlanValue → List DataRecord → Table → Table
+with_options plan rs table = record table { tally = record table.tally { options = count_of plan rs Options } }

@@ -1,43 +1,85 @@
 -- What the files of a recorded session give.
-use Rattle.std.proofs.Common.{◌≡◌, ℕ, List, [], ◌∷◌, ◌++◌, refl, sym, ap, subst, ◌∙◌, append_assoc, map}
+use Rattle.std.proofs.Common.{◌≡◌, ℕ, Bool, false, cond, eqb, ap₂, List, [], ◌∷◌, ◌++◌, refl, sym, ap, subst, ◌∙◌, append_assoc, map}
 use Rattle.std.specs.Prelude.{All, Option, Some, None, Result, true}
 use Rattle.std.specs.Option.{ForSome}
 use Rattle.std.specs.Io.KnownBytes.{Consumes}
 use Rattle.ipfix_session.specs.Sources.{SourceView}
 use Rattle.std.specs.List.{flat_map}
 use Rattle.std.proofs.lemmas.List.{append-nil, map-append}
-use Rattle.std.proofs.lemmas.List.Elements.{All-nil, All-cons, All-head, All-tail}
+use Rattle.std.proofs.lemmas.List.Elements.{All-filter, All-nil, All-cons, All-head, All-tail}
 use Rattle.ipfix_message.specs.Domains.{Message}
 use Rattle.ipfix_message.specs.declared.record.DataRecord.{DataRecord}
 use Rattle.ipfix_message.specs.declared.fault.MessageFault.{MessageFault}
 use Rattle.ipfix_session.specs.declared.stop.Stop.{Stop}
 use Rattle.ipfix_session.specs.declared.stop.Stop.TheVariants.{Clean, Short, Fault}
-use Rattle.ipfix_session.specs.Given.{Given, gives, records_in, records_of, stop_of, IsOpen, IsPrefix}
+use Rattle.exporter_options.specs.Telling.{told_by}
+use Rattle.exporter_options.specs.declared.telling.Told.{Told}
+use Rattle.ipfix_session.specs.Given.{Given, gives, known_after, records_in, records_of, stop_of, IsOpen, IsPrefix}
 use Rattle.ipfix_session.proofs.Giving.{records_in-append, records_of-prefix, gives_after-fault_stays}
 use Rattle.ipfix_session.specs.Drives.{IsDue}
 use Rattle.recording_files.specs.declared.record_fault.RecordFault.{RecordFault}
 use Rattle.recording_files.specs.declared.file_report.FileReport.{FileReport}
 use Rattle.recording_files.specs.FileReports.{file_reports}
 use Rattle.recording_files.specs.Recordings.{Part, Recorded}
-use Rattle.recording_files.specs.Faithful.{all_given, IsReadAlone, GiveRecordsOf, GiveFirstRecordsOf}
+use Rattle.recording_files.specs.Heads.{is_written, number_in, told_first, written}
+use Rattle.recording_files.specs.KeptOptions.{Kept, kept_after, read_again}
+use Rattle.recording_files.specs.Faithful.{AreReadAlone, GiveFirstRecordsOf, GiveRecordsOf, IsToldAgain, TellAgain, all_given, all_in, file_records, is_flow, reads_as}
 use Rattle.recording_files.specs.Files.{Contents, FilesView, AreSeen, all_of}
 use Rattle.recording_files.specs.Periods.{ClockView, octets_read}
 use Rattle.recording_files.specs.Sessions.{Progress, progress_after, file_octets, parts, StandsWith, IsCutOff, HoldsAll, HoldsCut, HoldsBy, IsTold, fault_of, RecordsAll}
 use Rattle.recording_files.proofs.Growing.{writes-append}
 use Rattle.ipfix_session.proofs.MessagesTaken.{octets-append}
 use Rattle.recording_files.proofs.Going.{WritesPart, with_messages, recorded-push, all_given-parts}
+use Rattle.recording_files.proofs.KeptCopied.{IsCopied, copied, read_as_given}
 use Rattle.recording_files.proofs.Together.{is_faithful}
 
-pub all_clean : (ps : List Part) → All IsReadAlone ps → All (λ file. stop_of file ≡ Clean) (map file_octets ps)
-all_clean [] all = All-nil (λ file. stop_of file ≡ Clean)
-all_clean (p ∷ ps) all = All-cons (λ file. stop_of file ≡ Clean) (file_octets p) (map file_octets ps) (All-head IsReadAlone p ps all).stop (all_clean ps (All-tail IsReadAlone p ps all))
+-- ---- what is told again came before
 
-pub all_records : (ps : List Part) → All IsReadAlone ps → flat_map records_of (map file_octets ps) ≡ records_in (all_given ps)
-all_records [] all = refl
-all_records (p ∷ ps) all =
-    ap (λ (rs : List DataRecord). rs ++ flat_map records_of (map file_octets ps)) (All-head IsReadAlone p ps all).records
-    ∙ ap (λ (rs : List DataRecord). records_in p.given ++ rs) (all_records ps (All-tail IsReadAlone p ps all))
-    ∙ sym (records_in-append p.given (all_given ps))
+is_options : (r : DataRecord) (t : Told) → told_by r ≡ Some t → is_flow r ≡ false
+is_options r t h = by_test _ (eqb r.scope 0) refl h
+  where
+    by_test : (u : Told) (b : Bool) → eqb r.scope 0 ≡ b → cond b None (Some u) ≡ Some t → eqb r.scope 0 ≡ false
+    by_test u true e h = absurd cc
+    by_test u false e h = e
+
+again_one : (rs : List DataRecord) (time : ℕ) (k : Kept) → IsCopied rs k → IsToldAgain rs (read_again time k)
+again_one rs time k is = record {
+  given = is.given;
+  among = is.among;
+  is = read_as_given rs k time is;
+  options = ap (λ (n : ℕ). eqb n 0) (sym is.scope) ∙ is_options is.given k.told is.tells;
+}
+
+again_all : (rs : List DataRecord) (time : ℕ) (ks : List Kept) → All (IsCopied rs) ks → All (IsToldAgain rs) (map (read_again time) ks)
+again_all rs time [] all = All-nil (IsToldAgain rs)
+again_all rs time (k ∷ ks) all =
+    All-cons (IsToldAgain rs) (read_again time k) (map (read_again time) ks) (again_one rs time k (All-head (IsCopied rs) k ks all)) (again_all rs time ks (All-tail (IsCopied rs) k ks all))
+
+pub told_again : (before here : List Message) → All (IsToldAgain (records_in before)) (told_first before here)
+told_again before [] = All-nil (IsToldAgain (records_in before))
+told_again before (x ∷ xs) =
+    let ds = known_after [] before in
+    let number = number_in before x.header in
+    let rs = records_in before in
+    again_all rs x.header.export_time (written before x.header) (All-filter (is_written ds number) (IsCopied rs) (kept_after before) (copied before))
+
+-- ---- files
+
+pub all_clean : (before : List Message) (ps : List Part) → AreReadAlone before ps → All (λ file. stop_of file ≡ Clean) (map file_octets ps)
+all_clean before [] all = All-nil (λ file. stop_of file ≡ Clean)
+all_clean before (p ∷ ps) all = All-cons (λ file. stop_of file ≡ Clean) (file_octets p) (map file_octets ps) all.0.stop (all_clean (before ++ p.given) ps all.1)
+
+pub all_are : (before : List Message) (ps : List Part) → AreReadAlone before ps → flat_map records_of (map file_octets ps) ≡ flat_map all_in (file_records before ps)
+all_are before [] all = refl
+all_are before (p ∷ ps) all = ap₂ (λ (a b : List DataRecord). a ++ b) all.0.records (all_are (before ++ p.given) ps all.1)
+
+pub all_came : (before : List Message) (ps : List Part) → flat_map (λ r. r.came) (file_records before ps) ≡ records_in (all_given ps)
+all_came before [] = refl
+all_came before (p ∷ ps) = ap (λ (rs : List DataRecord). records_in p.given ++ rs) (all_came (before ++ p.given) ps) ∙ sym (records_in-append p.given (all_given ps))
+
+pub all_again : (before : List Message) (ps : List Part) → TellAgain (records_in before) (file_records before ps)
+all_again before [] = tt
+all_again before (p ∷ ps) = (told_again before p.given, subst (λ (rs : List DataRecord). TellAgain rs (file_records (before ++ p.given) ps)) (records_in-append before p.given) (all_again (before ++ p.given) ps))
 
 -- what is told of files that tell their octets
 pub contents_are : (first after : Option Contents) (none c : Contents) (reports : List FileReport) (finished : List Part) (last : Part) (cut_off : List ℕ) → first ≡ Some none → after ≡ Some c
@@ -56,8 +98,11 @@ files_give told p after start c h seen none =
     ∙ ap (λ (fs : List (List ℕ)). fs ++ file_octets h.some.holds.last ∷ []) (t.0 ∙ ap (λ (fs : List (List ℕ)). fs ++ map file_octets h.some.holds.finished) none)
     ∙ sym (map-append file_octets h.some.holds.finished (h.some.holds.last ∷ [])) in
     record {
-      stops = subst (λ (fs : List (List ℕ)). All (λ file. stop_of file ≡ Clean) fs) (sym are) (all_clean ps read);
-      records = ap (λ (fs : List (List ℕ)). flat_map records_of fs) are ∙ all_records ps read ∙ ap records_in h.all;
+      stops = subst (λ (fs : List (List ℕ)). All (λ file. stop_of file ≡ Clean) fs) (sym are) (all_clean [] ps read);
+      parts = file_records [] ps;
+      are = ap (λ (fs : List (List ℕ)). flat_map records_of fs) are ∙ all_are [] ps read;
+      records = all_came [] ps ∙ ap records_in h.all;
+      again = all_again [] ps;
     }
 
 -- ---- a file that was cut
@@ -74,30 +119,27 @@ open_front w more clean = by_stop (stop_of w) refl
     by_stop Short is = tt
     by_stop (Fault e) is = absurd (not_clean e (sym is ∙ sym (ap (λ (g : Given). g.stop) (gives_after-fault_stays [] w more e is)) ∙ clean))
 
-prefix-trans : {X : Type 0} (xs ys zs : List X) → IsPrefix xs ys → IsPrefix ys zs → IsPrefix xs zs
-prefix-trans {X} xs ys zs p q = (p.0 ++ q.0, q.1 ∙ ap (λ (l : List X). l ++ q.0) p.1 ∙ append_assoc xs p.0 q.0)
-
 records-prefix : (ms ns : List Message) → IsPrefix ms ns → IsPrefix (records_in ms) (records_in ns)
 records-prefix ms ns p = (records_in p.0, ap records_in p.1 ∙ records_in-append ms p.0)
 
 -- files that are read by themselves, the last of them cut
-pub kept : (ps : List Part) (q : Part) (w more : List ℕ) → All IsReadAlone (ps ++ q ∷ []) → file_octets q ≡ w ++ more
-    → All (λ file. IsOpen (stop_of file)) (map file_octets ps ++ w ∷ []) × IsPrefix (flat_map records_of (map file_octets ps ++ w ∷ [])) (records_in (all_given (ps ++ q ∷ [])))
-kept [] q w more all is =
-    let one = All-head IsReadAlone q [] all in
+pub kept : (before : List Message) (ps : List Part) (q : Part) (w more : List ℕ) → AreReadAlone before (ps ++ q ∷ []) → file_octets q ≡ w ++ more
+    → All (λ file. IsOpen (stop_of file)) (map file_octets ps ++ w ∷ []) × IsPrefix (flat_map records_of (map file_octets ps ++ w ∷ [])) (flat_map all_in (file_records before (ps ++ q ∷ [])))
+kept before [] q w more all is =
+    let one = all.0 in
     let clean : stop_of (w ++ more) ≡ Clean = ap stop_of (sym is) ∙ one.stop in
     let front = records_of-prefix w more in
-    let whole : records_of (w ++ more) ≡ records_in (q.given ++ []) = ap records_of (sym is) ∙ one.records ∙ ap records_in (sym (append-nil q.given)) in (
+    let whole : records_of (w ++ more) ≡ reads_as before q.given = ap records_of (sym is) ∙ one.records in (
       All-cons (λ file. IsOpen (stop_of file)) w [] (open_front w more clean) (All-nil (λ file. IsOpen (stop_of file))),
-      (front.0, sym whole ∙ front.1 ∙ ap (λ (rs : List DataRecord). rs ++ front.0) (sym (append-nil (records_of w)))),
+      (front.0, append-nil (reads_as before q.given) ∙ sym whole ∙ front.1 ∙ ap (λ (rs : List DataRecord). rs ++ front.0) (sym (append-nil (records_of w)))),
     )
-kept (p ∷ ps) q w more all is =
-    let one = All-head IsReadAlone p (ps ++ q ∷ []) all in
-    let others = kept ps q w more (All-tail IsReadAlone p (ps ++ q ∷ []) all) is in (
+kept before (p ∷ ps) q w more all is =
+    let one = all.0 in
+    let others = kept (before ++ p.given) ps q w more all.1 is in (
       All-cons (λ file. IsOpen (stop_of file)) (file_octets p) (map file_octets ps ++ w ∷ []) (subst IsOpen (sym one.stop) tt) others.0,
       (
         others.1.0,
-        records_in-append p.given (all_given (ps ++ q ∷ [])) ∙ ap (λ (rs : List DataRecord). records_in p.given ++ rs) others.1.1
+        ap (λ (rs : List DataRecord). reads_as before p.given ++ rs) others.1.1
             ∙ ap (λ (rs : List DataRecord). rs ++ (flat_map records_of (map file_octets ps ++ w ∷ []) ++ others.1.0)) (sym one.records)
             ∙ sym (append_assoc (records_of (file_octets p)) (flat_map records_of (map file_octets ps ++ w ∷ [])) others.1.0),
       ),
@@ -117,12 +159,14 @@ kept_cut text finished last cut_off recorded c =
     let now : Recorded [] (parts finished q) = recorded-push [] finished q was.0 (writes-append (all_given finished) [] last.messages c.messages last.given c.given last.file c.file was.1 c.writes) in
     let octets : file_octets q ≡ (file_octets last ++ cut_off) ++ c.first.0 =
     octets-append last.file c.file ∙ ap (λ (w : List ℕ). file_octets last ++ w) c.first.1 ∙ sym (append_assoc (file_octets last) cut_off c.first.0) in
-    let k = kept finished q (file_octets last ++ cut_off) c.first.0 (is_faithful (parts finished q) now).files octets in
+    let k = kept [] finished q (file_octets last ++ cut_off) c.first.0 (is_faithful (parts finished q) now).files octets in
     let given : IsPrefix (all_given (parts finished q)) (gives text).messages = subst (λ (ms : List Message). IsPrefix ms (gives text).messages) (sym (all_given-parts finished q)) c.next in
     record {
       stops = k.0;
-      records = prefix-trans (flat_map records_of (map file_octets finished ++ (file_octets last ++ cut_off) ∷ [])) (records_in (all_given (parts finished q))) (records_of text) k.1
-          (records-prefix (all_given (parts finished q)) (gives text).messages given);
+      parts = file_records [] (parts finished q);
+      are = k.1;
+      records = subst (λ (rs : List DataRecord). IsPrefix rs (records_of text)) (sym (all_came [] (parts finished q))) (records-prefix (all_given (parts finished q)) (gives text).messages given);
+      again = all_again [] (parts finished q);
     }
 
 pub files_keep : (told : List Message → List Message → Type 0) (p : Progress) (after : FilesView) (start c : Contents) → HoldsCut told p after → AreSeen p.first after start c → start.finished ≡ [] → GiveFirstRecordsOf (all_of c) p.text

@@ -4,16 +4,18 @@ use Rattle.std.specs.Prelude.{◌||◌, ◌≢◌, ◌↔◌, not, IsTrue, Match
 use Rattle.std.specs.Map.{lookup}
 use Rattle.std.proofs.lemmas.Bool.Decides.{eqb_tells}
 use Rattle.std.proofs.lemmas.List.{append-nil}
+use Rattle.std.proofs.lemmas.List.Sums.{fold-append}
 use Rattle.indexmap.specs.IndexMap.{insert_entry}
 use Rattle.ipfix_wire.specs.declared.header.Header.{Header}
 use Rattle.ipfix_message.specs.Domains.{Message, StandsFor, message_header}
 use Rattle.ipfix_message.specs.declared.fault.MessageFault.{MessageFault}
 use Rattle.ipfix_session.specs.Given.{known_after}
 use Rattle.ipfix_session.specs.Ledger.{count_in, due_after, messages_of, due_of}
+use Rattle.recording_files.specs.KeptOptions.{Kept, kept_after, kept_then}
 use Rattle.recording_files.specs.Recordings.{has}
 use Rattle.recording_files.specs.Recorders.{State, Keeps, due_for}
 use Rattle.ipfix_session.proofs.Chains.{known-append}
-use Rattle.recording_files.proofs.FilesRead.{has-push}
+use Rattle.recording_files.proofs.Beside.{has-push}
 use Rattle.ipfix_session.proofs.Accounts.{of_last-push}
 use Rattle.ipfix_session.proofs.Ledgers.{own_one, own_other, own-append}
 use Rattle.recording_files.proofs.Ledgers.{eqb-sym}
@@ -64,8 +66,8 @@ due_more all x d o is = rw (has-push all x d) (by_test (eqb d x.header.domain) r
 
 pub keeps_on : (s t : State) (before here : List Message) (x : Message) (h : Header) (records unknown : ℕ) → Keeps s before here → t.domains.spent ≡ false → StandsFor t.domains.domains x.domains
     → h ≡ x.header → records ≡ count_in x → unknown ≡ x.decoding.passed_over.unknown_sets
-    → t.due ≡ insert_entry eqb s.due h.domain (due_for h records unknown) → t.here ≡ insert_entry eqb s.here h.domain true → Keeps t before (here ++ x ∷ [])
-keeps_on s t before here x h records unknown keeps fresh stands is_header is_records is_unknown is_due is_here =
+    → t.due ≡ insert_entry eqb s.due h.domain (due_for h records unknown) → t.here ≡ insert_entry eqb s.here h.domain true → t.kept ≡ kept_then s.kept x → Keeps t before (here ++ x ∷ [])
+keeps_on s t before here x h records unknown keeps fresh stands is_header is_records is_unknown is_due is_here is_kept =
     let now : known_after [] (before ++ (here ++ x ∷ [])) ≡ x.domains = ap (known_after []) (sym (append_assoc before here (x ∷ []))) ∙ known-append [] (before ++ here) (x ∷ []) in
     let due : due_for h records unknown ≡ due_after x = rw (is_header, is_records, is_unknown) refl in
     let where_to : insert_entry eqb s.due h.domain (due_for h records unknown) ≡ insert_entry eqb s.due x.header.domain (due_after x) =
@@ -79,6 +81,7 @@ keeps_on s t before here x h records unknown keeps fresh stands is_header is_rec
       in_file = λ d.
           ap (λ (es : List (ℕ × Bool)). is_some (lookup (eqb d) es)) (is_here ∙ ap (λ (k : Header). insert_entry eqb s.here k.domain true) is_header)
           ∙ ap is_some (lookup-insert s.here x.header.domain true d) ∙ there (eqb d x.header.domain) (lookup (eqb d) s.here) (has here d) (keeps.in_file d) ∙ sym (has-push here x d);
+      kept = is_kept ∙ ap (λ (ks : List Kept). kept_then ks x) keeps.kept ∙ sym (fold-append kept_then [] (before ++ here) (x ∷ [])) ∙ ap kept_after (append_assoc before here (x ∷ []));
     }
   where
     there : (b : Bool) (o : Option Bool) (a : Bool) → is_some o ≡ a → is_some (cond b (Some true) o) ≡ (a || b)

@@ -1,6 +1,6 @@
 -- What stands before a message in a file.
-use Rattle.std.proofs.Common.{◌≡◌, ℕ, ◌^◌, ◌<◌, Bool, true, false, cond, eqb, is_some, List, [], ◌++◌, Option, Some, None, refl, sym, ap, subst, ◌∙◌}
-use Rattle.std.specs.Prelude.{Result, Ok, Err, OnOk, ◌||◌, ◌&&◌, not, All}
+use Rattle.std.proofs.Common.{◌≡◌, ℕ, ◌^◌, ◌<◌, Bool, true, false, cond, eqb, is_some, List, [], ◌∷◌, ◌++◌, Option, Some, None, refl, sym, ap, subst, ◌∙◌}
+use Rattle.std.specs.Prelude.{◌≢◌, Result, Ok, Err, OnOk, ◌||◌, ◌&&◌, not, All}
 use Rattle.std.specs.Map.{lookup}
 use Rattle.std.specs.Option.{unwrap_or, option_and_then, option_flatten}
 use Rattle.std.specs.Ordering.{nat_cmp}
@@ -19,8 +19,11 @@ use Rattle.ipfix_message.specs.declared.stamp.Stamp.{Stamp}
 use Rattle.recording_files.specs.Preambles.{IsStamp, IsTemplate, IsPreamble, templates_message, preamble}
 use Rattle.ipfix_session.specs.TemplateLists.{AreInForce}
 use Rattle.recording_files.specs.Recordings.{has, begins_again, stamp_for, Leads}
-use Rattle.recording_files.specs.Recorders.{State, Keeps, Leading}
-use Rattle.recording_files.proofs.FilesRead.{has-append}
+use Rattle.recording_files.specs.Heads.{AppendsHead, goes_on_with, head_messages, number_at, number_in, stamp_at, written}
+use Rattle.recording_files.specs.KeptOptions.{Kept, kept_after}
+use Rattle.recording_files.specs.Recorders.{Heading, Keeps, Leading, State}
+use Rattle.recording_files.proofs.Beside.{has-append}
+use Rattle.recording_files.proofs.KeptCopied.{template_for-is}
 use Rattle.ipfix_session.proofs.Ledgers.{own-append}
 use Rattle.recording_files.proofs.Ledgers.{own_none}
 use Rattle.recording_files.proofs.PreamblesAre.{is_preamble}
@@ -77,22 +80,8 @@ begins s before here h due keeps found absent =
     first true b p q = refl
     first false b p q = absurd cc
 
-none_in_force : (id : ℕ) → None ≡ in_force [] id
-unfolding in_force
-none_in_force id = refl
-
 abbrev with_sequence : Header → ℕ → Stamp
 with_sequence h n = record { export_time = h.export_time; sequence = n; domain = h.domain }
-
-pub template_for-is : (ds : History) (d id : ℕ) → template_for ds d id ≡ in_force (events_in ds d) id
-template_for-is ds d id = by_cases (lookup (eqb d) ds)
-  where
-    no_force : None ≡ in_force [] id
-    no_force = none_in_force id
-
-    by_cases : (o : Option (List Event)) → option_and_then (λ es. in_force es id) o ≡ in_force (unwrap_or o []) id
-    by_cases None = no_force
-    by_cases (Some es) = refl
 
 -- the octets of a preamble of these templates lead the message
 pub leads : (s : State) (before here : List Message) (h : Header) (due : Option ℕ) (sequence : ℕ) (ts : List Template) (old new : List ℕ) → Keeps s before here → lookup (eqb h.domain) s.due ≡ Some due
@@ -142,3 +131,29 @@ due_is s before here d keeps = by_cases (has (before ++ here) d) refl (keeps.due
     by_cases : (b : Bool) → has (before ++ here) d ≡ b → lookup (eqb d) s.due ≡ cond b (Some (due_of (messages_of d (before ++ here)))) None → option_flatten (lookup (eqb d) s.due) ≡ due_of (messages_of d (before ++ here))
     by_cases true e is = ap option_flatten is
     by_cases false e is = ap option_flatten is ∙ sym (ap due_of (own_none d (before ++ here) e))
+
+-- ---- the head of a file
+
+-- a file that has a message has its head
+pub no_heading : (before here : List Message) (h : Header) (old : List ℕ) → here ≢ [] → Heading before here h old old
+no_heading before [] h old some = absurd (some refl)
+no_heading before (x ∷ xs) h old some = record { head = []; is = refl; octets = sym (append-nil old) }
+
+-- the records that are written are those of the session's earlier files
+pub heading : (s : State) (before here : List Message) (h : Header) (old new : List ℕ) → Keeps s before here → here ≡ [] → h.export_time < 2 ^ 32 → h.sequence < 2 ^ 32
+    → AppendsHead (known_after [] (before ++ here)) (number_at s.due (stamp_at h)) h.export_time s.kept old new → Heading before here h old new
+heading s before here h old new keeps none time small appends =
+    let all : before ++ here ≡ before = ap (λ (hs : List Message). before ++ hs) none ∙ append-nil before in
+    let at : (d : ℕ) → number_at s.due (stamp_at h) d ≡ number_in before h d =
+    λ d. ap (λ (o : Option ℕ). goes_on_with o h.domain h.sequence d) (due_is s before here d keeps ∙ ap (λ (ms : List Message). due_of (messages_of d ms)) all) in
+    let numbers : number_at s.due (stamp_at h) ≡ number_in before h = λ i d. at d i in
+    let kept : s.kept ≡ kept_after before = keeps.kept ∙ ap kept_after all in
+    let known : AppendsHead (known_after [] before) (number_at s.due (stamp_at h)) h.export_time s.kept old new = subst (λ (ms : List Message). AppendsHead (known_after [] ms) (number_at s.due (stamp_at h)) h.export_time s.kept old new) all appends in
+    let numbered : AppendsHead (known_after [] before) (number_in before h) h.export_time s.kept old new = subst (λ (n : ℕ → Option ℕ). AppendsHead (known_after [] before) n h.export_time s.kept old new) numbers known in
+    let whole : AppendsHead (known_after [] before) (number_in before h) h.export_time (kept_after before) old new = subst (λ (ks : List Kept). AppendsHead (known_after [] before) (number_in before h) h.export_time ks old new) kept numbered in
+    let first : Heading before [] h old new = record {
+      head = head_messages h.export_time (number_in before h) (written before h);
+      is = record { is = refl; writable = whole.writable; export_time = time; sequence = small };
+      octets = whole.octets;
+    } in
+    subst (λ (hs : List Message). Heading before hs h old new) (sym none) first

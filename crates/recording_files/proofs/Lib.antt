@@ -1,4 +1,10 @@
 pub mod PreamblesRead
+pub mod RecordsSpelled
+pub mod RecordsAppended
+pub mod HeadsWritten
+pub mod KeptCopied
+pub mod Beside
+pub mod HeadsRead
 pub mod FilesRead
 pub mod Ledgers
 pub mod Together
@@ -12,5 +18,6 @@ pub mod Gatherings
 pub mod Going
 pub mod ReadOn
 pub mod FilesGive
+pub mod FlowsGive
 pub mod Adding
 pub mod FaultNumbers

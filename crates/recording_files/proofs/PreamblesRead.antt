@@ -1,40 +1,23 @@
 -- A preamble is read: it gives no record, and puts exactly its templates in force.
-use Rattle.std.proofs.Common.{◌≡◌, ℕ, ◌+◌, ◌^◌, ◌<◌, Bool, true, false, cond, ltb, eqb, is_some, List, [], ◌∷◌, ◌++◌, length, drop, map, Option, Some, None, Result, Ok, refl, sym, ap, subst, ◌∙◌, arith, inl, inr}
-use Rattle.std.specs.Prelude.{◌⊎◌, ◌||◌, All}
+use Rattle.std.proofs.Common.{◌≡◌, ℕ, ◌+◌, ◌^◌, ◌<◌, Bool, true, false, cond, eqb, is_some, List, [], ◌∷◌, ◌++◌, length, drop, map, Option, Some, None, Ok, refl, sym, ap, subst, ◌∙◌, inl, inr}
+use Rattle.std.specs.Prelude.{◌||◌, All}
 use Rattle.std.specs.List.{flat_map}
-use Rattle.std.proofs.lemmas.Bool.{le-ltb, eq-eqb}
-use Rattle.std.proofs.lemmas.Bool.Decides.{eqb_tells}
-use Rattle.std.proofs.lemmas.List.{append-nil, length-append, drop_at}
+use Rattle.std.proofs.lemmas.Bool.{eq-eqb}
+use Rattle.std.proofs.lemmas.List.{drop_at}
 use Rattle.std.proofs.lemmas.List.Elements.{All-nil, All-cons, All-head, All-tail, All-contains}
-use Rattle.ipfix_wire.specs.MessageHeader.{header_octets, header_at}
-use Rattle.ipfix_wire.specs.SetHeader.{set_octets}
+use Rattle.ipfix_wire.specs.MessageHeader.{header_octets}
 use Rattle.ipfix_wire.specs.declared.header.Header.{Header}
 use Rattle.ipfix_wire.proofs.Choices.{cases_option}
-use Rattle.ipfix_wire.proofs.Headers.{read}
-use Rattle.ipfix_wire.proofs.Written.{header_again}
-use Rattle.ipfix_message.specs.declared.fault.MessageFault.{MessageFault}
 use Rattle.ipfix_message.specs.declared.record.Template.{Template}
-use Rattle.ipfix_message.specs.declared.template_record.TemplateKind.{TemplateKind}
-use Rattle.ipfix_message.specs.declared.template_record.TemplateKind.TheVariants.{Plain, Options}
 use Rattle.ipfix_message.specs.declared.template_record.Event.{Event}
-use Rattle.ipfix_message.specs.declared.template_record.Event.TheVariants.{Define}
-use Rattle.ipfix_message.specs.Outcome.{◌>>=◌}
-use Rattle.ipfix_message.specs.TemplateRecords.{set_id_of, event_at}
-use Rattle.ipfix_message.specs.TemplatesInForce.{is_other, same_template, in_force, event_gives, template_set_gives}
-use Rattle.ipfix_message.specs.Sets.{Set, next_set}
-use Rattle.ipfix_message.specs.Messages.{Decoding, before, more_ignored, templates_in, set_gives, sets_from}
-use Rattle.ipfix_message.specs.Domains.{History, Message, events_in, message_header, message_gives}
-use Rattle.ipfix_message.proofs.TemplateRecords.{events_read}
-use Rattle.ipfix_message.proofs.WritableTemplates.{template_spelled}
-use Rattle.ipfix_message.proofs.TemplateSets.{template_set_gives-next, template_set_gives-done}
-use Rattle.ipfix_message.proofs.MessageSets.{next_set-only}
-use Rattle.ipfix_message.proofs.Decoding.{sets_from-next, sets_from-done}
-use Rattle.ipfix_message.proofs.Same.{same_template-Decides}
+use Rattle.ipfix_message.specs.TemplatesInForce.{in_force}
+use Rattle.ipfix_message.specs.Messages.{Decoding, before, sets_from}
+use Rattle.ipfix_message.specs.Domains.{History, Message, events_in, message_gives}
 use Rattle.ipfix_message.proofs.LastDefinition.{in_force-found}
 use Rattle.ipfix_session.specs.Given.{known_after}
 use Rattle.ipfix_message.specs.Alike.{SameInForce, knows}
 use Rattle.ipfix_message.specs.declared.stamp.Stamp.{Stamp}
-use Rattle.recording_files.specs.Preambles.{kind_of, template_octets, template_set, IsTemplate, IsStamp, sets_octets, stamped, templates_message, IsPreamble}
+use Rattle.recording_files.specs.Preambles.{IsTemplate, IsStamp, sets_octets, stamped, templates_message, IsPreamble}
 use Rattle.ipfix_session.specs.TemplateLists.{AreInForce}
 use Rattle.ipfix_message.proofs.PartsOf.{HasRoom, Steps, reads}
 use Rattle.ipfix_session.proofs.Chains.{GivesAll}

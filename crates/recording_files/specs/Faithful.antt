@@ -1,9 +1,11 @@
 -- What a recording is for: its files say what the session said.
-use Rattle.std.specs.Prelude.{◌≡◌, ℕ, ◌+◌, List, [], ◌∷◌, flat_map, All}
+use Rattle.std.specs.Prelude.{◌≡◌, ℕ, ◌+◌, ◌==◌, Bool, false, List, [], ◌∷◌, ◌++◌, flat_map, All, Contains}
 use Rattle.ipfix_message.specs.Domains.{Message}
+use Rattle.ipfix_message.specs.declared.record.DataRecord.{DataRecord}
 use Rattle.ipfix_session.specs.declared.stop.Stop.TheVariants.{Clean}
 use Rattle.ipfix_session.specs.Given.{gives, stop_of, records_of, records_in, octets_of, IsOpen, IsPrefix}
 use Rattle.ipfix_session.specs.Ledger.{messages_of, lost_between, backward_between, sum_neighbours}
+use Rattle.recording_files.specs.Heads.{told_first}
 use Rattle.recording_files.specs.Recordings.{Part}
 
 -- what a file says of a domain by itself, summed over each two neighbouring messages
@@ -23,30 +25,78 @@ all_given ps = flat_map (λ p. p.given) ps
 abbrev pub all_files : List Part → List (List ℕ)
 all_files ps = flat_map (λ p. p.file) ps
 
--- a file is read by itself: no fault, and the records of the messages that stand in it
-pub record IsReadAlone (p : Part) : Type 0 where
-  pub stop : stop_of (octets_of p.file) ≡ Clean
-  pub records : records_of (octets_of p.file) ≡ records_in p.given
+-- ---- a file by itself
 
--- each of these files is read by itself, with no fault, and one after another they give the records of a text
+-- what a file of these messages reads as, after those of earlier files: what is told again at its head, and then their records
+abbrev pub reads_as : List Message → List Message → List DataRecord
+reads_as before here = told_first before here ++ records_in here
+
+-- with no fault
+pub record IsReadAlone (before : List Message) (p : Part) : Type 0 where
+  pub stop : stop_of (octets_of p.file) ≡ Clean
+  pub records : records_of (octets_of p.file) ≡ reads_as before p.given
+
+abbrev pub AreReadAlone : List Message → List Part → Type 0
+AreReadAlone before [] = Unit {0}
+AreReadAlone before (p ∷ ps) = IsReadAlone before p × AreReadAlone (before ++ p.given) ps
+
+-- ---- files one after another
+
+-- the records of a file: what is told again at its head, and what came in it
+pub record FileRecords : Type 0 where
+  pub told : List DataRecord
+  pub came : List DataRecord
+
+abbrev pub all_in : FileRecords → List DataRecord
+all_in r = r.told ++ r.came
+
+abbrev pub file_records : List Message → List Part → List FileRecords
+file_records before [] = []
+file_records before (p ∷ ps) = record { told = told_first before p.given; came = records_in p.given } ∷ file_records (before ++ p.given) ps
+
+abbrev pub is_flow : DataRecord → Bool
+is_flow r = r.scope == 0
+
+-- an options record is told again: one of these, but for the export time
+pub record IsToldAgain (rs : List DataRecord) (r : DataRecord) : Type 0 where
+  pub given : DataRecord
+  pub among : Contains rs given
+  pub is : r ≡ record given { export_time = r.export_time }
+  pub options : is_flow r ≡ false
+
+-- each file tells again only what came before it
+abbrev pub TellAgain : List DataRecord → List FileRecords → Type 0
+TellAgain before [] = Unit {0}
+TellAgain before (r ∷ rs) = All (IsToldAgain before) r.told × TellAgain (before ++ r.came) rs
+
+-- each of these files is read by itself, with no fault, and one after another they give the records of a text, but for what they
+-- tell again
 pub record GiveRecordsOf (files : List (List ℕ)) (text : List ℕ) : Type 0 where
   pub stops : All (λ file. stop_of file ≡ Clean) files
-  pub records : flat_map records_of files ≡ records_of text
+  pub parts : List FileRecords
+  pub are : flat_map records_of files ≡ flat_map all_in parts
+  pub records : flat_map (λ r. r.came) parts ≡ records_of text
+  pub again : TellAgain [] parts
 
 -- each of these files is read by itself, with no fault, though it may end within a message, and one after another they give the
--- first records of a text
+-- first records of a text, but for what they tell again
 pub record GiveFirstRecordsOf (files : List (List ℕ)) (text : List ℕ) : Type 0 where
   pub stops : All (λ file. IsOpen (stop_of file)) files
-  pub records : IsPrefix (flat_map records_of files) (records_of text)
+  pub parts : List FileRecords
+  pub are : IsPrefix (flat_map records_of files) (flat_map all_in parts)
+  pub records : IsPrefix (flat_map (λ r. r.came) parts) (records_of text)
+  pub again : TellAgain [] parts
+
+-- ---- a recording
 
 pub record IsFaithful (ps : List Part) : Type 0 where
   -- the parts are the session: its text gives their messages, with no fault
   pub session_stop : stop_of (octets_of (all_messages ps)) ≡ Clean
   pub session : (gives (octets_of (all_messages ps))).messages ≡ all_given ps
-  pub files : All IsReadAlone ps
+  pub files : AreReadAlone [] ps
   -- what the files' ledgers say adds up to what the session's says
   pub lost : (domain : ℕ) → in_files lost_between domain ps ≡ sum_neighbours lost_between (messages_of domain (all_given ps))
   pub backward : (domain : ℕ) → in_files backward_between domain ps ≡ sum_neighbours backward_between (messages_of domain (all_given ps))
-  -- one after another the files are one text, of the same records
+  -- one after another the files are one text, of the same records as each by itself
   pub together_stop : stop_of (octets_of (all_files ps)) ≡ Clean
-  pub together : records_of (octets_of (all_files ps)) ≡ records_in (all_given ps)
+  pub together : records_of (octets_of (all_files ps)) ≡ flat_map all_in (file_records [] ps)

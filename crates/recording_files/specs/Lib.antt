@@ -1,6 +1,9 @@
 -- What public contracts cite.
 pub mod Faults
 pub mod Preambles
+pub mod RecordOctets
+pub mod KeptOptions
+pub mod Heads
 pub mod Recordings
 pub mod FileReports
 pub mod Notices

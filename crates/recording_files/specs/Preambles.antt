@@ -2,9 +2,7 @@
 unfoldable pub use Rattle.ipfix_message.specs.WrittenTemplates.{template_octets}
 pub use Rattle.ipfix_message.specs.WrittenTemplates.{kind_of, template_set, IsSpec, IsTemplate}
 pub use Rattle.ipfix_message.specs.TemplateMessages.{IsStamp, sets_octets, stamped, templates_message}
-use Rattle.std.specs.Prelude.{◌≡◌, ◌+◌, ◌^◌, ◌<◌, ℕ, List, [], ◌∷◌, ◌++◌, length, map, flat_map, All}
-use Rattle.ipfix_wire.specs.MessageHeader.{header_octets}
-use Rattle.ipfix_wire.specs.declared.header.Header.{Header}
+use Rattle.std.specs.Prelude.{◌≡◌, ◌+◌, ◌^◌, ◌<◌, ℕ, List, [], ◌∷◌, length, map, flat_map, All}
 use Rattle.ipfix_wire.specs.declared.header.TheConstants.{HEADER_LENGTH}
 use Rattle.ipfix_message.specs.declared.record.Template.{Template}
 use Rattle.ipfix_message.specs.declared.stamp.Stamp.{Stamp}

@@ -1,5 +1,5 @@
 -- What contracts see of a recorder, and of the counts beside it.
-use Rattle.std.specs.Prelude.{◌≡◌, ℕ, ◌+◌, ◌%◌, ◌^◌, ◌==◌, Bool, false, is_some, nat_eq, if◌then◌else◌, List, [], ◌∷◌, ◌++◌, length, Option, Some, None, Ok}
+use Rattle.std.specs.Prelude.{◌≡◌, ℕ, ◌+◌, ◌%◌, ◌^◌, ◌==◌, Bool, false, MatchBool, is_some, nat_eq, if◌then◌else◌, List, [], ◌∷◌, ◌++◌, length, Option, Some, None, Ok}
 use Rattle.std.specs.Map.{lookup}
 use Rattle.ipfix_wire.specs.declared.header.Header.{Header}
 use Rattle.ipfix_message.specs.Domains.{DomainsView, Message, StandsFor, message_gives}
@@ -8,14 +8,17 @@ use Rattle.ipfix_session.specs.Ledger.{count_in, messages_of, due_of}
 use Rattle.ipfix_session.specs.Feeding.{Counts, Tells}
 use Rattle.recording_files.specs.declared.file_report.FileReport.{FileReport}
 use Rattle.recording_files.specs.declared.message_count.MessageCount.{MessageCount}
-use Rattle.recording_files.specs.Recordings.{has, Precedes}
+use Rattle.recording_files.specs.Heads.{BeginsWith}
+use Rattle.recording_files.specs.KeptOptions.{Kept, kept_after}
+use Rattle.recording_files.specs.Recordings.{has, begins_again, Leads, Precedes}
 use Rattle.recording_files.specs.FileReports.{file_report}
 
--- the domains, the sequence number that is due in each, and the domains that the file has
+-- the domains, the sequence number that is due in each, the domains that the file has, and the options records that are kept
 pub record State : Type 0 where
   pub domains : DomainsView
   pub due : List (ℕ × Option ℕ)
   pub here : List (ℕ × Bool)
+  pub kept : List Kept
 
 -- a recorder stands for these messages of earlier files and of this one
 pub record Keeps (s : State) (before here : List Message) : Type 0 where
@@ -23,11 +26,18 @@ pub record Keeps (s : State) (before here : List Message) : Type 0 where
   pub known : StandsFor s.domains.domains (known_after [] (before ++ here))
   pub due : (domain : ℕ) → lookup (nat_eq domain) s.due ≡ (if has (before ++ here) domain then Some (due_of (messages_of domain (before ++ here))) else None)
   pub in_file : (domain : ℕ) → is_some (lookup (nat_eq domain) s.here) ≡ has here domain
+  pub kept : s.kept ≡ kept_after (before ++ here)
 
--- what is written before a message with this header
+-- what is written at the head of a file, if a message with this header is its first
+pub record Heading (before here : List Message) (h : Header) (old new : List ℕ) : Type 0 where
+  pub head : List (List ℕ)
+  pub is : BeginsWith before here h head
+  pub octets : new ≡ old ++ octets_of head
+
+-- and before that message of its own domain
 pub record Leading (before here : List Message) (h : Header) (old new : List ℕ) : Type 0 where
   pub lead : List (List ℕ)
-  pub is : Precedes before here h lead
+  pub is : MatchBool (begins_again before here h.domain) (Leads before here h lead) (lead ≡ [])
   pub octets : new ≡ old ++ octets_of lead
 
 -- what a message adds to the counts

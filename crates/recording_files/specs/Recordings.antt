@@ -1,4 +1,5 @@
--- A session in several files: its messages as they came, and before the first of a domain in a file the domain's templates.
+-- A session in several files: its messages as they came, before the first of a file the options records that are kept, and before the
+-- first of a domain in a file the domain's templates.
 use Rattle.std.specs.Prelude.{◌≡◌, ℕ, Bool, ◌==◌, ◌&&◌, not, List, [], ◌∷◌, ◌++◌, All, MatchBool, Ok}
 use Rattle.std.specs.List.{list_any}
 use Rattle.std.specs.Option.{unwrap_or}
@@ -8,6 +9,7 @@ use Rattle.ipfix_message.specs.declared.record.Template.{Template}
 use Rattle.ipfix_session.specs.Given.{known_after}
 use Rattle.ipfix_session.specs.Ledger.{messages_of, due_of}
 use Rattle.ipfix_message.specs.declared.stamp.Stamp.{Stamp}
+use Rattle.recording_files.specs.Heads.{BeginsWith}
 use Rattle.recording_files.specs.Preambles.{IsStamp, IsTemplate, IsPreamble}
 use Rattle.ipfix_session.specs.TemplateLists.{AreInForce}
 
@@ -37,8 +39,13 @@ pub record Leads (before here : List Message) (h : Header) (lead : List (List �
   pub fits : IsStamp (stamp_for before h)
   pub is : IsPreamble (stamp_for before h) templates lead
 
-abbrev pub Precedes : List Message → List Message → Header → List (List ℕ) → Type 0
-Precedes before here h lead = MatchBool (begins_again before here h.domain) (Leads before here h lead) (lead ≡ [])
+-- the head of the file, if the message is its first, and its domain's preamble, if the domain begins again
+pub record Precedes (before here : List Message) (h : Header) (lead : List (List ℕ)) : Type 0 where
+  pub head : List (List ℕ)
+  pub own : List (List ℕ)
+  pub is : lead ≡ head ++ own
+  pub begins : BeginsWith before here h head
+  pub leads : MatchBool (begins_again before here h.domain) (Leads before here h own) (own ≡ [])
 
 -- what stands in a file from a place on, for messages and what they gave in the session: before are those of earlier
 -- files, and here those that the file has already

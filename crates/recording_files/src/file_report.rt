@@ -1,6 +1,6 @@
 //! What is told of a file.
 
-/// What the exporter sent in the messages of a file. Preambles are not counted: they are messages that it
+/// What the exporter sent in the messages of a file. Its head and preambles are not counted: they are messages that it
 /// did not send. The numbers stop at `u64::MAX`.
 #[derive(Clone, Copy, Debug, PartialEq, Eq)]
 pub struct FileReport {

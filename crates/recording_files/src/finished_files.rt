@@ -20,7 +20,7 @@ pub enum Recovered {
     /// It has its final name.
     Placed {
         /// What it has, read by itself as a session, up to its end or the first message that has a fault.
-        /// The recorder's own messages are counted, too: preambles, withdrawals, and templates that are defined again.
+        /// The recorder's own messages are counted, too: heads with their records, preambles, withdrawals, and templates that are defined again.
         report: FileReport,
         end: FileEnd,
     },

@@ -1,16 +1,18 @@
 //! Laws of the definitions. Each is a function that does nothing, and its contract is the theorem: a
 //! call brings that to the proof of its caller.
 
-ghost use Rattle.std.specs.Prelude.{◌≡◌, ◌≢◌, ◌++◌, ◌∷◌, ℕ, List, [], Err, Some};
+ghost use Rattle.std.specs.Prelude.{◌≡◌, ◌≢◌, ◌++◌, ◌∷◌, ℕ, All, List, [], Err, Some, filter, flat_map};
+ghost use Rattle.ipfix_message.specs.Domains.{Message};
 ghost use Rattle.ipfix_session.specs.declared.stop.Stop.TheVariants.{Clean};
 ghost use Rattle.ipfix_session.specs.declared.fault.SessionFault.{SessionFault};
 ghost use Rattle.ipfix_session.specs.Faults as sessions;
-ghost use Rattle.ipfix_session.specs.Given.{stop_of};
+ghost use Rattle.ipfix_session.specs.Given.{IsPrefix, records_in, records_of, stop_of};
 ghost use Rattle.recording_files.specs.declared.recorded_session.RecordedSession.{RecordedSession};
 ghost use Rattle.recording_files.specs.Files.{Contents, FilesView, AreSeen, all_of};
 ghost use Rattle.recording_files.specs.Sessions.{Progress, HoldsSome, HoldsAll, HoldsCut, IsTold, RecordsAll, fault_of};
 ghost use Rattle.recording_files.specs.Recordings.{Part, Recorded};
-ghost use Rattle.recording_files.specs.Faithful.{IsFaithful, GiveRecordsOf, GiveFirstRecordsOf, all_given};
+ghost use Rattle.recording_files.specs.Heads.{told_first};
+ghost use Rattle.recording_files.specs.Faithful.{IsFaithful, IsToldAgain, GiveRecordsOf, GiveFirstRecordsOf, all_given, is_flow};
 ghost use Rattle.recording_files.specs.FileReports.{AddUp, file_reports};
 ghost use Rattle.recording_files.specs.Faults.{number_of, name_of};
 ghost use Rattle.recording_files.specs.declared.record_fault.RecordFault.{RecordFault};
@@ -21,15 +23,29 @@ use crate::period_clock::PeriodClock;
 use ipfix_session::Source;
 
 /// The files of a recording say what the session said: each is read by itself, with no fault, and has
-/// the records of the messages that stand in it; what their ledgers say adds up to what the session's
-/// says; and one after another they are one text of the same records.
+/// the options records that it tells again, and then the records of the messages that stand in it; what their ledgers say
+/// adds up to what the session's says; and one after another they are one text of the same records.
 pub fn recordings_are_faithful()
     ensures { (ps : List Part) → Recorded [] ps → IsFaithful ps }
 {}
 
+/// What a file tells again at its head came before it in the session, but for the export time: each is an options record.
+pub fn options_are_told_again()
+    ensures { (before here : List Message)
+        → All (IsToldAgain (records_in before)) (told_first before here) }
+{}
+
+/// Files that give the records of a text, but for what they tell again, give its flow records: those that are no options records.
+pub fn flow_records_are_those_of_the_text()
+    ensures all { (files : List (List ℕ)) (text : List ℕ) → GiveRecordsOf files text
+        → filter is_flow (flat_map records_of files) ≡ filter is_flow (records_of text) }
+    ensures first { (files : List (List ℕ)) (text : List ℕ) → GiveFirstRecordsOf files text
+        → IsPrefix (filter is_flow (flat_map records_of files)) (filter is_flow (records_of text)) }
+{}
+
 /// What stands in the files of a recorded session, where all messages of a text do: each file is read by
 /// itself, with no fault, and one after another they give the records of the text up to its end or
-/// first fault.
+/// first fault, but for the options records that they tell again.
 pub fn files_give_the_records()
     ensures { (p : Progress) (after : FilesView) (start now : Contents) (r : RecordedSession)
         → HoldsAll (IsTold r) p after → AreSeen p.first after start now → start.finished ≡ []
@@ -37,7 +53,8 @@ pub fn files_give_the_records()
 {}
 
 /// What stands there where a call of the files failed: the files, of which the last may end within a
-/// message, have no fault else, and they give the first records of the text, each once and in order.
+/// message, have no fault else, and they give the first records of the text, each once and in order, but for the options
+/// records that they tell again.
 pub fn files_keep_whole_messages()
     ensures { (p : Progress) (after : FilesView) (start now : Contents) (r : RecordedSession)
         → HoldsCut (IsTold r) p after → AreSeen p.first after start now → start.finished ≡ []
@@ -65,7 +82,8 @@ pub fn fault_numbers()
 {}
 
 /// A recording that ended without a fault: the source's text is whole messages, each file is read by
-/// itself, with no fault, and one after another they give all records of the text.
+/// itself, with no fault, and one after another they give all records of the text, but for the options records that they
+/// tell again.
 pub fn recorded_to_the_end<S: Source, F: FileSeries, C: PeriodClock>()
     ensures { (text : List ℕ) (first last : F) (start now : Contents)
         → RecordsAll S.seen F.seen C.asked text first last

@@ -1,5 +1,6 @@
 //! A session in several files, each of which can be read by itself (RFC 5655): its messages as they came,
-//! and before the first of a domain that an earlier file has the templates in force there. A file is
+//! at the head of a file the options records that last told when the exporter was started or how it samples,
+//! and before the first message of a domain that an earlier file has the templates in force there. A file is
 //! finished where a clock tells that its period is over.
 #![tactic(auto)]
 
@@ -8,6 +9,8 @@ mod file_report;
 mod file_series;
 mod finished_files;
 mod gathering;
+mod head;
+mod kept_options;
 pub mod laws;
 mod memory_files;
 mod message_count;
@@ -15,6 +18,7 @@ mod period_clock;
 mod preamble;
 mod reads;
 mod record_fault;
+mod record_octets;
 mod recorded_session;
 mod recorder;
 mod recording;

@@ -1,28 +1,34 @@
 //! What a file of a session has for each message.
 
-ghost use Rattle.std.specs.Prelude.{◌≡◌, ◌≢◌, ◌++◌, [], List, Ok, OnOk, IfOk, IfErr, MatchBool, nat_eq, true};
+ghost use Rattle.std.specs.Prelude.{◌≡◌, ◌≢◌, ◌++◌, [], List, Ok, OnOk, IfOk, IfErr, MatchBool, fold, nat_eq, true, false};
 ghost use Rattle.indexmap.specs.IndexMap.{insert_entry};
-ghost use Rattle.ipfix_message.specs.Domains.{Message, message_header, message_gives};
+ghost use Rattle.ipfix_message.specs.Domains.{History, Message, StandsFor, message_header, message_gives};
 ghost use Rattle.ipfix_message.specs.Outcome.{Fails};
 ghost use Rattle.ipfix_session.specs.Given.{known_after};
 ghost use Rattle.ipfix_session.specs.Ledger.{messages_of, due_of};
-ghost use Rattle.recording_files.specs.Recorders.{Keeps, Leading, Records, due_for};
+ghost use Rattle.recording_files.specs.Heads as head;
+ghost use Rattle.recording_files.specs.KeptOptions.{kept_with};
+ghost use Rattle.recording_files.specs.Preambles.{IsStamp};
+ghost use Rattle.recording_files.specs.Recorders.{Heading, Keeps, Leading, Records, due_for};
 
+use crate::head::append_head;
+use crate::kept_options::{KeptOptions, keep_options};
 use crate::message_count::MessageCount;
 use crate::preamble::{append_bare_message, append_preamble};
 use indexmap::IndexMap;
-use ipfix_message::{Domains, MessageFault, Stamp};
+use ipfix_message::{DataRecord, Domains, MessageFault, Stamp};
 use ipfix_wire::Header;
 use std::alloc::{AllocError, Global};
 use std::marker::Model;
 
 /// What is kept of a session while it is recorded: its domains, the sequence number that is due in
-/// each, and which of them the file has.
+/// each, which of them the file has, and the last options records that told when the exporter was started or how it samples.
 #[derive(Drop)]
 pub struct Recorder {
     domains: Domains,
     due: IndexMap<u32, Option<u32>>,
     here: IndexMap<u32, bool>,
+    kept: Vec<KeptOptions>,
     body: Vec<u8>,
 }
 
@@ -35,7 +41,20 @@ impl Model for Recorder {
       domains = r.domains;
       due = r.due.entries;
       here = r.here.entries;
+      kept = r.kept.items;
     } };
+}
+
+// The stamp of a message with this header.
+fn stamp_at(header: Header) -> Stamp
+    ensures is { result ≡ head.stamp_at header }
+    ensures fits { IsStamp result }
+{
+    Stamp {
+        export_time: header.export_time,
+        sequence: header.sequence,
+        domain: header.domain,
+    }
 }
 
 impl Recorder {
@@ -47,6 +66,7 @@ impl Recorder {
             domains: Domains::new(alloc),
             due: IndexMap::new(alloc),
             here: IndexMap::new(alloc),
+            kept: Vec::new(alloc),
             body: Vec::new(alloc),
         }
     }
@@ -82,6 +102,20 @@ impl Recorder {
         self.due.get(&domain).copied().flatten()
     }
 
+    // Appends what stands at the head of a file, if the message is its first.
+    fn append_head(&mut self, header: &Header, out: &mut Vec<u8>) -> Result<(), AllocError>
+        ensures same { self.new ≡ self.old }
+        ensures head { (before here : List Message) → Keeps self.old before here
+            → OnOk result (Heading before here header.now out.old.items out.new.items) }
+    {
+        if !self.here.is_empty() {
+            return Ok(());
+        }
+        let start = stamp_at(*header);
+        let body = &mut self.body;
+        append_head(&self.domains, &self.due, start, &self.kept, body, out)
+    }
+
     // Appends what stands before a message that begins its domain again.
     fn append_lead(&mut self, header: &Header, out: &mut Vec<u8>) -> Result<(), AllocError>
         ensures same { self.new ≡ self.old }
@@ -108,6 +142,7 @@ impl Recorder {
     // Keeps what a message says of its domain.
     fn keep(&mut self, header: &Header, records: usize, unknown_sets: u64) -> Result<(), AllocError>
         ensures domains { self.new.domains ≡ self.old.domains }
+        ensures kept { self.new.kept ≡ self.old.kept }
         ensures due { OnOk result (self.new.due ≡ insert_entry nat_eq self.old.due
             header.now.domain (due_for header.now records unknown_sets)) }
         ensures in_file { OnOk result (self.new.here
@@ -126,9 +161,19 @@ impl Recorder {
         Ok(())
     }
 
-    /// Takes a message, whose header was read, and makes what a file has before it: its domain's templates, if this file has none
-    /// of its messages and an earlier file has. What stood in `lead` before is gone. It answers what the
-    /// message adds to the counts.
+    // Keeps the options records of a message, after which the domains are these.
+    fn keep_options(&mut self, alloc: Global, records: &[DataRecord]) -> Result<(), AllocError>
+        ensures others { self.new ≡ record self.old { kept = self.new.kept } }
+        ensures kept { self.old.domains.spent ≡ false → (ds : History)
+            → StandsFor self.old.domains.domains ds
+            → OnOk result (self.new.kept ≡ fold (kept_with ds) self.old.kept records.now) }
+    {
+        keep_options(alloc, &self.domains, records, &mut self.kept)
+    }
+
+    /// Takes a message, whose header was read, and makes what a file has before it: the options records that are kept, if the
+    /// message is the file's first; and its domain's templates, if this file has none of its messages and an earlier file has.
+    /// What stood in `lead` before is gone. It answers what the message adds to the counts.
     ///
     /// The fault is the message's, or `OutOfMemory`. After a fault the recorder is of no use.
     pub fn take_message(
@@ -147,12 +192,14 @@ impl Recorder {
             Fails fault (message_gives (known_after [] (before ++ here)) message.now)) }
     {
         lead.clear();
+        self.append_head(header, lead)?;
         self.append_lead(header, lead)?;
         let decoded = match self.domains.decode_with_header(alloc, header, message) {
             Ok(decoded) => decoded,
             Err(fault) => return Err(fault),
         };
         self.keep(header, decoded.records.len(), decoded.unknown_sets)?;
+        self.keep_options(alloc, &decoded.records)?;
         Ok(MessageCount {
             header: *header,
             records: decoded.records.len() as u64,

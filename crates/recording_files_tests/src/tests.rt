@@ -2,6 +2,7 @@
 
 mod endings;
 mod files;
+mod options;
 mod preambles;
 mod reports;
 mod running;

@@ -9,11 +9,11 @@ use Rattle.ipfix_session.specs.Given.{records_in, records_of, stop_of, octets_of
 use Rattle.ipfix_session.proofs.MessagesTaken.{octets-append}
 use Rattle.recording_files.specs.Recordings.{Part}
 use Rattle.recording_files.specs.Faithful as faithful
-use Rattle.recording_files.specs.Faithful.{IsFaithful, all_files}
+use Rattle.recording_files.specs.Faithful.{IsFaithful, all_files, file_records}
 use Rattle.recording_files.specs.Files.{Contents, FilesView, all_of}
 use Rattle.recording_files.specs.Sessions.{file_octets}
 use Rattle.recording_files.proofs.Together.{is_faithful}
-use Rattle.recording_files.proofs.FilesGive.{all_clean, all_records, contents_are}
+use Rattle.recording_files.proofs.FilesGive.{all_again, all_are, all_came, all_clean, contents_are}
 use Rattle.recording_peer.specs.Peers.{HaveFronts, PeerFile, part_of, sent_of, records_over_udp, peer_reports}
 use Rattle.recording_peer.specs.Recording.{FiledDatagrams, FilesHold, CameAfter, GiveRecordsOverUdp, last_file, taken_by_file, taken_in}
 use Rattle.recording_peer.proofs.PeerFiles.{all_with, records_same, recorded_with, octets_same}
@@ -57,8 +57,11 @@ files_give first after since filed h came =
     let are = octets_are first after since filed h came in
     record {
       taken = h.taken;
-      stops = subst (λ (ws : List (List ℕ)). All (λ file. stop_of file ≡ Clean) ws) (sym are) (all_clean ps read);
-      records = ap (λ (ws : List (List ℕ)). flat_map records_of ws) are ∙ all_records ps read ∙ records_with h.files filed h.file h.are h.fronts;
+      stops = subst (λ (ws : List (List ℕ)). All (λ file. stop_of file ≡ Clean) ws) (sym are) (all_clean [] ps read);
+      parts = file_records [] ps;
+      are = ap (λ (ws : List (List ℕ)). flat_map records_of ws) are ∙ all_are [] ps read;
+      records = all_came [] ps ∙ records_with h.files filed h.file h.are h.fronts;
+      again = all_again [] ps;
     }
 
 -- ---- one after another
@@ -76,5 +79,8 @@ one_session first after since filed h came =
     record {
       taken = h.taken;
       stops = All-cons (λ file. stop_of file ≡ Clean) text [] (ap stop_of are ∙ f.together_stop) (All-nil (λ file. stop_of file ≡ Clean));
-      records = append-nil (records_of text) ∙ ap records_of are ∙ f.together ∙ records_with h.files filed h.file h.are h.fronts;
+      parts = file_records [] ps;
+      are = append-nil (records_of text) ∙ ap records_of are ∙ f.together;
+      records = all_came [] ps ∙ records_with h.files filed h.file h.are h.fronts;
+      again = all_again [] ps;
     }

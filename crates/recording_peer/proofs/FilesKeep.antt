@@ -11,10 +11,10 @@ use Rattle.ipfix_session.specs.Given.{records_in, records_of, stop_of, octets_of
 use Rattle.ipfix_session.proofs.Giving.{records_of-prefix}
 use Rattle.recording_files.specs.declared.record_fault.RecordFault.{RecordFault}
 use Rattle.recording_files.specs.Recordings.{Part}
-use Rattle.recording_files.specs.Faithful.{IsReadAlone, all_given}
+use Rattle.recording_files.specs.Faithful.{AreReadAlone, all_given, all_in, file_records}
 use Rattle.recording_files.specs.Files.{Contents, FilesView, all_of}
 use Rattle.recording_files.specs.Sessions.{file_octets}
-use Rattle.recording_files.proofs.FilesGive.{kept, all_records}
+use Rattle.recording_files.proofs.FilesGive.{all_again, all_are, all_came, kept}
 use Rattle.recording_peer.specs.Peers.{Taken, AreTaken, PeerFile, part_of, records_over_udp}
 use Rattle.recording_peer.specs.Recording.{PeerTold, FiledDatagrams, FilesHold, IsCutOff, StopsAt, HasStopped, CameAfter, KeepsWhole, last_file, taken_in, filed_with, file_finished}
 use Rattle.recording_peer.proofs.PeerFiles.{recorded_with, taken_in-push, in-finished}
@@ -35,8 +35,13 @@ keeps_all first after since filed m h came =
       next = [];
       one = inl refl;
       taken = subst (AreTaken []) (sym (append-nil (taken_in filed))) h.taken;
-      at_least = ([], g.records ∙ sym (append-nil (records_over_udp (taken_in filed))));
-      at_most = ([], ap records_over_udp (append-nil (taken_in filed)) ∙ sym g.records ∙ sym (append-nil (flat_map records_of (all_of since))));
+      least = g.parts;
+      least_came = g.records;
+      at_least = ([], g.are ∙ sym (append-nil (flat_map all_in g.parts)));
+      most = g.parts;
+      most_came = g.records ∙ ap records_over_udp (sym (append-nil (taken_in filed)));
+      at_most = ([], sym g.are ∙ sym (append-nil (flat_map records_of (all_of since))));
+      again = g.again;
     }
 
 one_file : (w : List ℕ) → flat_map records_of (w ∷ []) ≡ records_of w
@@ -53,10 +58,11 @@ longer ws w more =
     )
 
 -- the records of the files with one more
-records_with : (fs : List PeerFile) (f : PeerFile) → All IsReadAlone (map part_of (fs ++ f ∷ [])) → flat_map records_of (map file_octets (map part_of fs) ++ file_octets (part_of f) ∷ []) ≡ records_in (all_given (map part_of (fs ++ f ∷ [])))
+records_with : (fs : List PeerFile) (f : PeerFile) → AreReadAlone [] (map part_of (fs ++ f ∷ []))
+    → flat_map records_of (map file_octets (map part_of fs) ++ file_octets (part_of f) ∷ []) ≡ flat_map all_in (file_records [] (map part_of (fs ++ f ∷ [])))
 records_with fs f read =
     ap (λ (ws : List (List ℕ)). flat_map records_of ws) (sym (ap (λ (ps : List Part). map file_octets ps) (map-append part_of fs (f ∷ [])) ∙ map-append file_octets (map part_of fs) (part_of f ∷ [])))
-    ∙ all_records (map part_of (fs ++ f ∷ [])) read
+    ∙ all_are [] (map part_of (fs ++ f ∷ [])) read
 
 -- a call of the files failed
 keeps_cut : (first after : FilesView) (since : Contents) (filed : FiledDatagrams) (m : List ℕ) → IsCutOff first after filed m → CameAfter first after since → KeepsWhole (taken_in filed) m (all_of since)
@@ -72,7 +78,9 @@ keeps_cut first after since filed m k came =
     let read_next = (is_faithful (map part_of (h.files ++ next ∷ [])) (recorded_with h.files more k.file h.are h.earlier k.whole)).files in
     let read_last = (faithful_files first after filed k.cut_off h).files in
     let split : map part_of (h.files ++ next ∷ []) ≡ ps ++ part_of next ∷ [] = map-append part_of h.files (next ∷ []) in
-    let whole = kept ps (part_of next) w k.front.0 (subst (λ (qs : List Part). All IsReadAlone qs) split read_next) k.front.1 in
+    let whole = kept [] ps (part_of next) w k.front.0 (subst (AreReadAlone []) split read_next) k.front.1 in
+    let least = map part_of (h.files ++ last ∷ []) in
+    let most = ps ++ part_of next ∷ [] in
     let given : records_in (all_given (ps ++ part_of next ∷ [])) ≡ records_over_udp (taken_in more) = ap (λ (qs : List Part). records_in (all_given qs)) (sym split) ∙ records_over h.files more k.file h.are k.fronts in
     let given_last : records_in (all_given (map part_of (h.files ++ last ∷ []))) ≡ records_over_udp (taken_in filed) = records_over h.files filed h.file h.are h.fronts in
     let longest = longer (map file_octets ps) (octets_of h.file) k.cut_off in
@@ -82,8 +90,13 @@ keeps_cut first after since filed m k came =
       next = k.next ∷ [];
       one = inr (ap (λ (w : List ℕ). w ∷ []) k.datagram);
       taken = subst (AreTaken []) pushed k.taken;
-      at_least = (longest.0, ap (λ (ws : List (List ℕ)). flat_map records_of ws) are ∙ longest.1 ∙ ap (λ (rs : List DataRecord). rs ++ longest.0) (records_with h.files last read_last ∙ given_last));
-      at_most = (whole.1.0, ap records_over_udp (sym pushed) ∙ sym given ∙ whole.1.1 ∙ ap (λ (ws : List (List ℕ)). flat_map records_of ws ++ whole.1.0) (sym are));
+      least = file_records [] least;
+      least_came = all_came [] least ∙ given_last;
+      at_least = (longest.0, ap (λ (ws : List (List ℕ)). flat_map records_of ws) are ∙ longest.1 ∙ ap (λ (rs : List DataRecord). rs ++ longest.0) (records_with h.files last read_last));
+      most = file_records [] most;
+      most_came = all_came [] most ∙ given ∙ ap records_over_udp pushed;
+      at_most = (whole.1.0, whole.1.1 ∙ ap (λ (ws : List (List ℕ)). flat_map records_of ws ++ whole.1.0) (sym are));
+      again = all_again [] most;
     }
 
 keeps_at : (first after : FilesView) (since : Contents) (c : PeerTold) (filed : FiledDatagrams) (m : List ℕ) → StopsAt first after c filed m → CameAfter first after since → KeepsWhole (taken_in filed) m (all_of since)

@@ -16,6 +16,7 @@ use Rattle.ipfix_message.specs.declared.record.Template.{Template}
 use Rattle.ipfix_message.specs.declared.fault.MessageFault.TheVariants.{OutOfMemory}
 use Rattle.ipfix_session.specs.Sources.{one_more}
 use Rattle.ipfix_session.specs.Ledger.{capped}
+use Rattle.recording_files.specs.Faithful.{FileRecords, TellAgain, all_in}
 use Rattle.recording_files.specs.declared.record_fault.RecordFault.{RecordFault}
 use Rattle.recording_files.specs.declared.record_fault.RecordFault.TheVariants.{Message as OfMessage, NotWritten}
 use Rattle.recording_files.specs.Recordings.{Recorded as AreRecorded, Writes}
@@ -340,21 +341,30 @@ pub record CameAfter (first after : FilesView) (since : Contents) : Type 0 where
   })
 
 -- each of these files is read by itself as a session of a connection is, with no fault, and one after another they give the data
--- records of datagrams, each once, in their order, under the templates in force over UDP
+-- records of datagrams, each once, in their order, under the templates in force over UDP, but for the options records that are told
+-- again
 pub record GiveRecordsOverUdp (files : List (List ℕ)) (ts : List Taken) : Type 0 where
   pub taken : AreTaken [] ts
   pub stops : All (λ file. stop_of file ≡ Clean) files
-  pub records : flat_map records_of files ≡ records_over_udp ts
+  pub parts : List FileRecords
+  pub are : flat_map records_of files ≡ flat_map all_in parts
+  pub records : flat_map (λ r. r.came) parts ≡ records_over_udp ts
+  pub again : TellAgain [] parts
 
 -- the files of a peer that ended: each is read without a fault, where the last may end within a message, and they give the data
--- records of the datagrams, and no others but maybe the first of this one, which was to be written next
+-- records of the datagrams, and no others but maybe the first of this one, which was to be written next, and what is told again
 pub record KeepsWhole (ts : List Taken) (m : List ℕ) (files : List (List ℕ)) : Type 0 where
   pub read : All (λ file. IsOpen (stop_of file)) files
   pub next : List Taken
   pub one : (next ≡ []) ⊎ (datagrams next ≡ m ∷ [])
   pub taken : AreTaken [] (ts ++ next)
-  pub at_least : IsPrefix (records_over_udp ts) (flat_map records_of files)
-  pub at_most : IsPrefix (flat_map records_of files) (records_over_udp (ts ++ next))
+  pub least : List FileRecords
+  pub least_came : flat_map (λ r. r.came) least ≡ records_over_udp ts
+  pub at_least : IsPrefix (flat_map all_in least) (flat_map records_of files)
+  pub most : List FileRecords
+  pub most_came : flat_map (λ r. r.came) most ≡ records_over_udp (ts ++ next)
+  pub at_most : IsPrefix (flat_map records_of files) (flat_map all_in most)
+  pub again : TellAgain [] most
 
 -- ---- what is told
 

@@ -13,7 +13,8 @@ ghost use Rattle.recording_peer.specs.Recording.{FiledDatagrams, FilesHold, IsPe
 
 /// The files of a peer, with the one that isn't finished, are each read by itself as a session of a
 /// connection is, with no fault; and one after another they give the data records of the datagrams that
-/// were taken, each once, in their order, under the templates in force after the rules over UDP.
+/// were taken, each once, in their order, under the templates in force after the rules over UDP, but for the options records that
+/// a file tells again at its head.
 pub fn files_give_the_records_over_udp()
     ensures { (first after : FilesView) (since : Contents) (filed : FiledDatagrams)
         → FilesHold first after filed [] → CameAfter first after since
@@ -21,7 +22,7 @@ pub fn files_give_the_records_over_udp()
 {}
 
 /// One after another, as octets, those files are one session of a connection, with no fault and with the same
-/// data records.
+/// data records, those that are told again among them.
 pub fn files_are_one_session()
     ensures { (first after : FilesView) (since : Contents) (filed : FiledDatagrams)
         → FilesHold first after filed [] → CameAfter first after since

@@ -75,9 +75,9 @@ impl PeerRecorder {
         }
     }
 
-    /// Takes a datagram at a second, which isn't before that of the one before. One that is read after the rules over UDP is recorded as it came, after a preamble
-    /// of its domain if the file has none of the domain's messages yet and an earlier file has. If it
-    /// changes templates, a message in front of it withdraws them; if it has data sets of
+    /// Takes a datagram at a second, which isn't before that of the one before. One that is read after the rules over UDP is recorded as it came, after the
+    /// head of the file if it is the file's first, and after a preamble of its domain if the file has none of the domain's messages
+    /// yet and an earlier file has. If it changes templates, a message in front of it withdraws them; if it has data sets of
     /// templates that an earlier one withdrew, messages that define them again; and if its domain goes on after an earlier
     /// run, messages that define the templates that this left, with the sequence number that was due then. It answers what a recorded
     /// datagram adds to the counts. A datagram of withdrawals alone is ignored: only its withdrawals are counted.

@@ -12,14 +12,14 @@ use Rattle.recording_files.proofs.recorder.Recorder.append_lead.Goals as goal
 
 pub returns-in_default-clause-lead : goal.returns-in_default-clause-lead
 returns-in_default-clause-lead c = λ before here keeps.
-    let inside : State = record { domains = c.self.inside.domains; due = c.self.inside.due.entries; here = c.self.inside.here.entries } in
+    let inside : State = record { domains = c.self.inside.domains; due = c.self.inside.due.entries; here = c.self.inside.here.entries; kept = c.self.inside.kept.items } in
     let now : Keeps inside before here = subst (λ (s : State). Keeps s before here) (sym c.self.view_is) keeps in
     let none : lookup (nat_eq c.args.header.now.domain) c.self.inside.due.entries ≡ None = search rules in
     new_domain inside before here c.args.header.now c.args.out.now.items now none
 
 pub returns-in-None-clause-lead : goal.returns-in-None-clause-lead
 returns-in-None-clause-lead c = λ before here keeps.
-    let inside : State = record { domains = c.self.inside.domains; due = c.self.inside.due.entries; here = c.self.inside.here.entries } in
+    let inside : State = record { domains = c.self.inside.domains; due = c.self.inside.due.entries; here = c.self.inside.here.entries; kept = c.self.inside.kept.items } in
     let now : Keeps inside before here = subst (λ (s : State). Keeps s before here) (sym c.self.view_is) keeps in
     let ds = known_after [] (before ++ here) in
     let d = c.args.header.now.domain in
@@ -36,7 +36,7 @@ returns-in-None-clause-lead c = λ before here keeps.
 
 pub returns-in-Some-templates-clause-lead : goal.returns-in-Some-templates-clause-lead
 returns-in-Some-templates-clause-lead c = λ before here keeps.
-    let inside : State = record { domains = c.self.inside.domains; due = c.self.inside.due.entries; here = c.self.inside.here.entries } in
+    let inside : State = record { domains = c.self.inside.domains; due = c.self.inside.due.entries; here = c.self.inside.here.entries; kept = c.self.inside.kept.items } in
     let now : Keeps inside before here = subst (λ (s : State). Keeps s before here) (sym c.self.view_is) keeps in
     let ds = known_after [] (before ++ here) in
     let d = c.args.header.now.domain in

@@ -8,7 +8,7 @@ use Rattle.recording_files.proofs.recorder.Recorder.due.Goals as goal
 
 pub returns : goal.returns
 returns c = λ before here keeps.
-    let inside : State = record { domains = c.self.inside.domains; due = c.self.inside.due.entries; here = c.self.inside.here.entries } in
+    let inside : State = record { domains = c.self.inside.domains; due = c.self.inside.due.entries; here = c.self.inside.here.entries; kept = c.self.inside.kept.items } in
     let now : Keeps inside before here = subst (λ (s : State). Keeps s before here) (sym c.self.view_is) keeps in
     let found : c.flatten.result ≡ option_flatten (lookup (nat_eq c.args.domain) inside.due) = search rules in
     found ∙ due_is inside before here c.args.domain now

@@ -5,6 +5,6 @@ use Rattle.recording_files.proofs.recorder.Recorder.has_begun.Goals as goal
 
 pub returns : goal.returns
 returns c = λ before here keeps.
-    let inside : State = record { domains = c.self.inside.domains; due = c.self.inside.due.entries; here = c.self.inside.here.entries } in
+    let inside : State = record { domains = c.self.inside.domains; due = c.self.inside.due.entries; here = c.self.inside.here.entries; kept = c.self.inside.kept.items } in
     let now : Keeps inside before here = subst (λ (s : State). Keeps s before here) (sym c.self.view_is) keeps in
     begun inside before here c.is_empty.result now c.is_empty.ensures
