@@ -5,7 +5,7 @@ use Rattle.std.specs.Time.{instant_nanos}
 use Rattle.std.specs.declared.time.Duration.{Duration}
 use Rattle.std.specs.declared.time.Instant.{Instant}
 use Rattle.std.specs.declared.io.ErrorKind.{ErrorKind}
-use Rattle.std.specs.declared.io.ErrorKind.TheVariants.{Interrupted, TimedOut, WouldBlock}
+use Rattle.std.specs.declared.io.ErrorKind.TheVariants.{Interrupted, WouldBlock}
 use Rattle.ipfix_session.specs.Sources.{IsRead, SourceView}
 use Rattle.ipfix_session.specs.declared.source.ReadError.{ReadError}
 
@@ -24,4 +24,4 @@ IsOverdue messages limit begun now = (messages ≡ 0) × IsTooLong (Some limit) 
 
 -- a read that was interrupted, or reached its time limit while the silence is not too long
 abbrev pub IsTick : ErrorKind → Bool → Type 0
-IsTick kind is_too_long = (kind ≡ Interrupted) ⊎ (((kind ≡ WouldBlock) ⊎ (kind ≡ TimedOut)) × (is_too_long ≡ false))
+IsTick kind is_too_long = (kind ≡ Interrupted) ⊎ ((kind ≡ WouldBlock) × (is_too_long ≡ false))

@@ -1,6 +1,6 @@
 //! A connection as a source: a read that waits too long is a tick, and not the end.
 
-ghost use Rattle.std.specs.Prelude.{◌≡◌, ◌⊎◌, ◌≤◌, ◌-◌, ◌↔◌, ⊤, [], true, IsTrue, OnErr, OnOk};
+ghost use Rattle.std.specs.Prelude.{◌≡◌, ◌≢◌, ◌⊎◌, ◌≤◌, ◌-◌, ◌↔◌, ⊤, [], true, Err, IfSome, IsSome, IsTrue, None, OnErr, OnOk, Some};
 ghost use Rattle.std.specs.Option.{ForSome};
 ghost use Rattle.std.specs.Duration.{as_nanos};
 ghost use Rattle.std.specs.IoError.{error_kind};
@@ -59,6 +59,8 @@ pub struct PatientReader<'a, R: Read, C: Moments> {
     messages: MessageCounter,
     reads: u64,
     failed: u64,
+    // What the last read that failed was answered. It would have blocked, if nothing came in time.
+    failure: Option<ErrorKind>,
     ended: bool,
     ghost behind_the_end: { ended ≡ true → ForSome (R.remaining reader) (λ xs. xs ≡ []) },
 }
@@ -71,6 +73,7 @@ impl<'a, R: Read, C: Moments> PatientReader<'a, R, C> {
         ensures silence { result.silence ≡ silence }
         ensures begun { C.tells clock.now result.begun }
         ensures heard { result.heard ≡ result.begun }
+        ensures unfailed { result.failure ≡ None }
     {
         let now = clock.moment();
         PatientReader {
@@ -82,6 +85,7 @@ impl<'a, R: Read, C: Moments> PatientReader<'a, R, C> {
             messages: MessageCounter::new(),
             reads: 0,
             failed: 0,
+            failure: None,
             ended: false,
         }
     }
@@ -105,6 +109,8 @@ impl<'a, R: Read, C: Moments> Source for PatientReader<'a, R, C> {
 
     ghost ended_is_end = { λ s e. s.behind_the_end e };
 
+    ghost failure = { λ s. s.failure };
+
     fn read(&mut self, buffer: &mut [u8]) -> Result<usize, ReadError>
         ensures read { WasRead ⟦<PatientReader<'a, R, C> as Source>⟧.seen
             self.old result self.new buffer.new }
@@ -114,6 +120,8 @@ impl<'a, R: Read, C: Moments> Source for PatientReader<'a, R, C> {
         ensures unheard { OnErr result (self.new.heard ≡ self.old.heard) }
         ensures begun { self.new.begun ≡ self.old.begun }
         ensures silence { self.new.silence ≡ self.old.silence }
+        ensures failure { result ≡ Err ReadError.Failed → IsSome self.new.failure }
+        ensures same { result ≢ Err ReadError.Failed → self.new.failure ≡ self.old.failure }
     {
         self.reads = self.reads.saturating_add(1);
         if self.ended {
@@ -121,6 +129,7 @@ impl<'a, R: Read, C: Moments> Source for PatientReader<'a, R, C> {
         }
         if self.is_overdue(self.clock.moment()) {
             self.failed = self.failed.saturating_add(1);
+            self.failure = Some(ErrorKind::WouldBlock);
             return Err(ReadError::Failed);
         }
         match self.reader.read(buffer) {
@@ -131,14 +140,23 @@ impl<'a, R: Read, C: Moments> Source for PatientReader<'a, R, C> {
                 Ok(count)
             }
             Err(error) => {
+                let kind = error.kind();
                 let now = self.clock.moment();
                 let error = read_error(&error, is_too_long(self.silence.idle, self.heard, now));
                 if error == ReadError::Failed {
                     self.failed = self.failed.saturating_add(1);
+                    self.failure = Some(kind);
                 }
                 Err(error)
             }
         }
+    }
+
+    fn failure(&self) -> Option<ErrorKind>
+        ensures known { IfSome result (λ kind. self.now.failure ≡ Some kind) }
+        ensures same { result ≡ self.now.failure }
+    {
+        self.failure
     }
 }
 
@@ -149,13 +167,14 @@ fn look_for_message(messages: &mut MessageCounter, piece: &[u8]) {
     }
 }
 
-// A tick, and an interruption, may be tried again, unless the silence is too long.
+// A tick, and an interruption, may be tried again, unless the silence is too long. (A read that reaches its time limit
+// would block; one that timed out was of a peer that has vanished.)
 fn read_error(error: &io::Error, is_too_long: bool) -> ReadError
     ensures { (result ≡ ReadError.Interrupted) ↔ IsTick (error_kind error.now) is_too_long }
 {
     match error.kind() {
         ErrorKind::Interrupted => ReadError::Interrupted,
-        ErrorKind::WouldBlock | ErrorKind::TimedOut if !is_too_long => ReadError::Interrupted,
+        ErrorKind::WouldBlock if !is_too_long => ReadError::Interrupted,
         _ => ReadError::Failed,
     }
 }

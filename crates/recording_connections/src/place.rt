@@ -1,20 +1,21 @@
 //! Where the sessions of connections are recorded.
 
-use recording_files::{FileReport, FileSeries, NotWritten, PeriodClock};
+use recording_files::{FileReport, FileSeries, PeriodClock};
+use recording_folder::FilesEnd;
 use std::alloc::{AllocError, Global};
 use std::net::SocketAddr;
 
 /// The files of a session, of which the last can be finished, too.
 pub trait RecordingFiles: FileSeries {
-    ghost use Rattle.std.specs.Prelude.{Result};
     ghost use Rattle.recording_files.specs.declared.file_report.FileReport.{FileReport};
-    ghost use Rattle.recording_files.specs.declared.file_series.NotWritten.{NotWritten};
+    ghost use Rattle.recording_folder.specs.declared.session_files.FilesEnd.{FilesEnd};
 
     /// Whether finishing the last file, of which this is the report, may answer so.
-    ghost finishes: { Self → FileReport → Result (Unit {0}) NotWritten → Type 0 };
+    ghost finishes: { Self → FileReport → FilesEnd → Type 0 };
 
-    /// Finishes the file that isn't finished yet, of which this is the report. It goes away if it is empty.
-    fn finish(self, last: &FileReport) -> Result<(), NotWritten>
+    /// Finishes the file that isn't finished yet, of which this is the report, and answers how the files ended. It goes away
+    /// if it is empty.
+    fn finish(self, last: &FileReport) -> FilesEnd
         ensures { finishes self last.now result };
 }
 

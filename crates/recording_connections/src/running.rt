@@ -210,8 +210,8 @@ fn serve<
 ) -> io::Result<()>
     ensures unread { session ≡ None → connection.new ≡ connection.old }
     ensures untold { session ≡ None → out.new ≡ out.old }
-    ensures served { IfSome session (λ s. IsServed S.seen F.seen C.asked F.finishes
-        (P.makes recorder.now.place) connection.old connection.new s.number
+    ensures served { IfSome session (λ s. IsServed S.seen S.failure F.seen C.asked F.finishes
+        (P.makes recorder.now.place) connection.old connection.new s.number recorder.now.verbosity
         (TellsEnds W.contents W.failed out.old out.new result recorder.now.verbosity connection.old.peer)) }
 {
     match session {
@@ -233,8 +233,8 @@ fn serve_session<
     number: SessionNumber,
     out: &mut W,
 ) -> io::Result<()>
-    ensures { IsServed S.seen F.seen C.asked F.finishes (P.makes recorder.now.place)
-        connection.old connection.new number.number
+    ensures { IsServed S.seen S.failure F.seen C.asked F.finishes (P.makes recorder.now.place)
+        connection.old connection.new number.number recorder.now.verbosity
         (TellsEnds W.contents W.failed out.old out.new result recorder.now.verbosity
         connection.old.peer) }
 {
@@ -245,6 +245,7 @@ fn serve_session<
         connection,
         number,
         &recorder.place,
+        recorder.verbosity,
         out,
     ));
     told.and(write_event(recorder.verbosity, peer, "ended", out))

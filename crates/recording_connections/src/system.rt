@@ -4,7 +4,7 @@ ghost use Rattle.std.specs.Prelude.{◌≡◌, IfOk};
 ghost use Rattle.std.specs.Arc.{arc_value};
 ghost use Rattle.std.specs.Duration.{as_nanos};
 ghost use Rattle.std.specs.Int.NonZero.{non_zero_u64_get};
-ghost use Rattle.recording_connections.specs.LeftFiles.{AreLookedAfter};
+ghost use Rattle.recording_connections.specs.LeftFiles.{AreLookedAfter, AreLookedIn};
 ghost use Rattle.recording_folder.specs.EndedFiles.{EndsLast};
 ghost use Rattle.recording_folder.specs.FiledSessions.{IsNamed};
 ghost use Rattle.recording_names.specs.declared.transport.Transport.TheVariants.{Connection};
@@ -14,10 +14,10 @@ use crate::patient_reader::SilenceLimits;
 use crate::place::{Recording, RecordingFiles, SessionPlace};
 use crate::recorder_run::RecorderRun;
 use crate::running::{ConnectionRecorder, record_connections};
-use recording_files::{FileReport, NotWritten};
+use recording_files::FileReport;
 use recording_folder::{
-    EarlierPeers, FileFinisher, Folder, FolderFault, FolderFinisher, SessionFiles, SystemPeriods,
-    SystemPlace, SystemSession, open_folder, read_back, recover, reopen_folder,
+    EarlierPeers, FileFinisher, FilesEnd, Folder, FolderFault, FolderFinisher, SessionFiles,
+    SystemPeriods, SystemPlace, SystemSession, open_folder, read_back, recover, reopen_folder,
 };
 use recording_lines::WholeLines;
 use recording_names::Transport;
@@ -35,10 +35,10 @@ use std::time::Duration;
 const FIRST_MESSAGE: u64 = 60;
 
 impl<'a, R: Files, K: FileFinisher<R::File>> RecordingFiles for SessionFiles<'a, R, K> {
-    ghost finishes = { λ files last result.
-        EndsLast K.finishes files.unfinished last result files.finisher };
+    ghost finishes = { λ files last end.
+        EndsLast K.finishes files.unfinished files.reason last end files.finisher };
 
-    fn finish(self, last: &FileReport) -> Result<(), NotWritten> {
+    fn finish(self, last: &FileReport) -> FilesEnd {
         self.finish(last)
     }
 }
@@ -114,10 +114,11 @@ pub fn finish_recordings<E: Write + Drop, H: Files<File = File> + Alloc<A = Glob
     path: &str,
     err: E,
 ) -> Result<u64, FolderFault>
-    ensures { IfOk result (AreLookedAfter ⟦<File as Read>⟧.remaining E.contents err) }
+    ensures { IfOk result (AreLookedAfter ⟦<File as Read>⟧.remaining E.contents path.now err) }
 {
     let folder = reopen_folder(rt, alloc, path)?;
-    finish_left(rt, &folder, err, &mut EarlierPeers::new(alloc))
+    let stayed = finish_left(rt, &folder, err, &mut EarlierPeers::new(alloc))?;
+    Ok(stayed)
 }
 
 // Finishes what an earlier run left in a folder, notes what is left of its peers, and answers how many files stay.
@@ -127,7 +128,7 @@ fn finish_left<E: Write + Drop, H: Files<File = File> + Alloc<A = Global> + Clon
     err: E,
     earlier: &mut EarlierPeers,
 ) -> Result<u64, FolderFault>
-    ensures { IfOk result (AreLookedAfter ⟦<File as Read>⟧.remaining E.contents err) }
+    ensures { IfOk result (AreLookedIn ⟦<File as Read>⟧.remaining E.contents folder.now err) }
 {
     let mut lines = WholeLines::new(err);
     let stayed = recover(rt, folder, &mut lines, earlier)?;

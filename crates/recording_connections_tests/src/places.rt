@@ -5,6 +5,8 @@ use recording_connections::{
     Connection, ConnectionSource, NotAccepted, Recording, RecordingFiles, SessionPlace,
 };
 use recording_files::{FileReport, FileSeries, NotWritten, ScriptClock};
+use recording_folder::FilesEnd;
+use report_writing::Reason;
 use std::alloc::{AllocError, Global};
 use std::net::SocketAddr;
 
@@ -40,11 +42,17 @@ impl RecordingFiles for SmallFiles {
 
     ghost finishes = { λ _ _ _. ⊤ };
 
-    fn finish(self, _last: &FileReport) -> Result<(), NotWritten> {
+    fn finish(self, _last: &FileReport) -> FilesEnd {
         if self.is_finished {
-            Ok(())
+            FilesEnd {
+                finished: Ok(()),
+                reason: Some(Reason::NoSpace),
+            }
         } else {
-            Err(NotWritten)
+            FilesEnd {
+                finished: Err(NotWritten),
+                reason: None,
+            }
         }
     }
 }

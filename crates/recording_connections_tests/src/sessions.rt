@@ -41,7 +41,14 @@ fn told_of(
     };
     let mut out = FailingWriter::new(alloc, 1000, 1000);
     let number = SharedCounts::new().next_session();
-    record_connection(alloc, &mut connection, number, &place, &mut out)?;
+    record_connection(
+        alloc,
+        &mut connection,
+        number,
+        &place,
+        NOTHING_MORE,
+        &mut out,
+    )?;
     Ok(out.taken)
 }
 
@@ -73,7 +80,13 @@ fn ends_of_a_session(rt: HostRuntime) -> Result<(), Fail> {
         (PLACE, first_of(&octets, 70), None, "", "14 Truncated"),
         (PLACE, octets.as_slice(), Some(80), "", "15 ReadFailed"),
         (PLACE, malformed.as_slice(), None, lost, "1 Version"),
-        (small, octets.as_slice(), None, "", "19 NotWritten"),
+        (
+            small,
+            octets.as_slice(),
+            None,
+            "",
+            "19 NotWritten: no space is left",
+        ),
         (unfinished, octets.as_slice(), None, lost, "19 NotWritten"),
     ] {
         let told = told_of(alloc, place, text, fail_at)?;

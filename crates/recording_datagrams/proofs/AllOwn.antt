@@ -6,7 +6,7 @@ use Rattle.std.specs.declared.net.socket_addr.SocketAddr.{SocketAddr}
 use Rattle.recording_files.specs.Files.{FilesView}
 use Rattle.recording_files.specs.Periods.{ClockView}
 use Rattle.recording_files.specs.declared.file_report.FileReport.{FileReport}
-use Rattle.recording_files.specs.declared.file_series.NotWritten.{NotWritten}
+use Rattle.recording_folder.specs.declared.session_files.FilesEnd.{FilesEnd}
 use Rattle.recording_peers.specs.declared.session_limits.SessionLimits.{SessionLimits}
 use Rattle.recording_peers.specs.Happenings.{Happening, DatagramCame, SecondBegan}
 use Rattle.recording_peers.specs.Kept.{IsSession}
@@ -142,7 +142,7 @@ module _ {F : Type 0} (seen : F → FilesView) (peer : SocketAddr) (limits : Ses
 
   -- ---- turns
 
-  module _ (law : StandInTurns seen) (finishes : F → FileReport → Result (Unit {0}) NotWritten → Type 0) where
+  module _ (law : StandInTurns seen) (finishes : F → FileReport → FilesEnd → Type 0) where
     -- what is left of all, after a second began
     turned_all : (own : SocketAddr → List Happening) (second : ℕ) (is_over : Bool) (es after : List (SocketAddr × PeerState F)) (lines : List ℕ) (s : HasAll own es) → HadTurns seen finishes second is_over es after lines
         → StandLess seen limits (own_and own (SecondBegan second)) (all_with (SecondBegan second) s.cs) after × HaveAllCame (happened_to peer (all_with (SecondBegan second) s.cs)) (own_and own (SecondBegan second) peer)
@@ -180,7 +180,7 @@ module _ {F : Type 0} (seen : F → FilesView) (peer : SocketAddr) (limits : Ses
 
 -- ---- rounds
 
-module _ {F P W : Type 0} (seen : F → FilesView) (finishes : F → FileReport → Result (Unit {0}) NotWritten → Type 0) (made_for : F → SocketAddr → Type 0) (asked : P → ClockView) (laws : SessionsStand seen made_for) (peer : SocketAddr) (limits : SessionLimits) where
+module _ {F P W : Type 0} (seen : F → FilesView) (finishes : F → FileReport → FilesEnd → Type 0) (made_for : F → SocketAddr → Type 0) (asked : P → ClockView) (laws : SessionsStand seen made_for) (peer : SocketAddr) (limits : SessionLimits) where
   taken_all : (own : SocketAddr → List Happening) (given : Result Arrival NoDatagram) (now : ℕ) (old new : DatagramTaker F P W) (lines : List ℕ) → old.peers.limits ≡ limits → HasAll seen peer limits own old.peers.kept.entries
       → TakesGiven seen finishes made_for asked given now old new lines → (IsKept peer old → IsKept peer new) → (own_datagram peer now given ≢ [] → IsKept peer new)
       → HasAll seen peer limits (own_then own (λ p. own_datagram p now given)) new.peers.kept.entries
@@ -240,7 +240,7 @@ module _ {F P W : Type 0} (seen : F → FilesView) (finishes : F → FileReport 
       all_same seen peer limits _ _ new.peers.kept.entries new.peers.kept.entries
       (λ p. ap (λ n. (own p ++ own_in p old.second r) ++ own_of p n rs) now ∙ append_assoc (own p) (own_in p old.second r) (own_of p r.second rs)) refl last
 
-module _ {F P W : Type 0} (seen : F → FilesView) (finishes : F → FileReport → Result (Unit {0}) NotWritten → Type 0) (made_for : F → SocketAddr → Type 0) (asked : P → ClockView) (laws : SessionsStand seen made_for) (peer : SocketAddr) where
+module _ {F P W : Type 0} (seen : F → FilesView) (finishes : F → FileReport → FilesEnd → Type 0) (made_for : F → SocketAddr → Type 0) (asked : P → ClockView) (laws : SessionsStand seen made_for) (peer : SocketAddr) where
   pub stands_for_all : (run : FromNone W seen finishes made_for asked) → StaysThrough seen finishes made_for asked peer run.rounds run.old run.new run.are
       → StandsForAll seen run.old.peers.limits (of_peer peer run.new.peers.kept.entries) (own_of peer run.old.second run.rounds)
   stands_for_all run on =

@@ -6,7 +6,7 @@ use Rattle.std.specs.declared.net.socket_addr.SocketAddr.{SocketAddr}
 use Rattle.recording_files.specs.Files.{FilesView}
 use Rattle.recording_files.specs.Periods.{ClockView}
 use Rattle.recording_files.specs.declared.file_report.FileReport.{FileReport}
-use Rattle.recording_files.specs.declared.file_series.NotWritten.{NotWritten}
+use Rattle.recording_folder.specs.declared.session_files.FilesEnd.{FilesEnd}
 use Rattle.recording_peers.specs.declared.session_limits.SessionLimits.{SessionLimits}
 use Rattle.recording_peers.specs.Happenings.{Happening, DatagramCame}
 use Rattle.recording_peers.specs.Sessions.{StandFor}
@@ -34,12 +34,12 @@ own_steps own was r p = simp append_assoc
 
 -- ---- what stays in a round
 
-module _ {F : Type 0} (seen : F → FilesView) (finishes : F → FileReport → Result (Unit {0}) NotWritten → Type 0) (made_for : F → SocketAddr → Type 0) where
+module _ {F : Type 0} (seen : F → FilesView) (finishes : F → FileReport → FilesEnd → Type 0) (made_for : F → SocketAddr → Type 0) where
   sent_limits : (may_send : Bool) (before after : Peers F) (shared then : SharedCounts) (from : SocketAddr) (m : List ℕ) (now : ℕ) (lines : List ℕ) → IsProcessedIf seen finishes made_for before after may_send shared then from m now lines → after.limits ≡ before.limits
   sent_limits true before after shared then from m now lines t = t.limits.limits
   sent_limits false before after shared then from m now lines t = ap (λ (p : Peers F). p.limits) t.1
 
-module _ {F P W : Type 0} (seen : F → FilesView) (finishes : F → FileReport → Result (Unit {0}) NotWritten → Type 0) (made_for : F → SocketAddr → Type 0) (asked : P → ClockView) where
+module _ {F P W : Type 0} (seen : F → FilesView) (finishes : F → FileReport → FilesEnd → Type 0) (made_for : F → SocketAddr → Type 0) (asked : P → ClockView) where
   pub given_second : (given : Result Arrival NoDatagram) (now : ℕ) (old new : DatagramTaker F P W) (lines : List ℕ) → TakesGiven seen finishes made_for asked given now old new lines → new.second ≡ old.second
   given_second (Ok a) now old new lines t = ap (λ (r : DatagramTaker F P W). r.second) t.others
   given_second (Err Tick) now old new lines t = ap (λ (r : DatagramTaker F P W). r.second) t.0
@@ -78,7 +78,7 @@ module _ {F P W : Type 0} (seen : F → FilesView) (finishes : F → FileReport 
 
 -- ---- what the sessions stand for
 
-module _ {F : Type 0} (seen : F → FilesView) (finishes : F → FileReport → Result (Unit {0}) NotWritten → Type 0) (made_for : F → SocketAddr → Type 0) (laws : SessionsStand seen made_for) (limits : SessionLimits) where
+module _ {F : Type 0} (seen : F → FilesView) (finishes : F → FileReport → FilesEnd → Type 0) (made_for : F → SocketAddr → Type 0) (laws : SessionsStand seen made_for) (limits : SessionLimits) where
   kept_stand : (own : SocketAddr → List Happening) (is_over : Bool) (second : ℕ) (es after : List (SocketAddr × PeerState F)) (lines : List ℕ) → Stands seen limits own es → HadTurnsIf seen finishes is_over second es after lines
       → Stands seen limits (own_then own (λ p. begun is_over second)) after
   kept_stand own true second es after lines s t = turns_stand seen limits own finishes second true laws.turns es after lines s t
@@ -92,7 +92,7 @@ module _ {F : Type 0} (seen : F → FilesView) (finishes : F → FileReport → 
   sent_stand own false before after shared then from m now lines e s t =
       same_stand seen limits own _ before.kept.entries after.kept.entries (λ p. sym (append-nil (own p))) (ap (λ (k : Peers F). k.kept.entries) t.1) s
 
-module _ {F P W : Type 0} (seen : F → FilesView) (finishes : F → FileReport → Result (Unit {0}) NotWritten → Type 0) (made_for : F → SocketAddr → Type 0) (asked : P → ClockView) (laws : SessionsStand seen made_for) (limits : SessionLimits) where
+module _ {F P W : Type 0} (seen : F → FilesView) (finishes : F → FileReport → FilesEnd → Type 0) (made_for : F → SocketAddr → Type 0) (asked : P → ClockView) (laws : SessionsStand seen made_for) (limits : SessionLimits) where
   taken_stand : (own : SocketAddr → List Happening) (given : Result Arrival NoDatagram) (now : ℕ) (old new : DatagramTaker F P W) (lines : List ℕ) → old.peers.limits ≡ limits → Stands seen limits own old.peers.kept.entries
       → TakesGiven seen finishes made_for asked given now old new lines → Stands seen limits (own_then own (λ p. own_datagram p now given)) new.peers.kept.entries
   taken_stand own (Ok a) now old new lines e s t = sent_stand seen finishes made_for laws limits own a.may_send old.peers new.peers old.unserved new.unserved a.peer a.octets now lines e s t.arrives.taken
@@ -134,7 +134,7 @@ module _ {F P W : Type 0} (seen : F → FilesView) (finishes : F → FileReport 
       same_stand seen limits _ _ new.peers.kept.entries new.peers.kept.entries
       (λ p. ap (λ n. (own p ++ own_in p old.second r) ++ own_of p n rs) now ∙ append_assoc (own p) (own_in p old.second r) (own_of p r.second rs)) refl on
 
-module _ {F P W : Type 0} (seen : F → FilesView) (finishes : F → FileReport → Result (Unit {0}) NotWritten → Type 0) (made_for : F → SocketAddr → Type 0) (asked : P → ClockView) (laws : SessionsStand seen made_for) where
+module _ {F P W : Type 0} (seen : F → FilesView) (finishes : F → FileReport → FilesEnd → Type 0) (made_for : F → SocketAddr → Type 0) (asked : P → ClockView) (laws : SessionsStand seen made_for) where
   pub behind_rounds : (run : FromNone W seen finishes made_for asked) → Stands seen run.old.peers.limits (λ p. own_of p run.old.second run.rounds) run.new.peers.kept.entries
   behind_rounds run =
       let first : Stands seen run.old.peers.limits (λ p. []) run.old.peers.kept.entries = record {

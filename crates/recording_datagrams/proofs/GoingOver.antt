@@ -5,7 +5,7 @@ use Rattle.lru.specs.LruCache.{last_entry}
 use Rattle.lru.proofs.Pairs.{cut_end, last_of_push}
 use Rattle.recording_files.specs.Files.{FilesView}
 use Rattle.recording_files.specs.declared.file_report.FileReport.{FileReport}
-use Rattle.recording_files.specs.declared.file_series.NotWritten.{NotWritten}
+use Rattle.recording_folder.specs.declared.session_files.FilesEnd.{FilesEnd}
 use Rattle.recording_files.specs.declared.record_fault.RecordFault.{RecordFault}
 use Rattle.recording_peers.specs.Calls.{TakesTurn}
 use Rattle.recording_peers.specs.Steps.{GoesOn, KeepsLimits, first_by}
@@ -18,7 +18,7 @@ use Rattle.recording_datagrams.specs.Turns.{IsTurnTold, IsTurn, HadTurn, HadTurn
 pub limits_both : {F : Type 0} {old mid new : Peers F} → KeepsLimits old mid → KeepsLimits mid new → KeepsLimits old new
 limits_both h k = record { room = k.room ∙ h.room; limits = k.limits ∙ h.limits }
 
-module _ {F : Type 0} (seen : F → FilesView) (finishes : F → FileReport → Result (Unit {0}) NotWritten → Type 0) (second : ℕ) (is_over : Bool) where
+module _ {F : Type 0} (seen : F → FilesView) (finishes : F → FileReport → FilesEnd → Type 0) (second : ℕ) (is_over : Bool) where
   -- the last peers, as many as had their turn, stand before the others now
   pub record GoneOver (es now : List (SocketAddr × PeerState F)) (count : ℕ) (lines : List ℕ) : Type 0 where
     pub front : List (SocketAddr × PeerState F)
@@ -108,7 +108,7 @@ module _ {F : Type 0} (seen : F → FilesView) (finishes : F → FileReport → 
   pub gone_over : (es now : List (SocketAddr × PeerState F)) (count : ℕ) (lines : List ℕ) → GoneOver es now count lines → length es ≤ count → HadTurns seen finishes second is_over es now lines
   gone_over es now count lines g h = let many = g.as_many in emptied g.front g.behind g.kept es now lines g.those (omega arith) g.now_is g.had
 
-module _ {F : Type 0} (seen : F → FilesView) (finishes : F → FileReport → Result (Unit {0}) NotWritten → Type 0) (since : ℕ) where
+module _ {F : Type 0} (seen : F → FilesView) (finishes : F → FileReport → FilesEnd → Type 0) (since : ℕ) where
   -- so many are gone
   pub record EndedBehind (es now : List (SocketAddr × PeerState F)) (count : ℕ) (lines : List ℕ) : Type 0 where
     pub gone : List (SocketAddr × PeerState F)

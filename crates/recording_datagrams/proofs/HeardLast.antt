@@ -7,7 +7,7 @@ use Rattle.lru.specs.LruCache.{last_entry}
 use Rattle.recording_files.specs.Files.{FilesView}
 use Rattle.recording_files.specs.Periods.{ClockView}
 use Rattle.recording_files.specs.declared.file_report.FileReport.{FileReport}
-use Rattle.recording_files.specs.declared.file_series.NotWritten.{NotWritten}
+use Rattle.recording_folder.specs.declared.session_files.FilesEnd.{FilesEnd}
 use Rattle.recording_files.specs.declared.record_fault.RecordFault.{RecordFault}
 use Rattle.recording_peers.specs.declared.session_limits.SessionLimits.{SessionLimits}
 use Rattle.recording_peers.specs.Steps.{Reception, Records, RecordsBy, first_by, kept_by}
@@ -90,7 +90,7 @@ module _ {F : Type 0} where
       subst (λ (l : List (SocketAddr × PeerState F)). IsInOrder second l) (sym is) ((omega arith, subst (λ n. IsInOrder n behind) (sym same) o))
   turned (Err fault) second e new behind after h same o is = subst (λ (l : List (SocketAddr × PeerState F)). IsInOrder second l) (sym is) (later e.1.heard second behind h o)
 
-module _ {F : Type 0} (seen : F → FilesView) (finishes : F → FileReport → Result (Unit {0}) NotWritten → Type 0) where
+module _ {F : Type 0} (seen : F → FilesView) (finishes : F → FileReport → FilesEnd → Type 0) where
   module _ (made_for : F → SocketAddr → Type 0) (limits : SessionLimits) (most : ℕ) (r : Reception F) (es after : List (SocketAddr × PeerState F)) where
     records_by : (became : Became F) → IsInOrder r.second es → RecordsBy seen made_for limits became most r es after → IsInOrder r.second after
     records_by NoPlace o t = subst (λ (l : List (SocketAddr × PeerState F)). IsInOrder r.second l) (sym t.nothing.same) o
@@ -116,7 +116,7 @@ module _ {F : Type 0} (seen : F → FilesView) (finishes : F → FileReport → 
       records made_for before.limits before.kept.cap (record { peer = from; octets = m; second = now; became = t.became; gone = t.gone }) before.kept.entries after.kept.entries o t.records
   takes_if made_for false before after shared then from m now lines o t = subst (λ (k : Peers F). IsInOrder now k.kept.entries) (sym t.1) o
 
-module _ {F P W : Type 0} (seen : F → FilesView) (finishes : F → FileReport → Result (Unit {0}) NotWritten → Type 0) (made_for : F → SocketAddr → Type 0) (asked : P → ClockView) where
+module _ {F P W : Type 0} (seen : F → FilesView) (finishes : F → FileReport → FilesEnd → Type 0) (made_for : F → SocketAddr → Type 0) (asked : P → ClockView) where
   takes_given : (given : Result Arrival NoDatagram) (now : ℕ) (old new : DatagramTaker F P W) (lines : List ℕ) → IsInOrder now old.peers.kept.entries → TakesGiven seen finishes made_for asked given now old new lines → IsInOrder now new.peers.kept.entries
   takes_given (Ok a) now old new lines o t = takes_if seen finishes made_for a.may_send old.peers new.peers old.unserved new.unserved a.peer a.octets now lines o t.arrives.taken
   takes_given (Err Tick) now old new lines o t = subst (λ (r : DatagramTaker F P W). IsInOrder now r.peers.kept.entries) (sym t.0) o

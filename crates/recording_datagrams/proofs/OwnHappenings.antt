@@ -6,7 +6,7 @@ use Rattle.std.specs.declared.net.socket_addr.SocketAddr.{SocketAddr}
 use Rattle.std.specs.contracts.net.socket_addr.SocketAddrEq.TheImpl.Laws.{laws-law}
 use Rattle.recording_files.specs.Files.{FilesView}
 use Rattle.recording_files.specs.declared.file_report.FileReport.{FileReport}
-use Rattle.recording_files.specs.declared.file_series.NotWritten.{NotWritten}
+use Rattle.recording_folder.specs.declared.session_files.FilesEnd.{FilesEnd}
 use Rattle.recording_files.specs.declared.record_fault.RecordFault.{RecordFault}
 use Rattle.recording_peers.specs.declared.session_limits.SessionLimits.{SessionLimits}
 use Rattle.recording_peers.specs.Happenings.{Happening, SecondBegan}
@@ -307,7 +307,7 @@ module _ {F : Type 0} (seen : F → FilesView) (limits : SessionLimits) where
         let on = front_of after gone cs p.1 h.1 a.1 l.1 in
         record { ds = c ∷ on.ds; stand = (p.0, on.stand); heard = (h.0, on.heard); less = less_first own c on.ds cs a l on.less }
 
-  module _ (own : SocketAddr → List Happening) (finishes : F → FileReport → Result (Unit {0}) NotWritten → Type 0) (second : ℕ) (is_over : Bool) (law : StandInTurns seen) where
+  module _ (own : SocketAddr → List Happening) (finishes : F → FileReport → FilesEnd → Type 0) (second : ℕ) (is_over : Bool) (law : StandInTurns seen) where
     pub behind_turns : (es after : List (SocketAddr × PeerState F)) (cs : PeerHappenings) (lines : List ℕ) → StandFor seen limits es cs → Paired IsHeard es cs → AreApart cs → HaveLast own cs → HadTurns seen finishes second is_over es after lines
         → StandLess seen limits (own_and own (SecondBegan second)) (all_with (SecondBegan second) cs) after
     behind_turns [] after [] lines p h a l t = record {

@@ -8,7 +8,7 @@ use Rattle.std.specs.declared.net.socket_addr.SocketAddr.{SocketAddr}
 use Rattle.recording_files.specs.Files.{FilesView}
 use Rattle.recording_files.specs.Periods.{ClockView}
 use Rattle.recording_files.specs.declared.file_report.FileReport.{FileReport}
-use Rattle.recording_files.specs.declared.file_series.NotWritten.{NotWritten}
+use Rattle.recording_folder.specs.declared.session_files.FilesEnd.{FilesEnd}
 use Rattle.recording_peers.specs.Answers.{Answer, Gives, answer_of}
 use Rattle.recording_peers.specs.declared.datagram_source.Datagram.{Datagram}
 use Rattle.recording_peers.specs.declared.datagram_source.NoDatagram.{NoDatagram}
@@ -39,7 +39,7 @@ lines-push rs r = flat_map-append (λ (x : Round). x.lines) rs (r ∷ []) ∙ ap
 
 -- ---- what they did
 
-module _ {F P W : Type 0} (seen : F → FilesView) (finishes : F → FileReport → Result (Unit {0}) NotWritten → Type 0) (made_for : F → SocketAddr → Type 0) (asked : P → ClockView) where
+module _ {F P W : Type 0} (seen : F → FilesView) (finishes : F → FileReport → FilesEnd → Type 0) (made_for : F → SocketAddr → Type 0) (asked : P → ClockView) where
   rounds-push : (rs : List Round) (r : Round) (old mid new : DatagramTaker F P W) → AreRounds seen finishes made_for asked rs old mid → IsRound seen finishes made_for asked r mid new → AreRounds seen finishes made_for asked (rs ++ r ∷ []) old new
   rounds-push [] r old mid new are is = (new, subst (λ (x : DatagramTaker F P W). IsRound seen finishes made_for asked r x new) are is, refl)
   rounds-push (q ∷ rs) r old mid new are is = (are.0, are.1, rounds-push rs r are.0 mid new are.2 is)

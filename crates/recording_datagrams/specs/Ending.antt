@@ -4,7 +4,7 @@ use Rattle.std.specs.List.{flat_map}
 use Rattle.std.specs.declared.net.socket_addr.SocketAddr.{SocketAddr}
 use Rattle.recording_files.specs.declared.file_report.FileReport.{FileReport}
 use Rattle.recording_files.specs.Files.{FilesView}
-use Rattle.recording_files.specs.declared.file_series.NotWritten.{NotWritten}
+use Rattle.recording_folder.specs.declared.session_files.FilesEnd.{FilesEnd}
 use Rattle.recording_files.specs.declared.record_fault.RecordFault.{RecordFault}
 use Rattle.recording_order.specs.Counts.{counts_of}
 use Rattle.recording_order.specs.Releases.{finish}
@@ -65,13 +65,13 @@ abbrev pub advance_lines : SocketAddr → AdvancesView → List ℕ
 advance_lines peer advances = flat_map (domain_advance_line peer) (told_of advances.reaches)
 
 -- these, and the lines that a session of a connection has
-abbrev pub told_lines : SocketAddr → PeerSession → Result (Unit {0}) NotWritten → List ℕ
-told_lines peer session finished = advance_lines peer session.advances ++ session_lines peer session.session finished
+abbrev pub told_lines : SocketAddr → PeerSession → FilesEnd → List ℕ
+told_lines peer session end = advance_lines peer session.advances ++ session_lines peer session.session end
 
 -- what was refused, what was doubled and reordered, why it ends, and those
-abbrev pub ending_lines : SocketAddr → Option Refusals → WindowView → Option EndCause → PeerSession → Result (Unit {0}) NotWritten → List ℕ
-ending_lines peer refused window cause session finished =
-    refusal_lines peer refused ++ (counted_lines peer window ++ (cause_lines peer cause ++ told_lines peer session finished))
+abbrev pub ending_lines : SocketAddr → Option Refusals → WindowView → Option EndCause → PeerSession → FilesEnd → List ℕ
+ending_lines peer refused window cause session end =
+    refusal_lines peer refused ++ (counted_lines peer window ++ (cause_lines peer cause ++ told_lines peer session end))
 
 module _ {F : Type 0} (seen : F → FilesView) where
   -- of a session that ends without a fault all that waits is recorded first; another stays as it is
@@ -81,17 +81,17 @@ module _ {F : Type 0} (seen : F → FilesView) where
 
   -- what waits is recorded; then the last file of a peer was finished with its report, and the session's reports and advances are of
   -- the datagrams that its recorder counted; these lines tell it, and which domains went on that weren't told
-  pub record Ends (finishes : F → FileReport → Result (Unit {0}) NotWritten → Type 0) (peer : SocketAddr) (kept : PeerState F) (cause : Option EndCause)
+  pub record Ends (finishes : F → FileReport → FilesEnd → Type 0) (peer : SocketAddr) (kept : PeerState F) (cause : Option EndCause)
       (lines : List ℕ) : Type 0 where
     pub released : PeerState F
     pub is_released : IsReleasedFor cause kept released
     pub session : PeerSession
     pub reports : Reports released.recorder.told session
     pub fault : session.session.ended ≡ answer_of released.recorder.ended
-    pub finished : Result (Unit {0}) NotWritten
-    pub is_finished : finishes released.files session.session.last finished
+    pub end : FilesEnd
+    pub is_end : finishes released.files session.session.last end
     pub lines_are : lines ≡ resumed_lines peer (drop released.resumptions_told session.resumed.items)
-        ++ ending_lines peer released.refused released.window cause session finished
+        ++ ending_lines peer released.refused released.window cause session end
 
 -- what a call answers that writes lines of which this is true: there are such lines, and it tells them
 pub record TellsSome {W A : Type 0} (contents : W → Option (List ℕ)) (has_failed : W → Type 0) (old new : W) (result : Result (Unit {0}) A) (Are : List ℕ → Type 0) : Type 0 where

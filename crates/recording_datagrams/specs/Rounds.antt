@@ -5,7 +5,7 @@ use Rattle.ipfix_session.specs.Sources.{one_more}
 use Rattle.recording_files.specs.Files.{FilesView}
 use Rattle.recording_files.specs.Periods.{ClockView, IsAnswer}
 use Rattle.recording_files.specs.declared.file_report.FileReport.{FileReport}
-use Rattle.recording_files.specs.declared.file_series.NotWritten.{NotWritten}
+use Rattle.recording_folder.specs.declared.session_files.FilesEnd.{FilesEnd}
 use Rattle.recording_peers.specs.Answers.{Answer, Gives}
 use Rattle.recording_peers.specs.Steps.{KeepsLimits}
 use Rattle.recording_peers.specs.declared.datagram_source.NoDatagram.{NoDatagram}
@@ -46,13 +46,13 @@ lines_of rs = flat_map (λ r. r.lines) rs
 abbrev pub one_not_received : SharedCounts → SharedCounts
 one_not_received shared = record shared { not_accepted = one_more shared.not_accepted }
 
-module _ {F : Type 0} (seen : F → FilesView) (finishes : F → FileReport → Result (Unit {0}) NotWritten → Type 0) where
+module _ {F : Type 0} (seen : F → FilesView) (finishes : F → FileReport → FilesEnd → Type 0) where
   -- if a period is over all peers have their turn, and else nothing changes
   abbrev pub HadTurnsIf : Bool → ℕ → List (SocketAddr × PeerState F) → List (SocketAddr × PeerState F) → List ℕ → Type 0
   HadTurnsIf true second es after lines = HadTurns seen finishes second true es after lines
   HadTurnsIf false second es after lines = (after ≡ es) × (lines ≡ [])
 
-module _ {F P W : Type 0} (seen : F → FilesView) (finishes : F → FileReport → Result (Unit {0}) NotWritten → Type 0) (made_for : F → SocketAddr → Type 0)
+module _ {F P W : Type 0} (seen : F → FilesView) (finishes : F → FileReport → FilesEnd → Type 0) (made_for : F → SocketAddr → Type 0)
     (asked : P → ClockView) where
   -- the clock of the place is asked once
   pub record KeepsToPeriods (is_over : Bool) (now : ℕ) (old new : DatagramTaker F P W) (lines : List ℕ) : Type 0 where
@@ -125,7 +125,7 @@ module _ {F P W : Type 0} (seen : F → FilesView) (finishes : F → FileReport 
     pub told : Tells contents has_failed old.out new.out answer (lines_of rounds)
 
 -- rounds, before the first of which no peer was kept
-pub record FromNone {F P : Type 0} (W : Type 0) (seen : F → FilesView) (finishes : F → FileReport → Result (Unit {0}) NotWritten → Type 0) (made_for : F → SocketAddr → Type 0)
+pub record FromNone {F P : Type 0} (W : Type 0) (seen : F → FilesView) (finishes : F → FileReport → FilesEnd → Type 0) (made_for : F → SocketAddr → Type 0)
     (asked : P → ClockView) : Type 0 where
   pub rounds : List Round
   pub old : DatagramTaker F P W

@@ -4,7 +4,7 @@ use Rattle.std.specs.declared.net.socket_addr.SocketAddr.{SocketAddr}
 use Rattle.recording_files.specs.Files.{FilesView}
 use Rattle.recording_files.specs.Periods.{ClockView}
 use Rattle.recording_files.specs.declared.file_report.FileReport.{FileReport}
-use Rattle.recording_files.specs.declared.file_series.NotWritten.{NotWritten}
+use Rattle.recording_folder.specs.declared.session_files.FilesEnd.{FilesEnd}
 use Rattle.recording_peers.specs.declared.session_limits.SessionLimits.{SessionLimits}
 use Rattle.recording_peers.specs.Happenings.{Happening, DatagramCame, SecondBegan}
 use Rattle.recording_peers.specs.Kept.{IsSession}
@@ -69,7 +69,7 @@ pub record IsHeard {F : Type 0} (k : PeerState F) (hs : List Happening) : Type 0
   pub none_came : came_among after ≡ []
 
 -- what happened to a peer in rounds before which no peer was kept
-module _ {F P W : Type 0} {seen : F → FilesView} {finishes : F → FileReport → Result (Unit {0}) NotWritten → Type 0} {made_for : F → SocketAddr → Type 0} {asked : P → ClockView} where
+module _ {F P W : Type 0} {seen : F → FilesView} {finishes : F → FileReport → FilesEnd → Type 0} {made_for : F → SocketAddr → Type 0} {asked : P → ClockView} where
   abbrev pub own_by : FromNone W seen finishes made_for asked → SocketAddr → List Happening
   own_by run peer = own_of peer run.old.second run.rounds
 
@@ -97,7 +97,7 @@ StandsForAll seen limits (Some k) all = (hs : List Happening) × HaveAllCame hs 
 abbrev pub IsKept : {F P W : Type 0} → SocketAddr → DatagramTaker F P W → Type 0
 IsKept peer r = IsSome (of_peer peer r.peers.kept.entries)
 
-module _ {F P W : Type 0} (seen : F → FilesView) (finishes : F → FileReport → Result (Unit {0}) NotWritten → Type 0) (made_for : F → SocketAddr → Type 0)
+module _ {F P W : Type 0} (seen : F → FilesView) (finishes : F → FileReport → FilesEnd → Type 0) (made_for : F → SocketAddr → Type 0)
     (asked : P → ClockView) (peer : SocketAddr) where
   -- in a round its session didn't end: not as a period was over, at a datagram, or in a new second; and with a datagram of its own
   -- it is kept
@@ -113,7 +113,7 @@ module _ {F P W : Type 0} (seen : F → FilesView) (finishes : F → FileReport 
   StaysThrough (r ∷ rs) old new are = StaysInRound r old are.0 are.1 × StaysThrough rs are.0 new are.2
 
 -- after such rounds: one more; and the session of a peer ends in none of them
-module _ {F P W : Type 0} {seen : F → FilesView} {finishes : F → FileReport → Result (Unit {0}) NotWritten → Type 0} {made_for : F → SocketAddr → Type 0} {asked : P → ClockView} where
+module _ {F P W : Type 0} {seen : F → FilesView} {finishes : F → FileReport → FilesEnd → Type 0} {made_for : F → SocketAddr → Type 0} {asked : P → ClockView} where
   abbrev pub IsNextRound : FromNone W seen finishes made_for asked → Round → DatagramTaker F P W → Type 0
   IsNextRound run r new = IsRound seen finishes made_for asked r run.new new
 

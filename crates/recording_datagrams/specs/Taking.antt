@@ -5,7 +5,7 @@ use Rattle.std.specs.declared.net.socket_addr.SocketAddr.{SocketAddr}
 use Rattle.ipfix_message.specs.declared.fault.MessageFault.TheVariants.{OutOfMemory}
 use Rattle.recording_files.specs.Files.{FilesView}
 use Rattle.recording_files.specs.declared.file_report.FileReport.{FileReport}
-use Rattle.recording_files.specs.declared.file_series.NotWritten.{NotWritten}
+use Rattle.recording_folder.specs.declared.session_files.FilesEnd.{FilesEnd}
 use Rattle.recording_files.specs.declared.record_fault.RecordFault.TheVariants as faults
 use Rattle.recording_peers.specs.Steps.{KeepsLimits, Records}
 use Rattle.recording_peers.specs.declared.peer_state.PeerState.{PeerState}
@@ -37,7 +37,7 @@ unserved_by (Ended kept) shared from = shared
 unserved_by NoPlace shared from = one_turned_away shared from
 unserved_by NoMemory shared from = shared
 
-module _ {F : Type 0} (seen : F → FilesView) (finishes : F → FileReport → Result (Unit {0}) NotWritten → Type 0) where
+module _ {F : Type 0} (seen : F → FilesView) (finishes : F → FileReport → FilesEnd → Type 0) where
   -- the session of a peer that went ends, with these lines
   abbrev pub EvictedLines : Option (SocketAddr × PeerState F) → List ℕ → Type 0
   EvictedLines None lines = lines ≡ []
@@ -51,7 +51,7 @@ module _ {F : Type 0} (seen : F → FilesView) (finishes : F → FileReport → 
   OutcomeLines peer NoPlace lines = lines ≡ []
   OutcomeLines peer NoMemory lines = lines ≡ fault_line peer (faults.Message OutOfMemory)
 
-module _ {F : Type 0} (seen : F → FilesView) (finishes : F → FileReport → Result (Unit {0}) NotWritten → Type 0) (made_for : F → SocketAddr → Type 0)
+module _ {F : Type 0} (seen : F → FilesView) (finishes : F → FileReport → FilesEnd → Type 0) (made_for : F → SocketAddr → Type 0)
     (before after : Peers F) where
   -- a datagram was taken among the peers that are kept, and what went or ended at that was finished and told
   pub record IsProcessed (shared then : SharedCounts) (from : SocketAddr) (m : List ℕ) (now : ℕ) (lines : List ℕ) : Type 0 where

@@ -4,7 +4,7 @@ use Rattle.std.specs.declared.net.socket_addr.SocketAddr.{SocketAddr}
 use Rattle.lru.specs.LruCache.{last_entry}
 use Rattle.recording_files.specs.Files.{FilesView}
 use Rattle.recording_files.specs.declared.file_report.FileReport.{FileReport}
-use Rattle.recording_files.specs.declared.file_series.NotWritten.{NotWritten}
+use Rattle.recording_folder.specs.declared.session_files.FilesEnd.{FilesEnd}
 use Rattle.recording_peers.specs.Calls.{TakesTurn}
 use Rattle.recording_peers.specs.Steps.{GoesOn, ended_by, first_by}
 use Rattle.recording_peers.specs.Table.{others_than_last}
@@ -19,7 +19,7 @@ use Rattle.recording_datagrams.specs.declared.ending.EndCause.TheVariants.{Idle}
 
 -- ---- turns
 
-module _ {F : Type 0} (seen : F → FilesView) (finishes : F → FileReport → Result (Unit {0}) NotWritten → Type 0) where
+module _ {F : Type 0} (seen : F → FilesView) (finishes : F → FileReport → FilesEnd → Type 0) where
   -- a session that ended with a fault in its turn, if it did, is finished with these lines
   abbrev pub EndedLines : SocketAddr → Option (PeerState F) → List ℕ → Type 0
   EndedLines peer None lines = lines ≡ []
@@ -36,7 +36,7 @@ abbrev pub in_turn : {F : Type 0} → SocketAddr → Turn → PeerState F → In
 in_turn peer t k = record { peer = peer; refused = t.refused; orders = t.orders; resumed = t.resumed; ended = ended_by t.answer k }
 
 -- as a second began, and a period may be over
-module _ {F : Type 0} (seen : F → FilesView) (finishes : F → FileReport → Result (Unit {0}) NotWritten → Type 0) (second : ℕ) (is_over : Bool) where
+module _ {F : Type 0} (seen : F → FilesView) (finishes : F → FileReport → FilesEnd → Type 0) (second : ℕ) (is_over : Bool) where
   -- the peer that was silent for longest had its turn
   pub record IsTurn (before after : List (SocketAddr × PeerState F)) (lines : List ℕ) : Type 0 where
     pub turn : InTurn F
@@ -60,7 +60,7 @@ module _ {F : Type 0} (seen : F → FilesView) (finishes : F → FileReport → 
 
 -- ---- silent peers
 
-module _ {F : Type 0} (seen : F → FilesView) (finishes : F → FileReport → Result (Unit {0}) NotWritten → Type 0) (since : ℕ) where
+module _ {F : Type 0} (seen : F → FilesView) (finishes : F → FileReport → FilesEnd → Type 0) (since : ℕ) where
   -- a peer whose last datagram came before then: its session ends with these lines
   pub record IsSilent (e : SocketAddr × PeerState F) (lines : List ℕ) : Type 0 where
     pub silent : e.1.heard < since

@@ -6,7 +6,7 @@ ghost use Rattle.recording_datagrams.specs.Ending.{advance_lines, cause_lines, c
 
 use ipfix_datagrams::{DomainAdvance, SequenceAdvances};
 use recording_connections::{RecordingFiles, write_session};
-use recording_files::NotWritten;
+use recording_folder::FilesEnd;
 use recording_lines::{
     write_advance, write_order, write_peer_ended, write_refused_datagrams, write_resumed,
 };
@@ -61,10 +61,10 @@ pub fn end_peer<F: RecordingFiles, W: WriteLines>(
         window,
     } = released(alloc, kept, cause);
     let session = recorder.into_session();
-    let finished = files.finish(&session.session.last);
+    let end = files.finish(&session.session.last);
     let went_on = untold(session.resumed.as_slice(), resumptions_told);
     let told = tell_resumed(peer, went_on, out);
-    told.and(tell_end(peer, refused, &window, cause, &session, finished, out))
+    told.and(tell_end(peer, refused, &window, cause, &session, end, out))
 }
 
 /// Tells which domains of a peer went on after an earlier run.
@@ -117,14 +117,14 @@ fn tell_end<W: WriteLines>(
     window: &Window,
     cause: Option<EndCause>,
     session: &PeerSession,
-    finished: Result<(), NotWritten>,
+    end: FilesEnd,
     out: &mut W,
 ) -> io::Result<()>
     ensures { Tells W.contents W.failed out.old out.new result
-        (ending_lines peer refused window.now cause session.now finished) }
+        (ending_lines peer refused window.now cause session.now end) }
 {
     tell_refusals(peer, refused, out)?;
-    tell_ordered(peer, window, cause, session, finished, out)
+    tell_ordered(peer, window, cause, session, end, out)
 }
 
 // Tells how many datagrams were doubled and reordered, and the rest.
@@ -133,14 +133,14 @@ fn tell_ordered<W: WriteLines>(
     window: &Window,
     cause: Option<EndCause>,
     session: &PeerSession,
-    finished: Result<(), NotWritten>,
+    end: FilesEnd,
     out: &mut W,
 ) -> io::Result<()>
     ensures { Tells W.contents W.failed out.old out.new result
-        (counted_lines peer window.now ++ (cause_lines peer cause ++ told_lines peer session.now finished)) }
+        (counted_lines peer window.now ++ (cause_lines peer cause ++ told_lines peer session.now end)) }
 {
     tell_counted(peer, window, out)?;
-    tell_rest(peer, cause, session, finished, out)
+    tell_rest(peer, cause, session, end, out)
 }
 
 // Tells what was counted of each domain since its counts began.
@@ -194,28 +194,28 @@ fn tell_rest<W: WriteLines>(
     peer: SocketAddr,
     cause: Option<EndCause>,
     session: &PeerSession,
-    finished: Result<(), NotWritten>,
+    end: FilesEnd,
     out: &mut W,
 ) -> io::Result<()>
     ensures { Tells W.contents W.failed out.old out.new result
-        (cause_lines peer cause ++ told_lines peer session.now finished) }
+        (cause_lines peer cause ++ told_lines peer session.now end) }
 {
     tell_cause(peer, cause, out)?;
-    tell_counts(peer, session, finished, out)
+    tell_counts(peer, session, end, out)
 }
 
 // Tells what its sequence numbers say, and its faults.
 fn tell_counts<W: WriteLines>(
     peer: SocketAddr,
     session: &PeerSession,
-    finished: Result<(), NotWritten>,
+    end: FilesEnd,
     out: &mut W,
 ) -> io::Result<()>
     ensures { Tells W.contents W.failed out.old out.new result
-        (told_lines peer session.now finished) }
+        (told_lines peer session.now end) }
 {
     tell_advances(peer, &session.advances, out)?;
-    write_session(peer, &session.session, finished, out)
+    write_session(peer, &session.session, end, out)
 }
 
 // Tells how far the sequence number of each domain advanced, and how many records came.

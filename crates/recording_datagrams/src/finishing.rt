@@ -3,7 +3,7 @@
 ghost use Rattle.recording_datagrams.specs.Queues.{IsFinishedOrQueued};
 
 use crossbeam_channel::{Receiver, Sender};
-use recording_folder::{EndedFile, FileFinisher, Folder, FolderFinisher};
+use recording_folder::{EndedFile, FailedFile, FileFinisher, Folder, FolderFinisher};
 use recording_lines::{WholeLines, write_threads};
 use std::alloc::Global;
 use std::fs::{File, Files};
@@ -38,7 +38,7 @@ impl<'a, R: Files + Clock, W: Wait, E: Write + Drop> FileFinisher<R::File>
         ⟦<FolderFinisher<'a, R, WholeLines<E>> as FileFinisher<R::File>>⟧.finishes
         before.at_once ended result after.at_once };
 
-    fn finish(&mut self, ended: EndedFile<R::File>) -> Result<(), EndedFile<R::File>>
+    fn finish(&mut self, ended: EndedFile<R::File>) -> Result<(), FailedFile<R::File>>
         ensures { IsFinishedOrQueued
             ⟦<FolderFinisher<'a, R, WholeLines<E>> as FileFinisher<R::File>>⟧.finishes
             self.old.at_once ended result self.new.at_once }
@@ -46,7 +46,7 @@ impl<'a, R: Files + Clock, W: Wait, E: Write + Drop> FileFinisher<R::File>
         self.at_once.finish(ended)
     }
 
-    fn finish_or_queue(&mut self, ended: EndedFile<R::File>) -> Result<(), EndedFile<R::File>>
+    fn finish_or_queue(&mut self, ended: EndedFile<R::File>) -> Result<(), FailedFile<R::File>>
         ensures { IsFinishedOrQueued
             ⟦<FolderFinisher<'a, R, WholeLines<E>> as FileFinisher<R::File>>⟧.finishes
             self.old.at_once ended result self.new.at_once }

@@ -2,6 +2,7 @@
 
 use recording_connections::RecordingFiles;
 use recording_files::{FileReport, FileSeries, NotWritten, PeriodClock, ScriptClock};
+use recording_folder::FilesEnd;
 use recording_peers::PeerPlace;
 use recording_resumption::EarlierDomains;
 use std::alloc::{AllocError, Global};
@@ -40,8 +41,11 @@ impl RecordingFiles for SmallFiles {
 
     ghost finishes = { λ _ _ _. ⊤ };
 
-    fn finish(self, _last: &FileReport) -> Result<(), NotWritten> {
-        Ok(())
+    fn finish(self, _last: &FileReport) -> FilesEnd {
+        FilesEnd {
+            finished: Ok(()),
+            reason: None,
+        }
     }
 }
 

@@ -1,5 +1,6 @@
 -- Files of sessions that have ended, and how they are finished.
-use Rattle.std.specs.Prelude.{◌≡◌, ◌≢◌, ◌⊎◌, ℕ, List, Option, Some, None, Result, Ok, Err, IsOk, IsErr}
+use Rattle.std.specs.Prelude.{◌≡◌, ◌≢◌, ◌⊎◌, ℕ, List, Option, Some, None, IsSome, Result, Ok, Err, OnErr, IsOk, IsErr}
+use Rattle.std.specs.Arc.{arc_value}
 use Rattle.std.specs.String.{string_bytes}
 use Rattle.std.specs.declared.io.Error.{Error}
 use Rattle.recording_files.specs.Files.{FilesView}
@@ -7,23 +8,37 @@ use Rattle.recording_files.specs.Notices.{FileNotice, Finished, NotFinished}
 use Rattle.recording_files.specs.declared.file_report.FileReport.{FileReport}
 use Rattle.recording_files.specs.declared.file_series.NotWritten.{NotWritten}
 use Rattle.recording_folder.specs.declared.ended_file.EndedFile.{EndedFile}
+use Rattle.recording_folder.specs.declared.ended_file.FailedFile.{FailedFile}
+use Rattle.recording_folder.specs.declared.session_files.FilesEnd.{FilesEnd}
 use Rattle.recording_folder.specs.declared.unfinished_file.UnfinishedFile.{UnfinishedFile}
+use Rattle.recording_folder.specs.Paths.{IsFinalPath}
+use Rattle.report_writing.specs.declared.reason.Reason.{Reason}
 
 -- what contracts see of files on the disk: how many calls failed, and nothing of what they have
 abbrev pub hidden : ℕ → FilesView
 hidden failed = record { contents = None; failed = failed }
 
-module _ {F L : Type 0} (tells : L → FileNotice → Result (Unit {0}) Error → L → Type 0) where
-  -- an empty file goes away without a word; any other is told of with its own report, by its path
+-- a file that isn't finished keeps its path, its period, its session and what was written
+abbrev pub StaysInPlace : {F : Type 0} → UnfinishedFile F → UnfinishedFile F → Type 0
+StaysInPlace before after = after ≡ record before { file = after.file; is_torn = after.is_torn }
+
+-- it has octets, and this is a path that it can have once it is finished, in a folder of recordings: by its period and its session
+abbrev pub IsFinalPathOf : {F : Type 0} → List ℕ → UnfinishedFile F → List ℕ → Type 0
+IsFinalPathOf folder file path =
+    (file.length ≢ 0) × IsFinalPath folder file.period.begins (string_bytes (arc_value file.session).name) path
+
+module _ {F L : Type 0} (folder : List ℕ) (tells : L → FileNotice → Result (Unit {0}) Error → L → Type 0) where
+  -- an empty file goes away without a word; any other is told of with its own report, by its final path in the folder
   abbrev pub IsFinished : EndedFile F → L → L → Type 0
   IsFinished ended before after =
       ((ended.unfinished.length ≡ 0) × (after ≡ before))
-      ⊎ ((ended.unfinished.length ≢ 0) × (path : List ℕ) × (told : Result (Unit {0}) Error) × tells before (Finished path ended.report) told after)
+      ⊎ ((path : List ℕ) × IsFinalPathOf folder ended.unfinished path × (told : Result (Unit {0}) Error)
+      × tells before (Finished path ended.report) told after)
 
   -- or it is given back with its report, and nothing is told
-  abbrev pub IsFinishedOrBack : EndedFile F → Result (Unit {0}) (EndedFile F) → L → L → Type 0
+  abbrev pub IsFinishedOrBack : EndedFile F → Result (Unit {0}) (FailedFile F) → L → L → Type 0
   IsFinishedOrBack ended (Ok x) before after = IsFinished ended before after
-  IsFinishedOrBack ended (Err back) before after = (back.report ≡ ended.report) × (after ≡ before)
+  IsFinishedOrBack ended (Err back) before after = (back.ended.report ≡ ended.report) × (after ≡ before)
 
   -- apart from its session: where it can't be finished its path is told
   abbrev pub IsFinishedApart : EndedFile F → L → L → Type 0
@@ -31,19 +46,24 @@ module _ {F L : Type 0} (tells : L → FileNotice → Result (Unit {0}) Error �
       IsFinished ended before after
       ⊎ ((told : Result (Unit {0}) Error) × tells before (NotFinished (string_bytes ended.unfinished.path)) told after)
 
-module _ {F K : Type 0} (finishes : K → EndedFile F → Result (Unit {0}) (EndedFile F) → K → Type 0) where
+module _ {F K : Type 0} (finishes : K → EndedFile F → Result (Unit {0}) (FailedFile F) → K → Type 0) where
   -- the file that isn't finished is given to what finishes files, with this report; if there is none nothing is done
   abbrev pub EndsFile : Option (UnfinishedFile F) → FileReport → Result (Unit {0}) NotWritten → K → K → Type 0
   EndsFile None report result before after = IsOk result × (after ≡ before)
   EndsFile (Some file) report (Ok x) before after = finishes before (record { unfinished = file; report = report }) (Ok tt) after
   EndsFile (Some file) report (Err e) before after =
-      (back : EndedFile F) × finishes before (record { unfinished = file; report = report }) (Err back) after
+      (back : FailedFile F) × finishes before (record { unfinished = file; report = report }) (Err back) after
 
   -- so is a file that another one follows, unless an earlier one was not finished
   abbrev pub TurnsFile : Option (UnfinishedFile F) → FileReport → Result (Unit {0}) NotWritten → K → K → Type 0
   TurnsFile file report result before after = EndsFile file report result before after ⊎ (IsErr result × (after ≡ before))
 
-  -- so is the last one of a session; that an earlier one was not finished is an error, too
-  abbrev pub EndsLast : Option (UnfinishedFile F) → FileReport → Result (Unit {0}) NotWritten → K → Type 0
-  EndsLast file report result before =
-      (ended : Result (Unit {0}) NotWritten) × (after : K) × EndsFile file report ended before after × ((result ≡ ended) ⊎ IsErr result)
+  -- so is the last one of a session, where a call failed for this reason before, or none did. That an earlier one was not finished is an
+  -- error, too; and where a call failed it is known why
+  pub record EndsLast (file : Option (UnfinishedFile F)) (failed : Option Reason) (report : FileReport) (end : FilesEnd) (before : K) : Type 0 where
+    pub ended : Result (Unit {0}) NotWritten
+    pub after : K
+    pub ends : EndsFile file report ended before after
+    pub finished : (end.finished ≡ ended) ⊎ IsErr end.finished
+    pub reason : OnErr end.finished (IsSome end.reason)
+    pub kept : IsSome failed → IsSome end.reason

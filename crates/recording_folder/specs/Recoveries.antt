@@ -1,5 +1,6 @@
 -- What is done with the files that an earlier run left, and what is told of them.
 use Rattle.std.specs.Prelude.{◌≡◌, ◌≢◌, ◌⊎◌, ℕ, Bool, true, false, if◌then◌else◌, List, [], ◌∷◌, Option, Some, Result, IfOk}
+use Rattle.std.specs.String.{string_bytes}
 use Rattle.std.specs.declared.io.Error.{Error}
 use Rattle.ipfix_session.specs.Given.{gives}
 use Rattle.ipfix_session.specs.Sources.{one_more}
@@ -10,6 +11,8 @@ use Rattle.recording_files.specs.declared.finished_files.FileEnd.{FileEnd}
 use Rattle.recording_files.specs.declared.finished_files.FileEnd.TheVariants.{Whole, CutOff, Truncated}
 use Rattle.recording_files.specs.declared.finished_files.Recovered.{Recovered}
 use Rattle.recording_files.specs.declared.finished_files.Recovered.TheVariants.{Placed, Removed, Stayed}
+use Rattle.recording_folder.specs.Paths.{IsFinalPath, IsUnfinishedPath}
+use Rattle.recording_folder.specs.declared.folder.Folder.{Folder}
 use Rattle.recording_folder.specs.declared.recovery.Settled.{Settled}
 use Rattle.recording_folder.specs.declared.recovery.Settled.TheVariants as settled
 
@@ -30,26 +33,28 @@ module _ {F : Type 0} (seen : F → Option (List ℕ)) where
   abbrev pub IsOwnReport : FileReport → Type 0
   IsOwnReport report = (file : F) × ((text : List ℕ) → seen file ≡ Some text → report ≡ file_report [] (gives text).messages)
 
-  abbrev pub IsOwn : List ℕ → List ℕ → Recovered → Type 0
-  IsOwn path now (Placed report end) = IsOwnReport report
-  IsOwn path now (Removed octets) = now ≡ path
-  IsOwn path now Stayed = now ≡ path
+  module _ (folder : Folder) (begins : ℕ) (session : List ℕ) where
+    -- what was done with the file of a session's period: its report, and where it is now
+    abbrev pub IsOwn : List ℕ → Recovered → Type 0
+    IsOwn now (Placed report end) = IsOwnReport report × IsFinalPath (string_bytes folder.path) begins session now
+    IsOwn now (Removed octets) = IsUnfinishedPath (string_bytes folder.unfinished) begins session now
+    IsOwn now Stayed = IsUnfinishedPath (string_bytes folder.unfinished) begins session now
 
-  -- what was done with a file, if it has got its final name
-  abbrev pub HasOwnReport : Settled → Type 0
-  HasOwnReport (settled.Placed path report end session) = IsOwnReport report
-  HasOwnReport (settled.Removed octets) = Unit {0}
+    -- if it has got its final name
+    abbrev pub IsSettled : Settled → Type 0
+    IsSettled (settled.Placed path report end earlier) = IsOwnReport report × IsFinalPath (string_bytes folder.path) begins session (string_bytes path)
+    IsSettled (settled.Removed octets) = Unit {0}
 
-module _ {F L : Type 0} (seen : F → Option (List ℕ)) (tells : L → FileNotice → Result (Unit {0}) Error → L → Type 0) where
-  -- the file of this path was removed without a word, or what became of it was told once; whether it stays
-  abbrev pub IsLookedAfter : List ℕ → L → Bool → L → Type 0
-  IsLookedAfter path before stays after =
+module _ {F L : Type 0} (seen : F → Option (List ℕ)) (tells : L → FileNotice → Result (Unit {0}) Error → L → Type 0) (folder : Folder) where
+  -- the file of a session's period was removed without a word, or what became of it was told once; whether it stays
+  abbrev pub IsLookedAfter : ℕ → List ℕ → L → Bool → L → Type 0
+  IsLookedAfter begins session before stays after =
       ((stays ≡ false) × (after ≡ before))
       ⊎ ((now : List ℕ) × (outcome : Recovered) × (told : Result (Unit {0}) Error)
-      × tells before (LookedAfter now outcome) told after × (stays ≡ is_stayed outcome) × IsOwn seen path now outcome)
+      × tells before (LookedAfter now outcome) told after × (stays ≡ is_stayed outcome) × IsOwn seen folder begins session now outcome)
 
   abbrev pub SomeIsLookedAfter : L → L → Bool → Type 0
-  SomeIsLookedAfter before after stays = (path : List ℕ) × IsLookedAfter path before stays after
+  SomeIsLookedAfter before after stays = (begins : ℕ) × (session : List ℕ) × IsLookedAfter begins session before stays after
 
 -- a file that was looked after: whether it stays, and the log after what was told of it
 pub record Looked (L : Type 0) : Type 0 where
@@ -67,11 +72,11 @@ count_staying [] = 0
 count_staying (f ∷ fs) = if f.stays then one_more (count_staying fs) else count_staying fs
 
 -- one file after another, the newest first
-abbrev pub AreLookedAfter : {F L : Type 0} → (F → Option (List ℕ)) → (L → FileNotice → Result (Unit {0}) Error → L → Type 0) → L → List (Looked L) → Type 0
-AreLookedAfter seen tells log [] = Unit {0}
-AreLookedAfter seen tells log (f ∷ fs) = SomeIsLookedAfter seen tells (log_after log fs) f.log f.stays × AreLookedAfter seen tells log fs
+abbrev pub AreLookedAfter : {F L : Type 0} → (F → Option (List ℕ)) → (L → FileNotice → Result (Unit {0}) Error → L → Type 0) → Folder → L → List (Looked L) → Type 0
+AreLookedAfter seen tells folder log [] = Unit {0}
+AreLookedAfter seen tells folder log (f ∷ fs) = SomeIsLookedAfter seen tells folder (log_after log fs) f.log f.stays × AreLookedAfter seen tells folder log fs
 
--- files were looked after one after another, and the answer is how many stay
-abbrev pub AllAreLookedAfter : {F L : Type 0} → (F → Option (List ℕ)) → (L → FileNotice → Result (Unit {0}) Error → L → Type 0) → L → L → Result ℕ Error → Type 0
-AllAreLookedAfter {L = L} seen tells before after result =
-    (files : List (Looked L)) × AreLookedAfter seen tells before files × (after ≡ log_after before files) × IfOk result (λ stayed. stayed ≡ count_staying files)
+-- files of a folder were looked after one after another, and the answer is how many stay
+abbrev pub AllAreLookedAfter : {F L : Type 0} → (F → Option (List ℕ)) → (L → FileNotice → Result (Unit {0}) Error → L → Type 0) → Folder → L → L → Result ℕ Error → Type 0
+AllAreLookedAfter {L = L} seen tells folder before after result =
+    (files : List (Looked L)) × AreLookedAfter seen tells folder before files × (after ≡ log_after before files) × IfOk result (λ stayed. stayed ≡ count_staying files)

@@ -1,13 +1,15 @@
 //! Files that have ended, and who finishes them.
 
-ghost use Rattle.std.specs.Prelude.{◌≡◌, ◌≢◌, IfOk, MatchOption, OnErr, OnOk};
-ghost use Rattle.recording_folder.specs.EndedFiles.{IsFinished, IsFinishedApart, IsFinishedOrBack};
+ghost use Rattle.std.specs.Prelude.{◌≡◌, IfOk, MatchOption, OnErr, OnOk};
+ghost use Rattle.std.specs.String.{string_bytes};
+ghost use Rattle.recording_folder.specs.EndedFiles.{IsFinalPathOf, IsFinished, IsFinishedApart, IsFinishedOrBack, StaysInPlace};
 
 use crate::folder::Folder;
 use crate::lack::lacks_descriptors;
 use crate::placing::place_file;
 use crate::unfinished_file::UnfinishedFile;
 use recording_files::{FileReport, FinishedFiles};
+use report_writing::Reason;
 use std::alloc::Global;
 use std::fs::{self, Files};
 use std::rt::Clock;
@@ -28,21 +30,29 @@ pub struct EndedFile<F> {
     pub(crate) report: FileReport,
 }
 
+/// A file that could not be finished, and why.
+#[derive(Drop)]
+pub struct FailedFile<F> {
+    pub ended: EndedFile<F>,
+    pub reason: Reason,
+}
+
 /// Finishes the files of sessions.
 pub trait FileFinisher<F>: Drop {
     ghost use Rattle.std.specs.Prelude.{Result};
     ghost use Rattle.recording_folder.specs.declared.ended_file.EndedFile.{EndedFile};
+    ghost use Rattle.recording_folder.specs.declared.ended_file.FailedFile.{FailedFile};
 
     /// Whether finishing a file, or having it finished, may answer so, and what this is after that.
-    ghost finishes: { Self → EndedFile F → Result (Unit {0}) (EndedFile F) → Self → Type 0 };
+    ghost finishes: { Self → EndedFile F → Result (Unit {0}) (FailedFile F) → Self → Type 0 };
 
     /// Finishes a file before it returns; if it is empty it goes away. An `Err` gives the file back, which stays
     /// among those that aren't finished.
-    fn finish(&mut self, ended: EndedFile<F>) -> Result<(), EndedFile<F>>
+    fn finish(&mut self, ended: EndedFile<F>) -> Result<(), FailedFile<F>>
         ensures { finishes self.old ended result self.new };
 
     /// Does the same, or has it done. Where that fails later, the session of the file fails at its next call.
-    fn finish_or_queue(&mut self, ended: EndedFile<F>) -> Result<(), EndedFile<F>>
+    fn finish_or_queue(&mut self, ended: EndedFile<F>) -> Result<(), FailedFile<F>>
         ensures { finishes self.old ended result self.new };
 
     /// Finishes one of the files that wait for it, and answers whether there was one.
@@ -71,11 +81,12 @@ impl<'a, R: Files, L: FinishedFiles> FolderFinisher<'a, R, L> {
 
     // Finishes a file, and tells it unless it was empty.
     fn try_to_finish(&mut self, ended: &mut EndedFile<R::File>) -> io::Result<()>
-        ensures finished { OnOk result (IsFinished L.tells ended.old self.old.log self.new.log) }
+        ensures finished { OnOk result (IsFinished (string_bytes self.old.folder.now.path) L.tells
+            ended.old self.old.log self.new.log) }
         ensures err { OnErr result (self.new.log ≡ self.old.log) }
+        ensures folder { self.new.folder ≡ self.old.folder }
         ensures report { ended.new.report ≡ ended.old.report }
-        ensures length { ended.new.unfinished.length ≡ ended.old.unfinished.length }
-        ensures path { ended.new.unfinished.path ≡ ended.old.unfinished.path }
+        ensures place { StaysInPlace ended.old.unfinished ended.new.unfinished }
     {
         if let Some(path) = self.settle(&mut ended.unfinished)? {
             // (a line that can't be written stops nothing)
@@ -86,10 +97,10 @@ impl<'a, R: Files, L: FinishedFiles> FolderFinisher<'a, R, L> {
 
     // Brings a file to the disk under its final name, and answers its path; an empty one goes away.
     fn settle(&self, unfinished: &mut UnfinishedFile<R::File>) -> io::Result<Option<String>>
-        ensures empty { IfOk result (λ path. MatchOption path (unfinished.old.length ≡ 0)
-            (λ _. unfinished.old.length ≢ 0)) }
-        ensures length { unfinished.new.length ≡ unfinished.old.length }
-        ensures path { unfinished.new.path ≡ unfinished.old.path }
+        ensures path { IfOk result (λ path. MatchOption path (unfinished.old.length ≡ 0)
+            (λ path. IsFinalPathOf (string_bytes self.now.folder.now.path) unfinished.old
+            (string_bytes path))) }
+        ensures place { StaysInPlace unfinished.old unfinished.new }
     {
         if unfinished.is_empty() {
             fs::remove_file(self.rt, unfinished.path.as_str())?;
@@ -112,39 +123,49 @@ impl<'a, R: Files + Clock, L: FinishedFiles> FolderFinisher<'a, R, L> {
     /// Finishes a file apart from its session. Where that fails the file stays among those that aren't finished,
     /// which is told, and its session fails at its next call.
     pub fn finish_apart(&mut self, ended: EndedFile<R::File>)
-        ensures { IsFinishedApart L.tells ended self.old.log self.new.log }
+        ensures { IsFinishedApart (string_bytes self.old.folder.now.path) L.tells ended
+            self.old.log self.new.log }
     {
         let mut ended = ended;
+        let mut failure = Reason::Other;
         for _ in 0..TRIES {
             match self.try_to_finish(&mut ended) {
                 Ok(()) => return,
-                Err(error) if lacks_descriptors(&error) => {
+                Err(error) => {
+                    failure = Reason::of(&error);
+                    if !lacks_descriptors(&error) {
+                        break;
+                    }
                     thread::sleep(self.rt, Duration::from_millis(PAUSE));
                 }
-                Err(_) => break,
             }
         }
-        ended.unfinished.session.fail();
+        ended.unfinished.session.fail(failure);
         let _ = self.log.not_finished(ended.unfinished.path.as_str());
     }
 }
 
 impl<'a, R: Files, L: FinishedFiles> FileFinisher<R::File> for FolderFinisher<'a, R, L> {
-    ghost finishes = { λ before ended result after.
-        IsFinishedOrBack L.tells ended result before.log after.log };
+    ghost finishes = { λ before ended result after. IsFinishedOrBack
+        (string_bytes before.folder.now.path) L.tells ended result before.log after.log };
 
-    fn finish(&mut self, ended: EndedFile<R::File>) -> Result<(), EndedFile<R::File>>
-        ensures { IsFinishedOrBack L.tells ended result self.old.log self.new.log }
+    fn finish(&mut self, ended: EndedFile<R::File>) -> Result<(), FailedFile<R::File>>
+        ensures { IsFinishedOrBack (string_bytes self.old.folder.now.path) L.tells ended result
+            self.old.log self.new.log }
     {
         let mut ended = ended;
         match self.try_to_finish(&mut ended) {
             Ok(()) => Ok(()),
-            Err(_) => Err(ended),
+            Err(error) => Err(FailedFile {
+                ended,
+                reason: Reason::of(&error),
+            }),
         }
     }
 
-    fn finish_or_queue(&mut self, ended: EndedFile<R::File>) -> Result<(), EndedFile<R::File>>
-        ensures { IsFinishedOrBack L.tells ended result self.old.log self.new.log }
+    fn finish_or_queue(&mut self, ended: EndedFile<R::File>) -> Result<(), FailedFile<R::File>>
+        ensures { IsFinishedOrBack (string_bytes self.old.folder.now.path) L.tells ended result
+            self.old.log self.new.log }
     {
         self.finish(ended)
     }

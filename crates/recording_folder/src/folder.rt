@@ -1,7 +1,10 @@
 //! The folder of a run, and the lock on it.
 
-ghost use Rattle.std.specs.Prelude.{◌≡◌};
+ghost use Rattle.std.specs.Prelude.{◌≡◌, IfOk, codes};
+ghost use Rattle.std.specs.String.{string_bytes};
+ghost use Rattle.recording_folder.specs.Paths.{in_folder};
 ghost use Rattle.recording_folder.specs.FolderFaults.{fault_of_lock};
+ghost use Rattle.recording_folder.specs.Folders.{IsFolderAt};
 
 use std::alloc::Global;
 use std::fs::{self, File, Files, OpenOptions, TryLockError};
@@ -48,12 +51,16 @@ pub struct Folder {
 
 impl Folder {
     /// The path that it was opened by.
-    pub fn path(&self) -> &str {
+    pub fn path(&self) -> &str
+        ensures { result.now ≡ string_bytes self.now.path }
+    {
         self.path.as_str()
     }
 
     /// The path of the folder of what isn't finished.
-    pub fn unfinished(&self) -> &str {
+    pub fn unfinished(&self) -> &str
+        ensures { result.now ≡ string_bytes self.now.unfinished }
+    {
         self.unfinished.as_str()
     }
 }
@@ -63,7 +70,9 @@ pub fn open_folder<R: Files<File = File>>(
     rt: &R,
     alloc: Global,
     path: &str,
-) -> Result<Folder, FolderFault> {
+) -> Result<Folder, FolderFault>
+    ensures { IfOk result (IsFolderAt path.now) }
+{
     let unfinished = unfinished_in(alloc, path)?;
     fs::create_dir_all(rt, unfinished.as_str())?;
     lock_folder(rt, alloc, path, unfinished)
@@ -75,7 +84,9 @@ pub fn reopen_folder<R: Files<File = File>>(
     rt: &R,
     alloc: Global,
     path: &str,
-) -> Result<Folder, FolderFault> {
+) -> Result<Folder, FolderFault>
+    ensures { IfOk result (IsFolderAt path.now) }
+{
     let unfinished = unfinished_in(alloc, path)?;
     if !fs::metadata(rt, unfinished.as_str())?.is_dir() {
         return Err(FolderFault::NotHad(io::Error::from(ErrorKind::NotADirectory)));
@@ -84,7 +95,9 @@ pub fn reopen_folder<R: Files<File = File>>(
 }
 
 // The path of the folder of what isn't finished.
-fn unfinished_in(alloc: Global, path: &str) -> io::Result<String> {
+fn unfinished_in(alloc: Global, path: &str) -> io::Result<String>
+    ensures { IfOk result (λ folder. string_bytes folder ≡ in_folder path.now (codes "unfinished")) }
+{
     if path.is_empty() {
         return Err(io::Error::from(ErrorKind::NotFound));
     }
@@ -97,7 +110,10 @@ fn lock_folder<R: Files<File = File>>(
     alloc: Global,
     path: &str,
     unfinished: String,
-) -> Result<Folder, FolderFault> {
+) -> Result<Folder, FolderFault>
+    requires { string_bytes unfinished ≡ in_folder path.now (codes "unfinished") }
+    ensures { IfOk result (IsFolderAt path.now) }
+{
     let lock = path_in(alloc, path, LOCK)?;
     let lock = OpenOptions::new()
         .append(true)
@@ -124,11 +140,15 @@ fn lock_fault(error: TryLockError) -> FolderFault
 }
 
 // The path itself.
-fn path_in_place(alloc: Global, path: &str) -> io::Result<String> {
+fn path_in_place(alloc: Global, path: &str) -> io::Result<String>
+    ensures { IfOk result (λ text. string_bytes text ≡ path.now) }
+{
     Ok(String::from_str(alloc, path)?)
 }
 
 /// The path of a name in a folder.
-pub(crate) fn path_in(alloc: Global, folder: &str, name: &str) -> io::Result<String> {
+pub(crate) fn path_in(alloc: Global, folder: &str, name: &str) -> io::Result<String>
+    ensures { IfOk result (λ path. string_bytes path ≡ in_folder folder.now name.now) }
+{
     Ok(format!(in alloc; "{folder}/{name}")?)
 }

@@ -22,12 +22,12 @@ mod told_period;
 mod unfinished_file;
 
 pub use earlier_peers::EarlierPeers;
-pub use ended_file::{EndedFile, FileFinisher, FolderFinisher};
+pub use ended_file::{EndedFile, FailedFile, FileFinisher, FolderFinisher};
 pub use file_contents::{FileContents, read_contents};
 pub use folder::{Folder, FolderFault, open_folder, reopen_folder};
 pub use peer_files::NamedFile;
 pub use reading_back::read_back;
 pub use recovery::recover;
-pub use session_files::SessionFiles;
+pub use session_files::{FilesEnd, SessionFiles};
 pub use system_periods::{LatestPeriod, SystemPeriods, second_now};
 pub use system_place::{SystemPlace, SystemSession};

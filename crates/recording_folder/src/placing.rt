@@ -1,7 +1,8 @@
 //! Giving a file its final name.
 
-ghost use Rattle.std.specs.Prelude.{◌≡◌, ◌++◌, codes, IfOk};
+ghost use Rattle.std.specs.Prelude.{◌≡◌, IfOk};
 ghost use Rattle.std.specs.String.{string_bytes};
+ghost use Rattle.recording_folder.specs.Paths.{IsFinalPath, IsPathIn, in_folder};
 ghost use Rattle.recording_names.specs.FinishedNames.{name_of_finished};
 
 use crate::folder::{Folder, path_in};
@@ -23,7 +24,10 @@ pub(crate) fn place_file<R: Files>(
     unfinished: &str,
     period: Period,
     session: &str,
-) -> io::Result<String> {
+) -> io::Result<String>
+    ensures { IfOk result (λ path. IsFinalPath (string_bytes folder.now.path) period.begins
+        session.now (string_bytes path)) }
+{
     let name = period_name(alloc, period)?;
     let period_path = path_in(alloc, folder.path(), name.as_str())?;
     fs::create_dir_all(rt, period_path.as_str())?;
@@ -40,7 +44,9 @@ fn give_free_name<R: Files>(
     unfinished: &str,
     folder: &str,
     session: &str,
-) -> io::Result<String> {
+) -> io::Result<String>
+    ensures { IfOk result (λ path. IsPathIn folder.now session.now (string_bytes path)) }
+{
     for number in 1..u64::MAX {
         let path = final_path(alloc, folder, session, number)?;
         match give_name(rt, unfinished, path.as_str()) {
@@ -97,7 +103,7 @@ fn remove_first_name<R: Files>(rt: &R, unfinished: &str) -> io::Result<()> {
 // The path of a session's file; where it was taken before, that of the next number.
 fn final_path(alloc: Global, folder: &str, session: &str, number: u64) -> Result<String, AllocError>
     ensures { IfOk result (λ path. string_bytes path
-        ≡ folder.now ++ (codes "/" ++ name_of_finished session.now number)) }
+        ≡ in_folder folder.now (name_of_finished session.now number)) }
 {
     if number == 1 {
         format!(in alloc; "{folder}/{session}.ipfix")

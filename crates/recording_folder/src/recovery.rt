@@ -2,7 +2,9 @@
 
 ghost use Rattle.std.specs.Prelude.{◌≡◌, if◌then◌else◌, IfOk, OnErr};
 ghost use Rattle.ipfix_session.specs.Sources.{one_more};
-ghost use Rattle.recording_folder.specs.Recoveries.{AllAreLookedAfter, EndsAfter, HasOwnReport, IsLookedAfter, SomeIsLookedAfter};
+ghost use Rattle.std.specs.String.{string_bytes};
+ghost use Rattle.recording_folder.specs.Paths.{IsUnfinishedPath};
+ghost use Rattle.recording_folder.specs.Recoveries.{AllAreLookedAfter, EndsAfter, IsLookedAfter, IsSettled, SomeIsLookedAfter};
 
 use crate::earlier_peers::EarlierPeers;
 use crate::file_contents::{FileContents, read_contents};
@@ -27,7 +29,7 @@ pub fn recover<R: Files + Alloc<A = Global> + Clone + Drop, L: FinishedFiles>(
     log: &mut L,
     earlier: &mut EarlierPeers,
 ) -> io::Result<u64>
-    ensures { AllAreLookedAfter R.File.remaining L.tells log.old log.new result }
+    ensures { AllAreLookedAfter R.File.remaining L.tells folder.now log.old log.new result }
 {
     let mut stayed = 0u64;
     for entry in fs::read_dir(rt, folder.unfinished())? {
@@ -57,7 +59,7 @@ fn recover_entry<R: Files + Alloc<A = Global>, L: FinishedFiles>(
     log: &mut L,
     earlier: &mut EarlierPeers,
 ) -> io::Result<bool>
-    ensures ok { IfOk result (SomeIsLookedAfter R.File.remaining L.tells log.old log.new) }
+    ensures ok { IfOk result (SomeIsLookedAfter R.File.remaining L.tells folder.now log.old log.new) }
     ensures err { OnErr result (log.new ≡ log.old) }
 {
     let Some(told) = read_unfinished_name(name) else {
@@ -76,7 +78,10 @@ fn recover_file<R: Files + Alloc<A = Global>, L: FinishedFiles>(
     log: &mut L,
     earlier: &mut EarlierPeers,
 ) -> bool
-    ensures { IsLookedAfter R.File.remaining L.tells path.now log.old result log.new }
+    requires { IsUnfinishedPath (string_bytes folder.now.unfinished) name.now.period.begins
+        name.now.session.now path.now }
+    ensures { IsLookedAfter R.File.remaining L.tells folder.now name.now.period.begins
+        name.now.session.now log.old result log.new }
 {
     // (a line that can't be written stops nothing)
     match settle(rt, folder, path, name) {
@@ -148,7 +153,8 @@ fn settle<R: Files + Alloc<A = Global>>(
     path: &str,
     name: &UnfinishedName<'_>,
 ) -> io::Result<Settled>
-    ensures { IfOk result (HasOwnReport R.File.remaining) }
+    ensures { IfOk result (IsSettled R.File.remaining folder.now name.now.period.begins
+        name.now.session.now) }
 {
     if !fs::symlink_metadata(rt, path)?.is_file() {
         return Err(io::Error::from(ErrorKind::InvalidInput));

@@ -1,10 +1,13 @@
 //! The files of a session in a folder of recordings.
 
-ghost use Rattle.std.specs.Prelude.{◌≡◌};
-ghost use Rattle.recording_files.specs.Files.{FilesView, Turns};
+ghost use Rattle.std.specs.Prelude.{◌≡◌, IfOk, IsSome, MatchResult, OnErr};
+ghost use Rattle.std.specs.Arc.{arc_value};
+ghost use Rattle.std.specs.String.{string_bytes};
+ghost use Rattle.recording_files.specs.Files.{Appends, FilesView, Turns};
 ghost use Rattle.recording_folder.specs.EndedFiles.{EndsFile, EndsLast, TurnsFile, hidden};
+ghost use Rattle.recording_folder.specs.Paths.{IsUnfinishedPath};
 
-use crate::ended_file::{EndedFile, FileFinisher};
+use crate::ended_file::{EndedFile, FailedFile, FileFinisher};
 use crate::filed_session::FiledSession;
 use crate::folder::{Folder, path_in};
 use crate::lack::lacks_descriptors;
@@ -12,6 +15,7 @@ use crate::told_period::ToldPeriod;
 use crate::unfinished_file::UnfinishedFile;
 use recording_files::{FileReport, FileSeries, NotWritten};
 use recording_names::unfinished_name;
+use report_writing::Reason;
 use std::alloc::Global;
 use std::fs::{Files, OpenOptions};
 use std::io::{self, ErrorKind};
@@ -29,6 +33,16 @@ pub struct SessionFiles<'a, R: Files, K> {
     unfinished: Option<UnfinishedFile<R::File>>,
     finisher: K,
     failed: u64,
+    reason: Option<Reason>,
+}
+
+/// How the files of a session ended.
+#[derive(Clone, Copy, Debug, PartialEq, Eq)]
+pub struct FilesEnd {
+    /// Whether the last file was finished, or went away, and so were those before it.
+    pub finished: Result<(), NotWritten>,
+    /// Why the last call failed that did, if one did.
+    pub reason: Option<Reason>,
 }
 
 impl<'a, R: Files, K: FileFinisher<R::File>> SessionFiles<'a, R, K> {
@@ -52,19 +66,40 @@ impl<'a, R: Files, K: FileFinisher<R::File>> SessionFiles<'a, R, K> {
             unfinished: None,
             finisher,
             failed: 0,
+            reason: None,
         }
     }
 
-    /// Finishes the last file, if there is one, or has it finished; if it is empty it goes away. After an `Err`
+    /// Finishes the last file, if there is one, or has it finished; if it is empty it goes away. Where it isn't finished
     /// it, or an earlier one, stays among those that aren't finished.
-    pub fn finish(mut self, last: &FileReport) -> Result<(), NotWritten>
-        ensures { EndsLast K.finishes self.entry.unfinished last.now result self.entry.finisher }
+    pub fn finish(mut self, last: &FileReport) -> FilesEnd
+        ensures { EndsLast K.finishes self.entry.unfinished self.entry.reason last.now result
+            self.entry.finisher }
     {
-        let ended = self.end_file(last, false);
-        if self.session.has_failed() {
-            return Err(NotWritten);
+        let finished = self.end_file(last, false);
+        match self.session.failure() {
+            Some(reason) => FilesEnd {
+                finished: Err(NotWritten),
+                reason: Some(reason),
+            },
+            None => FilesEnd {
+                finished,
+                reason: self.reason,
+            },
         }
-        ended
+    }
+
+    // Writes octets to the file that isn't finished, unless an earlier one could not be finished. An `Err` says why.
+    fn try_to_write(&mut self, octets: &[u8]) -> Result<(), Reason>
+        ensures { self.new.failed ≡ self.old.failed }
+    {
+        if let Some(reason) = self.session.failure() {
+            return Err(reason);
+        }
+        match self.write(octets) {
+            Ok(()) => Ok(()),
+            Err(error) => Err(Reason::of(&error)),
+        }
     }
 
     // Writes octets to the file that isn't finished.
@@ -97,8 +132,12 @@ impl<'a, R: Files, K: FileFinisher<R::File>> SessionFiles<'a, R, K> {
         Err(io::Error::from(ErrorKind::Interrupted))
     }
 
-    // Makes a file in the period that the clock told last.
-    fn try_to_make_file(&self) -> io::Result<UnfinishedFile<R::File>> {
+    // Makes a file in the period that the clock told last, under the name of that and of its session.
+    fn try_to_make_file(&self) -> io::Result<UnfinishedFile<R::File>>
+        ensures { IfOk result (λ file. IsUnfinishedPath (string_bytes self.now.folder.now.unfinished)
+            file.period.begins (string_bytes (arc_value self.now.session).name)
+            (string_bytes file.path)) }
+    {
         let period = self.period.get();
         let name = unfinished_name(self.alloc, period, self.session.name())?;
         let path = path_in(self.alloc, self.folder.unfinished(), name.as_str())?;
@@ -116,6 +155,8 @@ impl<'a, R: Files, K: FileFinisher<R::File>> SessionFiles<'a, R, K> {
         ensures failed { self.new.failed ≡ self.old.failed }
         ensures ends { EndsFile K.finishes self.old.unfinished report.now result
             self.old.finisher self.new.finisher }
+        ensures reason { MatchResult result (λ _. self.new.reason ≡ self.old.reason)
+            (λ _. IsSome self.new.reason) }
     {
         let Some(unfinished) = self.unfinished.take() else {
             return Ok(());
@@ -128,8 +169,9 @@ impl<'a, R: Files, K: FileFinisher<R::File>> SessionFiles<'a, R, K> {
         let finished = self.finish_or_queue(ended, gives_name);
         match finished {
             Ok(()) => Ok(()),
-            Err(ended) => {
+            Err(FailedFile { ended, reason }) => {
                 self.unfinished = Some(ended.unfinished);
+                self.reason = Some(reason);
                 Err(NotWritten)
             }
         }
@@ -140,8 +182,10 @@ impl<'a, R: Files, K: FileFinisher<R::File>> SessionFiles<'a, R, K> {
         ensures failed { self.new.failed ≡ self.old.failed }
         ensures ends { TurnsFile K.finishes self.old.unfinished report.now result
             self.old.finisher self.new.finisher }
+        ensures reason { OnErr result (IsSome self.new.reason) }
     {
-        if self.session.has_failed() {
+        if let Some(reason) = self.session.failure() {
+            self.reason = Some(reason);
             return Err(NotWritten);
         }
         self.end_file(report, true)
@@ -152,8 +196,9 @@ impl<'a, R: Files, K: FileFinisher<R::File>> SessionFiles<'a, R, K> {
         &mut self,
         ended: EndedFile<R::File>,
         gives_name: bool,
-    ) -> Result<(), EndedFile<R::File>>
+    ) -> Result<(), FailedFile<R::File>>
         ensures failed { self.new.failed ≡ self.old.failed }
+        ensures reason { self.new.reason ≡ self.old.reason }
         ensures finishes { K.finishes self.old.finisher ended result self.new.finisher }
     {
         if gives_name {
@@ -167,18 +212,25 @@ impl<'a, R: Files, K: FileFinisher<R::File>> SessionFiles<'a, R, K> {
 impl<'a, R: Files, K: FileFinisher<R::File>> FileSeries for SessionFiles<'a, R, K> {
     ghost seen = { λ f. hidden f.failed };
 
-    fn append(&mut self, octets: &[u8]) -> Result<(), NotWritten> {
-        if self.session.has_failed() || self.write(octets).is_err() {
-            self.failed = self.failed.saturating_add(1);
-            return Err(NotWritten);
+    fn append(&mut self, octets: &[u8]) -> Result<(), NotWritten>
+        ensures appends { Appends result octets.now (hidden self.old.failed) (hidden self.new.failed) }
+        ensures reason { OnErr result (IsSome self.new.reason) }
+    {
+        match self.try_to_write(octets) {
+            Ok(()) => Ok(()),
+            Err(reason) => {
+                self.failed = self.failed.saturating_add(1);
+                self.reason = Some(reason);
+                Err(NotWritten)
+            }
         }
-        Ok(())
     }
 
     fn turn(&mut self, report: &FileReport) -> Result<(), NotWritten>
         ensures turns { Turns result report.now (hidden self.old.failed) (hidden self.new.failed) }
         ensures ends { TurnsFile K.finishes self.old.unfinished report.now result
             self.old.finisher self.new.finisher }
+        ensures reason { OnErr result (IsSome self.new.reason) }
     {
         let turned = self.try_to_turn(report);
         if turned.is_err() {

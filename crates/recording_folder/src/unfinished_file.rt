@@ -25,7 +25,11 @@ pub(crate) struct UnfinishedFile<F> {
 
 impl<F: Write + OpenFile + Drop> UnfinishedFile<F> {
     // A file that was made, and in which nothing stands.
-    pub(crate) fn new(file: F, path: String, period: Period, session: Arc<FiledSession>) -> Self {
+    pub(crate) fn new(file: F, path: String, period: Period, session: Arc<FiledSession>) -> Self
+        ensures path { result.path ≡ path }
+        ensures period { result.period ≡ period }
+        ensures length { result.length ≡ 0 }
+    {
         UnfinishedFile {
             file: Some(file),
             path,
@@ -64,8 +68,7 @@ impl<F: Write + OpenFile + Drop> UnfinishedFile<F> {
 
     // Brings its octets to the disk, and no others, and closes it.
     pub(crate) fn close(&mut self) -> io::Result<()>
-        ensures length { self.new.length ≡ self.old.length }
-        ensures path { self.new.path ≡ self.old.path }
+        ensures { self.new ≡ record self.old { file = self.new.file; is_torn = self.new.is_torn } }
     {
         self.mend()?;
         if let Some(file) = &self.file {
@@ -77,8 +80,7 @@ impl<F: Write + OpenFile + Drop> UnfinishedFile<F> {
 
     // Cuts off what a write that failed may have left.
     fn mend(&mut self) -> io::Result<()>
-        ensures length { self.new.length ≡ self.old.length }
-        ensures path { self.new.path ≡ self.old.path }
+        ensures { self.new ≡ record self.old { is_torn = self.new.is_torn } }
     {
         match &self.file {
             Some(file) if self.is_torn => {

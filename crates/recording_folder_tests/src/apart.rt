@@ -9,12 +9,13 @@ use super::script_file::{DiskFile, lent};
 use super::sessions::{FIRST, FIRST_NAME, FIRST_TWO, FOURTH, NEXT_NAME, SECOND, THIRD, peer};
 use super::standing::{Notes, check};
 use super::trial::{MANY_CALLS, NEXT_PERIOD, Trial};
-use recording_files::{FileReport, PeriodClock};
+use recording_files::{FileReport, NotWritten, PeriodClock};
 use recording_folder::{
-    EndedFile, FileFinisher, Folder, FolderFinisher, SessionFiles, SystemPeriods, SystemPlace,
-    open_folder,
+    EndedFile, FailedFile, FileFinisher, FilesEnd, Folder, FolderFinisher, SessionFiles,
+    SystemPeriods, SystemPlace, open_folder,
 };
 use recording_names::Transport;
+use report_writing::Reason;
 use std::cell::RefCell;
 use std::test::*;
 
@@ -39,7 +40,7 @@ fn take_waiting<'a>(queue: &Queue<'a>) -> Option<EndedFile<DiskFile<'a>>> {
 impl<'q, 'a> FileFinisher<DiskFile<'a>> for QueueFinisher<'q, 'a> {
     ghost finishes = { λ _ _ _ _. ⊤ };
 
-    fn finish(&mut self, ended: EndedFile<DiskFile<'a>>) -> Result<(), EndedFile<DiskFile<'a>>>
+    fn finish(&mut self, ended: EndedFile<DiskFile<'a>>) -> Result<(), FailedFile<DiskFile<'a>>>
         ensures { ⊤ }
     {
         self.at_once.finish(ended)
@@ -48,14 +49,15 @@ impl<'q, 'a> FileFinisher<DiskFile<'a>> for QueueFinisher<'q, 'a> {
     fn finish_or_queue(
         &mut self,
         ended: EndedFile<DiskFile<'a>>,
-    ) -> Result<(), EndedFile<DiskFile<'a>>>
+    ) -> Result<(), FailedFile<DiskFile<'a>>>
         ensures { ⊤ }
     {
+        let reason = Reason::OutOfMemory;
         let Ok(mut queue) = self.queue.try_borrow_mut() else {
-            return Err(ended);
+            return Err(FailedFile { ended, reason });
         };
         if queue.reserve(1).is_err() {
-            return Err(ended);
+            return Err(FailedFile { ended, reason });
         }
         queue.push_reserved(ended);
         Ok(())
@@ -113,7 +115,7 @@ fn write_both<'q, 'a>(
     )?;
     write_first(disk, &mut files, &mut periods, kept)?;
     kept.append(&mut files, THIRD)?;
-    files.finish(&FileReport::EMPTY)?;
+    files.finish(&FileReport::EMPTY).finished?;
     Ok(())
 }
 
@@ -223,7 +225,11 @@ fn fail_apart<'q, 'a>(
     let case = "after a file could not be finished";
     check(kept.append(&mut files, FOURTH).is_err(), case, "append")?;
     check(kept.turn(&mut files).is_err(), case, "turn")?;
-    check(files.finish(&FileReport::EMPTY).is_err(), case, "finish")?;
+    let end = FilesEnd {
+        finished: Err(NotWritten),
+        reason: Some(Reason::NoSpace),
+    };
+    check(files.finish(&FileReport::EMPTY) == end, case, "finish")?;
     trial.recover()?;
     trial.check_file(FIRST_NAME, FIRST_TWO)?;
     trial.check_settled(&kept, b"", case)

@@ -6,8 +6,9 @@ use super::script_file::lent;
 use super::sessions::{FIRST, FIRST_NAME, SECOND, peer};
 use super::trial::Trial;
 use recording_files::{FileReport, NotWritten};
-use recording_folder::{FolderFault, SystemPlace, open_folder, reopen_folder};
+use recording_folder::{FilesEnd, FolderFault, SystemPlace, open_folder, reopen_folder};
 use recording_names::Transport;
+use report_writing::Reason;
 use std::fs;
 use std::io::ErrorKind;
 use std::test::*;
@@ -80,7 +81,11 @@ fn nothing_is_acknowledged_in_a_folder_that_is_gone(rt: HostRuntime) -> Result<(
     let mut session = place.session(trial.alloc, peer(), Transport::Connection, 7, trial.notes())?;
     let mut kept = KeptFiles::new(trial.alloc);
     assert!(rt; kept.append(&mut session.files, FIRST) == Err(NotWritten));
-    assert!(rt; session.files.finish(&FileReport::EMPTY) == Ok(()));
+    let end = FilesEnd {
+        finished: Ok(()),
+        reason: Some(Reason::NoSuchFile),
+    };
+    assert_eq!(rt; session.files.finish(&FileReport::EMPTY), end);
     trial.check_lines(&[])
 }
 
@@ -94,7 +99,11 @@ fn a_file_is_not_said_to_be_finished_in_a_folder_that_is_gone(rt: HostRuntime) -
     let mut kept = KeptFiles::new(trial.alloc);
     kept.append(&mut session.files, FIRST)?;
     lent(&trial.tree)?.remove_all(folder.path());
-    assert!(rt; session.files.finish(&FileReport::EMPTY) == Err(NotWritten));
+    let end = FilesEnd {
+        finished: Err(NotWritten),
+        reason: Some(Reason::NoSuchFile),
+    };
+    assert_eq!(rt; session.files.finish(&FileReport::EMPTY), end);
     trial.check_lines(&[])
 }
 
@@ -112,7 +121,11 @@ fn a_folder_of_a_period_that_was_moved_away_is_made_again(rt: HostRuntime) -> Re
     let date = trial.path("2026-11-25")?;
     lent(&trial.tree)?.remove_all(date.as_str());
     kept.append(&mut session.files, SECOND)?;
-    assert!(rt; session.files.finish(&FileReport::EMPTY) == Ok(()));
+    let end = FilesEnd {
+        finished: Ok(()),
+        reason: None,
+    };
+    assert_eq!(rt; session.files.finish(&FileReport::EMPTY), end);
     trial.check_file(FIRST_NAME, SECOND)?;
     trial.check_lines(&[("finished ", FIRST_NAME), ("finished ", FIRST_NAME)])
 }

@@ -86,7 +86,7 @@ fn record_session<'a>(
     } = place.session(disk.alloc, peer(), Transport::Connection, 7, notes)?;
     let mut kept = KeptFiles::new(disk.alloc);
     let written = write_files(disk, &mut files, &mut periods, &mut kept);
-    let finished = files.finish(&FileReport::EMPTY);
+    let finished = files.finish(&FileReport::EMPTY).finished;
     Ok(Recorded {
         kept,
         is_whole: written.is_ok() && finished.is_ok(),

@@ -65,6 +65,11 @@ peer_loss_lines peer ds = flat_map (peer_domain_lines peer) ds
 unfoldable pub peer_fault_line : SocketAddr → ℕ → List ℕ → List ℕ
 peer_fault_line peer number name = codes "collectd: session " ++ (socket_text peer ++ (codes ": fault " ++ (decimal number ++ (codes " " ++ (name ++ codes "\n")))))
 
+-- a fault, and why the system made it one
+unfoldable pub peer_reason_line : SocketAddr → ℕ → List ℕ → List ℕ → List ℕ
+peer_reason_line peer number name words =
+    codes "collectd: session " ++ (socket_text peer ++ (codes ": fault " ++ (decimal number ++ (codes " " ++ (name ++ (codes ": " ++ (words ++ codes "\n")))))))
+
 -- ---- peers that have no session
 
 unfoldable pub refused_line : ℕ → SocketAddr → List ℕ

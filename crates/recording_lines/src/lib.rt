@@ -18,5 +18,5 @@ pub use datagram_lines::{
 pub use file_lines::{write_finished, write_not_finished};
 pub use notice_lines::{write_not_accepted, write_refused, write_threads};
 pub use recovered_lines::write_outcome;
-pub use session_lines::{write_peer_fault, write_peer_losses};
+pub use session_lines::{write_peer_fault, write_peer_losses, write_peer_reason};
 pub use whole_lines::WholeLines;

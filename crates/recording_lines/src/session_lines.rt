@@ -1,7 +1,7 @@
 //! The lines of a session that has ended, with its peer in place of a number.
 
 ghost use Rattle.report_writing.specs.Writing.{Tells};
-ghost use Rattle.recording_lines.specs.RecordLines.{peer_domain_lines, peer_fault_line, peer_loss_line, peer_loss_lines};
+ghost use Rattle.recording_lines.specs.RecordLines.{peer_domain_lines, peer_fault_line, peer_loss_line, peer_loss_lines, peer_reason_line};
 
 use ipfix_session::DomainReport;
 use report_writing::WriteLines;
@@ -71,4 +71,22 @@ pub fn write_peer_fault<W: WriteLines>(
         (peer_fault_line peer number name.now) }
 {
     writeln!(out, "collectd: session {peer}: fault {number} {name}")
+}
+
+/// Writes the fault of a session, and why the system made it one.
+#[tactic(auto, unfolding(crate::specs::RecordLines::peer_reason_line))]
+pub fn write_peer_reason<W: WriteLines>(
+    peer: SocketAddr,
+    number: u8,
+    name: &str,
+    words: &str,
+    out: &mut W,
+) -> io::Result<()>
+    ensures { Tells W.contents W.failed out.old out.new result
+        (peer_reason_line peer number name.now words.now) }
+{
+    writeln!(
+        out,
+        "collectd: session {peer}: fault {number} {name}: {words}"
+    )
 }

@@ -1,6 +1,6 @@
 -- Lines of sessions whose file could not be written: all but the first of a second are held until it is over.
-use Rattle.std.specs.Prelude.{ℕ, zero, suc, ◌-◌, nat_eq, nat_le, nat_lt, Bool, true, false, ◌&&◌, if◌then◌else◌, List, [], ◌++◌, length, take, codes, decimal}
-use Rattle.std.specs.List.{ends_with}
+use Rattle.std.specs.Prelude.{ℕ, ◌+◌, ◌-◌, nat_eq, nat_le, nat_lt, Bool, true, false, ◌&&◌, if◌then◌else◌, List, [], ◌++◌, length, take, drop, codes, decimal, Option, Some, None}
+use Rattle.std.specs.List.{position_from, starts_with}
 use Rattle.ipfix_session.specs.Sources.{one_more}
 use Rattle.recording_log.specs.declared.held_lines.TheConstants.{MOST_HELD}
 
@@ -15,9 +15,25 @@ pub record HeldView : Type 0 where
 abbrev pub nothing_held : HeldView
 nothing_held = record { is_told = false; count = 0; last = [] }
 
--- the line of a session whose file could not be written
+-- where the first space is
+abbrev pub space_in : List ℕ → Option ℕ
+space_in text = position_from (λ octet. nat_eq octet 32) 0 text
+
+-- the fault is there after a space
+abbrev pub is_not_written_from : List ℕ → Option ℕ → Bool
+is_not_written_from text None = false
+is_not_written_from text (Some space) = starts_with nat_eq (drop (space + 1) text) (codes "fault 19 NotWritten")
+
+abbrev pub peer_not_written : List ℕ → Bool
+peer_not_written text = is_not_written_from text (space_in text)
+
+-- after the peer in the line of a session
+abbrev pub session_not_written : List ℕ → Bool
+session_not_written line = starts_with nat_eq line (codes "collectd: session ") && peer_not_written (drop 18 line)
+
+-- the line of a session whose file could not be written, maybe with the reason
 abbrev pub is_not_written : List ℕ → Bool
-is_not_written line = nat_le (length line) MOST_HELD && ends_with nat_eq line (codes ": fault 19 NotWritten\n")
+is_not_written line = nat_le (length line) MOST_HELD && session_not_written line
 
 -- it is held if one was told in this second
 abbrev pub is_held : HeldView → List ℕ → Bool

@@ -1,9 +1,10 @@
 //! Lines of sessions whose file could not be written: all but the first of a second are held until it is over.
 
-ghost use Rattle.std.specs.Prelude.{◌≡◌, ◌≤◌, ◌++◌, IfOk, codes, decimal, length, vec_capacity};
+ghost use Rattle.std.specs.Prelude.{◌≡◌, ◌<◌, ◌≤◌, ◌++◌, IfOk, IfSome, codes, decimal, drop, length, vec_capacity};
 ghost use Rattle.ipfix_session.specs.Sources.{one_more};
 ghost use Rattle.report_writing.specs.Writing.{Tells};
-ghost use Rattle.recording_log.specs.Held.{after_second, held_text, held_times, is_held, is_not_written as is_line_of_not_written, nothing_held, with_line};
+ghost use Rattle.recording_log.specs.Held as specs;
+ghost use Rattle.recording_log.specs.Held.{after_second, held_text, held_times, is_held, is_not_written as is_line_of_not_written, nothing_held, peer_not_written, session_not_written, with_line};
 ghost use Rattle.recording_log.specs.declared.held_lines.TheConstants.{MOST_HELD};
 
 use report_writing::WriteLines;
@@ -14,8 +15,11 @@ use std::{io, mem};
 /// How many octets a line has at most that is held.
 pub const MOST_HELD: usize = 256;
 
-/// How the line of a session ends whose file could not be written.
-const NOT_WRITTEN: &[u8] = b": fault 19 NotWritten\n";
+/// How the line of a session begins. Its peer follows, and a space.
+const SESSION: &[u8] = b"collectd: session ";
+
+/// What follows if its file could not be written, and maybe why.
+const NOT_WRITTEN: &[u8] = b"fault 19 NotWritten";
 
 /// What is held of the lines of sessions whose file could not be written: where a disk is full each datagram of each peer
 /// may end a session. The first of a second is told at once. Of those that come after it in the same second the last is
@@ -113,7 +117,44 @@ impl HeldLines {
 fn is_not_written(line: &[u8]) -> bool
     ensures { result ≡ is_line_of_not_written line.now }
 {
-    line.len() <= MOST_HELD && line.ends_with(NOT_WRITTEN)
+    line.len() <= MOST_HELD && is_session_not_written(line)
+}
+
+// Whether it is that of a session, and that follows.
+fn is_session_not_written(line: &[u8]) -> bool
+    ensures { result ≡ session_not_written line.now }
+{
+    if line.starts_with(SESSION) {
+        is_peer_not_written(after_start(line))
+    } else {
+        false
+    }
+}
+
+// What follows after the beginning of such a line.
+fn after_start(line: &[u8]) -> &[u8]
+    requires { 18 ≤ length line.now }
+    ensures { result.now ≡ drop 18 line.now }
+{
+    &line[SESSION.len()..]
+}
+
+// Whether that follows after the peer in a line.
+fn is_peer_not_written(text: &[u8]) -> bool
+    ensures { result ≡ peer_not_written text.now }
+{
+    match space_in(text) {
+        Some(space) => text[space + 1..].starts_with(NOT_WRITTEN),
+        None => false,
+    }
+}
+
+// Where the first space is.
+fn space_in(text: &[u8]) -> Option<usize>
+    ensures value { result ≡ specs.space_in text.now }
+    ensures within { IfSome result (λ space. space < length text.now) }
+{
+    text.iter().position(|octet| *octet == b' ')
 }
 
 fn write_count<W: WriteLines>(count: u64, out: &mut W) -> io::Result<()>

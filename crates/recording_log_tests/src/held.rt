@@ -7,13 +7,17 @@ use std::test::*;
 
 const FIRST: &[u8] = b"collectd: session 192.0.2.1:4739: fault 19 NotWritten\n";
 
-const SECOND: &[u8] = b"collectd: session 192.0.2.2:4739: fault 19 NotWritten\n";
+const SECOND: &[u8] = b"collectd: session 192.0.2.2:4739: fault 19 NotWritten: no space is left\n";
 
-const THIRD: &[u8] = b"collectd: session 192.0.2.3:4739: fault 19 NotWritten\n";
+const THIRD: &[u8] = b"collectd: session 192.0.2.3:4739: fault 19 NotWritten: no permission\n";
 
-const THREE: &[u8] = b"collectd: session 192.0.2.3:4739: fault 19 NotWritten (3 times)\n";
+const THREE: &[u8] =
+    b"collectd: session 192.0.2.3:4739: fault 19 NotWritten: no permission (3 times)\n";
 
 const ANOTHER: &[u8] = b"collectd: session 192.0.2.1:4739: fault 12 OutOfMemory\n";
+
+const OF_A_FILE: &[u8] =
+    b"collectd: a: fault 19 NotWritten: b.ipfix: messages 1, records 1, lost 0, backward 0\n";
 
 // What is written when a second is over.
 fn over(alloc: Global, lines: &mut HeldLines) -> Result<Vec<u8>, Fail> {
@@ -49,7 +53,12 @@ fn the_first_is_told_at_once(rt: HostRuntime) -> Result<(), Fail> {
 fn others_are_told_when_the_second_is_over(rt: HostRuntime) -> Result<(), Fail> {
     let alloc: Global = rt.alloc();
     let mut lines = HeldLines::new(alloc)?;
-    assert_held(&rt, &mut lines, &[FIRST, SECOND, ANOTHER], 1);
+    assert_held(
+        &rt,
+        &mut lines,
+        &[FIRST, OF_A_FILE, SECOND, ANOTHER, OF_A_FILE],
+        1,
+    );
     assert_eq!(rt; over(alloc, &mut lines)?.as_slice(), SECOND);
     assert_held(&rt, &mut lines, &[FIRST, SECOND, THIRD], 3);
     assert_eq!(rt; over(alloc, &mut lines)?.as_slice(), THREE);

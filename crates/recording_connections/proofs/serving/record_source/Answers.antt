@@ -6,7 +6,9 @@ returns g c = record {
   written = c.record-session.new.files;
   asked_last = c.record-session.new.clock;
   recorded = c.record-session.ensures c.requires;
-  finished = c.finish-finished.result;
-  is_finished = c.finish-finished.ensures;
-  told = c.write_session.ensures;
+  end = c.finish-end.result;
+  is_end = c.finish-end.ensures;
+  said = c.failure.result;
+  is_said = c.failure.ensures;
+  told = rw c.read_failure-failure.ensures at c.write_connection.ensures;
 }

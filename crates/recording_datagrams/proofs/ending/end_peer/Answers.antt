@@ -15,8 +15,8 @@ returns g c =
         session = c.into_session-session.result;
         reports = c.into_session-session.ensures.told;
         fault = c.into_session-session.ensures.ended;
-        finished = c.finish-finished.result;
-        is_finished = c.finish-finished.ensures;
+        end = c.finish-end.result;
+        is_end = c.finish-end.ensures;
         lines_are = refl;
       };
       told = rw c.and.ensures (and_tells went_on c.tell_end.ensures);

@@ -6,5 +6,5 @@ abbrev pub invariant-loop-entry : goal.invariant-loop-entry
 invariant-loop-entry g l =
     (goal.iterator-loop-entry g).can_next l.entry-iterator ×
     (goal.iterator-loop-entry g).is_finite l.entry-iterator ×
-    ((files : List (Looked g.row.L.Denot)) × AreLookedAfter g.R.File.Read.remaining g.L.FinishedFiles.tells l.initial.log files
+    ((files : List (Looked g.row.L.Denot)) × AreLookedAfter g.R.File.Read.remaining g.L.FinishedFiles.tells l.fn.folder l.initial.log files
     × (l.log ≡ log_after l.initial.log files) × (l.stayed ≡ count_staying files))
