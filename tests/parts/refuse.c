@@ -25,7 +25,7 @@ extern void *dlsym(void *, const char *);
 extern int *__errno_location(void);
 
 enum { READ = 0, WRITE = 1, RECEIVE = 45, SET_OPTION = 54, ACCEPT = 288 };
-enum { SYNC = 74, RENAME = 82, MAKE_FOLDER = 83, LINK = 86, UNLINK = 87, OPEN = 257, END = 231 };
+enum { SYNC = 74, RENAME = 82, MAKE_FOLDER = 83, REMOVE_FOLDER = 84, LINK = 86, UNLINK = 87, OPEN = 257, UNLINK_AT = 263, END = 231 };
 enum { NOT_ALLOWED = 1, INTERRUPTED = 4, DEVICE = 5, AGAIN = 11, NO_MEMORY = 12, TOO_MANY = 24, NO_SPACE = 28, SECONDS = 20 };
 enum { HERE = -100 };
 
@@ -136,6 +136,10 @@ int link(const char *from, const char *to) {
 int rename(const char *from, const char *to) { return is_refused('n', DEVICE) ? -1 : (int)syscall(RENAME, from, to); }
 
 int unlink(const char *path) { return is_refused('e', DEVICE) ? -1 : (int)syscall(UNLINK, path); }
+
+int unlinkat(int at, const char *path, int flags) { return is_refused('e', DEVICE) ? -1 : (int)syscall(UNLINK_AT, at, path, flags); }
+
+int rmdir(const char *path) { return is_refused('e', DEVICE) ? -1 : (int)syscall(REMOVE_FOLDER, path); }
 
 int setsockopt(int of, int level, int option, const void *value, unsigned size) {
   return is_refused('l', DEVICE) ? -1 : (int)syscall(SET_OPTION, of, level, option, value, size);

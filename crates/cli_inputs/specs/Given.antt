@@ -1,9 +1,11 @@
 -- What a command is told is what was given for its arguments: no value of one stands for that of another.
 use Rattle.std.specs.Prelude.{◌≡◌, ◌*◌, false, ℕ, List, Option, Some, nat_eq, if◌then◌else◌, option_map, map, codes}
+use Rattle.std.specs.Borrow.{Bor}
 use Rattle.std.specs.Duration.{as_nanos}
 use Rattle.std.specs.declared.time.Duration.{Duration}
 use Rattle.std.specs.Int.NonZero.{non_zero_u64_get, non_zero_usize_get}
 use Rattle.report_writing.specs.declared.verbosity.Verbosity.{Verbosity}
+use Rattle.output_tables.specs.declared.output.Output.{Output}
 use Rattle.cli_words.specs.Given.{IsFlagGiven, IsNumberGiven, count_given, text_given, texts_given}
 use Rattle.cli_words.specs.declared.chosen.Chosen.{Chosen}
 use Rattle.cli_words.specs.declared.subcommands.Subcommand.TheVariants as command
@@ -30,6 +32,13 @@ abbrev pub progress_shown : ℕ → ShowProgress
 progress_shown asked =
     if nat_eq asked 0 then Nowhere else if nat_eq asked 1 then OnTerminal else OnStandardError
 
+-- of the tables of one plan is told what is told of all
+pub record IsTableOf (all : TablesArguments) (plan : Bor (List ℕ)) (told : TableArguments) : Type 0 where
+  pub elements : told.element_files ≡ all.element_files
+  pub plan_is : told.plan ≡ plan
+  pub output : told.output ≡ all.output
+  pub verbosity : told.verbosity ≡ all.verbosity
+
 module _ (chosen : Chosen) where
   -- a duration has as many seconds as the number of an argument says; there is none if there is no number
   abbrev pub IsDurationGiven : List ℕ → Option Duration → Type 0
@@ -45,11 +54,14 @@ module _ (chosen : Chosen) where
     pub elements : map (λ path. path.now) told.element_files.now ≡ texts_given chosen (codes "elements")
     pub verbosity : IsVerbosity told.verbosity
 
+  pub record IsOutput (told : Output) : Type 0 where
+    pub format : text_given chosen (codes "format") ≡ Some (format_word told.format)
+    pub time : IsNumberGiven chosen (codes "time") (Some told.time)
+
   pub record IsTable (told : TableArguments) : Type 0 where
     pub elements : map (λ path. path.now) told.element_files.now ≡ texts_given chosen (codes "elements")
     pub plan : text_given chosen (codes "plan") ≡ Some told.plan.now
-    pub format : text_given chosen (codes "format") ≡ Some (format_word told.output.format)
-    pub time : IsNumberGiven chosen (codes "time") (Some told.output.time)
+    pub output : IsOutput told.output
     pub verbosity : IsVerbosity told.verbosity
 
   pub record IsCollect (told : CollectArguments) : Type 0 where
@@ -93,10 +105,14 @@ module _ (chosen : Chosen) where
   pub record IsTables (told : TablesArguments) : Type 0 where
     pub from : text_given chosen (codes "from") ≡ Some told.from.now
     pub into : text_given chosen (codes "into") ≡ Some told.into.now
-    pub table : IsTable told.table
+    pub plans : map (λ path. path.now) told.plans.now ≡ texts_given chosen (codes "plan")
+    pub elements : map (λ path. path.now) told.element_files.now ≡ texts_given chosen (codes "elements")
+    pub output : IsOutput told.output
+    pub verbosity : IsVerbosity told.verbosity
     pub workers : IsNumberGiven chosen (codes "workers") (Some told.workers)
     pub every : IsNumberGiven chosen (codes "every") (Some told.every)
     pub grace : IsNumberGiven chosen (codes "grace") (Some told.grace)
+    pub keep_days : IsNumberGiven chosen (codes "keep-recordings") told.keep_days
     pub follow : IsFlagGiven chosen (codes "follow") told.follow
 
   pub record IsMerge (told : MergeArguments) : Type 0 where

@@ -1,17 +1,17 @@
 //! What the words of each command say.
 
 ghost use Rattle.std.specs.Prelude.{◌≡◌, IfSome, IsSome};
-ghost use Rattle.cli_inputs.specs.Given.{IsCollect, IsDump, IsFiles, IsFinish, IsGiven, IsMerge, IsRecord, IsTable, IsTables, IsTcp, IsDurationGiven, IsVerbosity, IsVerify};
+ghost use Rattle.cli_inputs.specs.Given.{IsCollect, IsDump, IsFiles, IsFinish, IsGiven, IsMerge, IsOutput, IsRecord, IsTable, IsTableOf, IsTables, IsTcp, IsDurationGiven, IsVerbosity, IsVerify};
 ghost use Rattle.cli_words.specs.Arguments.{OneNumber, reading_of};
 
 use crate::formats::{dump_form, merge_interval, table_format};
 use cli_words::{
     AGAIN, Argument, BUFFER, Chosen, DIRECT, DUMP_FORMAT, ELEMENTS, EVERY, EXPORTER, FAULT,
-    FILES_FROM, FLOW_FILES, FOLDER, FOLLOW, FROM, GRACE, IDLE, INCOMPLETE, INTO, LISTEN,
-    MERGE_INTO, PEERS, PERIODS_FROM, PLAN, PROGRESS, RECEIPT, RECEIPT_FILE, RECEIPT_OF, RECEIPTS,
-    RECORD_IDLE, RECORD_LISTEN, RECORD_SESSIONS, RECORD_VERBOSE, RECORDED_EVERY, REORDER, RING,
-    SESSIONS, STRICT, Subcommand, TABLE, TABLE_FILES, TABLE_FORMAT, TABLES_INTO, TEMPLATES, TIME,
-    UDP, VERBOSE, WORD, WORKERS, ZONE,
+    FILES_FROM, FLOW_FILES, FOLDER, FOLLOW, FROM, GRACE, IDLE, INCOMPLETE, INTO, KEEP_RECORDINGS,
+    LISTEN, MERGE_INTO, PEERS, PERIODS_FROM, PLAN, PLANS, PROGRESS, RECEIPT, RECEIPT_FILE,
+    RECEIPT_OF, RECEIPTS, RECORD_IDLE, RECORD_LISTEN, RECORD_SESSIONS, RECORD_VERBOSE,
+    RECORDED_EVERY, REORDER, RING, SESSIONS, STRICT, Subcommand, TABLE, TABLE_FILES, TABLE_FORMAT,
+    TABLES_INTO, TEMPLATES, TIME, UDP, VERBOSE, WORD, WORKERS, ZONE,
 };
 use flow_collect::Pool;
 use ipfix_dump::Form;
@@ -139,13 +139,34 @@ pub struct TablesArguments<'m, 'w> {
     /// The folder of the recordings, and that of the tables.
     pub from: &'w str,
     pub into: &'w str,
-    pub table: TableArguments<'m, 'w>,
+    /// The paths of the plans, in the order in which their tables are made.
+    pub plans: &'m [&'w str],
+    /// The paths of files of elements, in the order in which they are read.
+    pub element_files: &'m [&'w str],
+    pub output: Output,
+    pub verbosity: Verbosity,
     pub workers: usize,
     /// How many seconds a period has, and for how many after its end it is left alone.
     pub every: u64,
     pub grace: u64,
+    /// For how many days from its begin on the recordings of a period are kept, if not for ever.
+    pub keep_days: Option<u32>,
     /// Whether it goes on for ever.
     pub follow: bool,
+}
+
+impl<'m, 'w> TablesArguments<'m, 'w> {
+    /// What is told of the tables of the plan of this path.
+    pub fn table(&self, plan: &'w str) -> TableArguments<'m, 'w>
+        ensures { IsTableOf self.now plan.entry result }
+    {
+        TableArguments {
+            element_files: self.element_files,
+            plan,
+            output: self.output,
+            verbosity: self.verbosity,
+        }
+    }
 }
 
 /// What `merge` is told.
@@ -243,14 +264,21 @@ fn read_table<'m, 'w>(chosen: Chosen<'m, 'w>) -> Option<TableArguments<'m, 'w>>
     ensures told { IfSome result (IsTable chosen.entry) }
     ensures each { (told : TableArguments) → IsTable chosen.entry told → IsSome result }
 {
-    let format = table_format(chosen.text(TABLE_FORMAT)?)?;
-    let time = chosen.number(TIME)?;
     Some(TableArguments {
         element_files: chosen.texts(ELEMENTS),
         plan: chosen.text(PLAN)?,
-        output: Output { format, time },
+        output: read_output(chosen)?,
         verbosity: read_verbosity(chosen),
     })
+}
+
+fn read_output(chosen: Chosen) -> Option<Output>
+    ensures told { IfSome result (IsOutput chosen.entry) }
+    ensures each { (told : Output) → IsOutput chosen.entry told → IsSome result }
+{
+    let format = table_format(chosen.text(TABLE_FORMAT)?)?;
+    let time = chosen.number(TIME)?;
+    Some(Output { format, time })
 }
 
 fn read_collect<'m, 'w>(chosen: Chosen<'m, 'w>) -> Option<CollectArguments<'m, 'w>>
@@ -347,10 +375,14 @@ fn read_tables<'m, 'w>(chosen: Chosen<'m, 'w>) -> Option<TablesArguments<'m, 'w>
     Some(TablesArguments {
         from: chosen.text(PERIODS_FROM)?,
         into: chosen.text(TABLES_INTO)?,
-        table: read_table(chosen)?,
+        plans: chosen.texts(PLANS),
+        element_files: chosen.texts(ELEMENTS),
+        output: read_output(chosen)?,
+        verbosity: read_verbosity(chosen),
         workers: workers as usize,
         every: u64::from(every),
         grace: u64::from(grace),
+        keep_days: chosen.number(KEEP_RECORDINGS),
         follow: chosen.is_given(FOLLOW),
     })
 }

@@ -11,7 +11,9 @@ use crate::options::{
     MERGE_RECEIPT, MERGE_STRICT, PLAN, PROGRESS, RECEIPT, RECEIPT_OF, RECEIPTS, RING, STRICT,
     TABLE, TABLE_FORMAT, TIME, VERBOSE, WORKERS, ZONE,
 };
-use crate::period_options::{FOLLOW, GRACE, PERIODS_FROM, RECORDED_EVERY, TABLES_INTO};
+use crate::period_options::{
+    FOLLOW, GRACE, KEEP_RECORDINGS, PERIODS_FROM, PLANS, RECORDED_EVERY, TABLES_INTO,
+};
 
 /// A command.
 #[derive(Clone, Copy)]
@@ -104,13 +106,14 @@ pub const TABLES: CommandWords = CommandWords {
     own: &[
         PERIODS_FROM,
         TABLES_INTO,
-        PLAN,
+        PLANS,
         ELEMENTS,
         WORKERS,
         TABLE_FORMAT,
         TIME,
         RECORDED_EVERY,
         GRACE,
+        KEEP_RECORDINGS,
         FOLLOW,
         VERBOSE,
         STRICT,

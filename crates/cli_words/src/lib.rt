@@ -26,7 +26,9 @@ pub use options::{
     PROGRESS, RECEIPT, RECEIPT_OF, RECEIPTS, RING, STRICT, TABLE, TABLE_FORMAT, TIME, VERBOSE,
     WORKERS, ZONE,
 };
-pub use period_options::{FOLLOW, GRACE, PERIODS_FROM, RECORDED_EVERY, TABLES_INTO};
+pub use period_options::{
+    FOLLOW, GRACE, KEEP_RECORDINGS, PERIODS_FROM, PLANS, RECORDED_EVERY, TABLES_INTO,
+};
 pub use showing::show;
 pub use subcommands::Subcommand;
 pub use words::{VERSION, matches_of};

@@ -41,3 +41,19 @@ pub const GRACE: Argument = Argument {
     due: Due::Default("10"),
     help: "How many seconds after its end a period is left alone",
 };
+
+/// The plans of the tables.
+pub const PLANS: Argument = Argument {
+    word: "plan",
+    takes: Takes::Texts("P"),
+    due: Due::Always,
+    help: "The plan of the tables, a TOML file; may be repeated, each with another name",
+};
+
+/// For how long recordings are kept after their table is made.
+pub const KEEP_RECORDINGS: Argument = Argument {
+    word: "keep-recordings",
+    takes: Takes::Number("DAYS", 1, LARGEST),
+    due: Due::Never,
+    help: "Remove the recordings of each period that began so many days ago and has its table of exactly its files",
+};

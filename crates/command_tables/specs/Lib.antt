@@ -1,2 +1,3 @@
 -- What contracts cite.
 pub mod Opening
+pub mod Plans

@@ -3,5 +3,7 @@
 
 mod making;
 mod opening;
+mod plans;
+mod removing;
 
 pub use making::tables;

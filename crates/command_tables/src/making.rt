@@ -1,48 +1,42 @@
 //! The tables of the periods of a folder.
 
-ghost use Rattle.std.specs.Prelude.{◌≡◌, drop, length};
-ghost use Rattle.period_rounds.specs.Rounds.{AreNew, first_taken};
+ghost use Rattle.std.specs.Prelude.{◌≡◌, ◌*◌, drop, length};
+ghost use Rattle.std.specs.Option.{option_map};
+ghost use Rattle.period_rounds.specs.Rounds.{first_taken};
 ghost use Rattle.period_rounds.specs.Telling.{reason_status};
 
-use crate::opening::{check_engine, ending_of, name_of_plan, open_tables, tell_plan};
-use cli_inputs::{PlanMade, TablesArguments, collect_job, load_plan_made};
+use crate::opening::{check_engine, name_plans, open_tables};
+use crate::plans::{PlanWork, TablesWork, keep_plans, open_plans, read_plans};
+use crate::removing::remove_old;
+use cli_inputs::TablesArguments;
 use command_collect::Engine;
-use input_sources::{FileInTurn, FilesInTurn};
-use ipfix_session::FromReader;
-use period_collect::{PeriodJob, TableMaker};
-use period_rounds::{Round, Rounds, Work, status_of_reason, take_periods, tell_unlisted, worse_of};
-use period_tables::{Desk, Recordings};
+use period_rounds::{Round, Rounds, status_of_reason, take_periods, tell_unlisted, worse_of};
 use recording_folder::second_now;
+use recording_names::Period;
 use recording_periods::PeriodRule;
-use report_writing::{CheckedWriter, Reason, Status};
-use std::io::{Stderr, Stdout};
-use std::marker::PhantomData;
+use report_writing::{Reason, Status};
+use std::io;
 use std::rt::Clock;
 use std::sync::Wait;
 use std::thread::{self, Threads};
 use std::time::Duration;
-use tables_folder::{PlanTables, RecordingsFolder, days_in, periods_in};
-
-/// What the command works with: a folder of recordings, what makes tables of its files, the folder of a plan's tables, and where
-/// lines go.
-type TablesWork<'a> = Work<
-    RecordingsFolder<'a>,
-    TableMaker<'a, FromReader<FileInTurn<'a>>, FilesInTurn<'a>, CheckedWriter<Stderr>>,
-    PlanTables<'a>,
-    CheckedWriter<Stdout>,
-    CheckedWriter<Stderr>,
->;
+use tables_folder::{days_in, periods_in};
 
 /// A run of the command.
 #[derive(Clone, Copy)]
-struct TablesRun<'a> {
-    rt: &'a HostRuntime,
+pub(crate) struct TablesRun<'a> {
+    pub rt: &'a HostRuntime,
     /// The path of the folder of recordings.
-    from: &'a str,
-    rule: PeriodRule,
+    pub from: &'a str,
+    pub rule: PeriodRule,
+    /// For how many seconds from its begin on the recordings of a period are kept, if not for ever.
+    pub keep: Option<u64>,
 }
 
-/// `collectd tables`: the table of each finished period of a folder of recordings that has none of exactly its files.
+const SECONDS_OF_A_DAY: u64 = 86_400;
+
+/// `collectd tables`: the tables of each finished period of a folder of recordings that has none of exactly its files, under
+/// each plan.
 pub fn tables<R: Clock + Threads + Wait + Sync>(
     threads: &R,
     rt: &HostRuntime,
@@ -51,25 +45,16 @@ pub fn tables<R: Clock + Threads + Wait + Sync>(
     let mut err = rt.stderr();
     let engine = Engine::Lots(arguments.workers);
     check_engine(engine, &mut err)?;
-    let name = name_of_plan(arguments.table.plan, &mut err)?;
-    let PlanMade { loaded, maps, made } = load_plan_made(rt, &arguments.table, &mut err)?;
+    let named = name_plans(rt.alloc(), arguments.plans, &mut err)?;
+    let read = read_plans(rt, arguments, &named, &mut err)?;
     let folder = open_tables(rt, arguments.into, &mut err)?;
-    let ending = ending_of(arguments.table.output.format);
-    let tables = match PlanTables::open(rt, folder, name, made.plan.as_str(), ending) {
-        Ok(tables) => tables,
-        Err(fault) => return Err(tell_plan(arguments.into, name, &fault, &mut err)),
-    };
-    let job = PeriodJob {
-        recordings: arguments.from,
-        collect: collect_job(&loaded, maps.as_ref(), &arguments.table, engine, &[]),
-        made: &made,
-    };
-    let mut work = work_of(rt, job, tables);
+    let mut plans = open_plans(rt, arguments, engine, &folder, &read, &mut err)?;
+    keep_plans(arguments.into, &plans, &mut err)?;
     let run = run_of(rt, arguments);
     Ok(if arguments.follow {
-        follow(threads, run, &mut work)
+        follow(threads, run, &mut plans)
     } else {
-        take_round(threads, run, &mut work)
+        take_round(threads, run, &mut plans)
     })
 }
 
@@ -78,6 +63,7 @@ fn run_of<'a>(rt: &'a HostRuntime, arguments: &TablesArguments<'_, 'a>) -> Table
     ensures from { result.from ≡ arguments.now.from }
     ensures every { result.rule.every ≡ arguments.now.every }
     ensures grace { result.rule.grace ≡ arguments.now.grace }
+    ensures keep { result.keep ≡ option_map (λ days. days * 86_400) arguments.now.keep_days }
 {
     TablesRun {
         rt,
@@ -86,30 +72,17 @@ fn run_of<'a>(rt: &'a HostRuntime, arguments: &TablesArguments<'_, 'a>) -> Table
             every: arguments.every,
             grace: arguments.grace,
         },
+        keep: seconds_of(arguments.keep_days),
     }
 }
 
-// What a run with this job works with.
-fn work_of<'a>(rt: &'a HostRuntime, job: PeriodJob<'a>, tables: PlanTables<'a>) -> TablesWork<'a>
-    ensures job { result.desk.maker.job ≡ job.entry }
-    ensures tables { result.desk.tables ≡ tables.entry }
-    ensures rounds { AreNew result.rounds }
+// The seconds of so many days.
+fn seconds_of(days: Option<u32>) -> Option<u64>
+    ensures { result ≡ option_map (λ n. n * 86_400) days }
 {
-    Work {
-        desk: Desk {
-            folder: RecordingsFolder::new(rt, job.recordings),
-            maker: TableMaker {
-                alloc: rt.alloc(),
-                opening: FilesInTurn::new(rt, rt.alloc()),
-                sources: PhantomData,
-                job,
-                err: CheckedWriter::new(rt.stderr()),
-            },
-            tables,
-        },
-        out: CheckedWriter::new(rt.stdout()),
-        err: CheckedWriter::new(rt.stderr()),
-        rounds: Rounds::new(rt.alloc()),
+    match days {
+        Some(days) => Some(u64::from(days) * SECONDS_OF_A_DAY),
+        None => None,
     }
 }
 
@@ -117,13 +90,13 @@ fn work_of<'a>(rt: &'a HostRuntime, job: PeriodJob<'a>, tables: PlanTables<'a>) 
 fn follow<R: Clock + Threads + Wait + Sync>(
     threads: &R,
     run: TablesRun,
-    work: &mut TablesWork,
+    plans: &mut [PlanWork],
 ) -> Status
     ensures { result ≡ Status.Failed }
 {
     for _ in threads.forever() {
-        let _ = take_round(threads, run, work);
-        if work.out.has_failed() {
+        let _ = take_round(threads, run, plans);
+        if has_failed(plans) {
             break;
         }
         thread::sleep(threads, Duration::from_secs(1));
@@ -131,34 +104,73 @@ fn follow<R: Clock + Threads + Wait + Sync>(
     Status::Failed
 }
 
-// Takes each day that has periods, as far as this round takes it.
+// Whether a path of a table could not be written.
+fn has_failed(plans: &[PlanWork]) -> bool {
+    plans.iter().any(|plan| plan.work.out.has_failed())
+}
+
+// Takes the periods of each plan, one plan after another, and then removes the recordings that are kept no longer.
 fn take_round<R: Clock + Threads + Wait + Sync>(
     threads: &R,
     run: TablesRun,
-    work: &mut TablesWork,
+    plans: &mut [PlanWork],
 ) -> Status {
     let now = second_now(run.rt);
-    work.rounds.begin(now);
-    let round = Round {
-        alloc: run.rt.alloc(),
-        from: run.from,
-        rule: run.rule,
-        now,
-        tells_waiting: work.rounds.tells_waiting(),
-    };
-    let days = match list_days(run, work) {
-        Ok(days) => days,
-        Err(reason) => return tell_recordings(work, round, reason),
-    };
+    let several = plans.len() > 1;
     let mut status = Status::Well;
-    for day in days_taken(&work.rounds, &days) {
-        let ended = take_day(threads, run, work, round, day.as_str());
-        status = worse_of(status, ended);
+    let mut takes_all = false;
+    for (place, plan) in plans.iter_mut().enumerate() {
+        plan.work.rounds.begin(now);
+        takes_all = plan.work.rounds.takes_all();
+        let round = Round {
+            alloc: run.rt.alloc(),
+            from: run.from,
+            plan: if several { Some(plan.name) } else { None },
+            rule: run.rule,
+            now,
+            // (what all plans wait for is told once)
+            tells_waiting: place == 0 && plan.work.rounds.tells_waiting(),
+        };
+        status = worse_of(status, take_plan(threads, run, &mut plan.work, round));
     }
-    if work.out.has_failed() {
+    if let Some(keep) = run.keep {
+        if takes_all {
+            status = worse_of(status, remove_old(run, keep, now, plans));
+        }
+    }
+    if has_failed(plans) {
         status = Status::Failed;
     }
     status
+}
+
+// Takes the periods of a plan, as far as this round takes them.
+fn take_plan<R: Clock + Threads + Wait + Sync>(
+    threads: &R,
+    run: TablesRun,
+    work: &mut TablesWork,
+    round: Round,
+) -> Status {
+    let days = match days_in(run.rt, run.from) {
+        Ok(days) => days,
+        Err(error) => return tell_recordings(work, round, Reason::of(&error)),
+    };
+    let mut status = Status::Well;
+    let mut periods = Vec::new(run.rt.alloc());
+    for day in days_taken(&work.rounds, &days) {
+        if let Err(error) = add_periods(run, day.as_str(), &mut periods) {
+            status = worse_of(status, tell_recordings(work, round, Reason::of(&error)));
+        }
+    }
+    worse_of(status, take_periods(threads, work, round, &periods))
+}
+
+// Adds the periods of a day.
+fn add_periods(run: TablesRun, day: &str, periods: &mut Vec<Period>) -> io::Result<()> {
+    for period in periods_in(run.rt, run.from, day)? {
+        periods.push(period)?;
+    }
+    Ok(())
 }
 
 // Of these days those that this round takes.
@@ -166,29 +178,6 @@ fn days_taken<'d>(rounds: &Rounds, days: &'d [String]) -> &'d [String]
     ensures { result.now ≡ drop (first_taken rounds.now (length days.now)) days.now }
 {
     &days[rounds.first_day(days.len())..]
-}
-
-// The days that have periods, if what isn't finished can be listed, too.
-fn list_days(run: TablesRun, work: &mut TablesWork) -> Result<Vec<String>, Reason> {
-    let _unfinished = work.desk.folder.unfinished()?;
-    match days_in(run.rt, run.from) {
-        Ok(days) => Ok(days),
-        Err(error) => Err(Reason::of(&error)),
-    }
-}
-
-// Takes each period of a day.
-fn take_day<R: Clock + Threads + Wait + Sync>(
-    threads: &R,
-    run: TablesRun,
-    work: &mut TablesWork,
-    round: Round,
-    day: &str,
-) -> Status {
-    match periods_in(run.rt, run.from, day) {
-        Ok(periods) => take_periods(threads, work, round, &periods),
-        Err(error) => tell_recordings(work, round, Reason::of(&error)),
-    }
 }
 
 // Writes why the recordings can't be listed, and answers how the command ends by it.

@@ -1,5 +1,6 @@
 -- The lines about a period, and how the command ends by it.
-use Rattle.std.specs.Prelude.{ℕ, Bool, List, [], ◌++◌, codes, nat_le, if◌then◌else◌, string_bytes}
+use Rattle.std.specs.Prelude.{ℕ, Bool, List, [], ◌++◌, Option, None, Some, Result, Ok, Err, codes, nat_le, if◌then◌else◌, string_bytes}
+use Rattle.std.specs.Borrow.{Bor}
 use Rattle.report_writing.specs.FaultLines.{not_had_line}
 use Rattle.report_writing.specs.Reasons.{words_of}
 use Rattle.report_writing.specs.Statuses.{number_of}
@@ -27,16 +28,21 @@ abbrev pub unread_words : Reason → List ℕ
 unread_words NotValid = codes "no receipt of this plan"
 unread_words reason = words_of reason
 
--- the line about what became of a table, if there is one; only some rounds write what a period waits for
-abbrev pub outcome_lines : Bool → List ℕ → Outcome → List ℕ
-outcome_lines tells period NotOver = []
-outcome_lines tells period (HeldUp name) = if tells then period_line period (codes "not finished") (string_bytes name) else []
-outcome_lines tells period UpToDate = []
-outcome_lines tells period (FileGone path) = period_line period (codes "gone") (string_bytes path)
-outcome_lines tells period (Made fault) = if fault then state_line period (codes "made with a fault") else []
-outcome_lines tells period (NotRead reason) = period_line period (codes "not read") (unread_words reason)
-outcome_lines tells period (NotMade status) = state_line period (codes "not made")
-outcome_lines tells period (NotPut reason) = period_line period (codes "not written") (words_of reason)
+-- what lines call a table of the period of this name: with the name of its plan before it, if there are several
+abbrev pub label_text : Option (Bor (List ℕ)) → List ℕ → List ℕ
+label_text None period = period
+label_text (Some plan) period = plan.now ++ (codes "/" ++ period)
+
+-- the line about what became of a table of a period, if there is one; only some rounds write what the period waits for
+abbrev pub outcome_lines : Bool → List ℕ → List ℕ → Outcome → List ℕ
+outcome_lines tells period table NotOver = []
+outcome_lines tells period table (HeldUp name) = if tells then period_line period (codes "not finished") (string_bytes name) else []
+outcome_lines tells period table UpToDate = []
+outcome_lines tells period table (FileGone path) = period_line table (codes "gone") (string_bytes path)
+outcome_lines tells period table (Made fault) = if fault then state_line table (codes "made with a fault") else []
+outcome_lines tells period table (NotRead reason) = period_line table (codes "not read") (unread_words reason)
+outcome_lines tells period table (NotMade status) = state_line table (codes "not made")
+outcome_lines tells period table (NotPut reason) = period_line table (codes "not written") (words_of reason)
 
 -- the line with the path of a table that was made
 abbrev pub outcome_paths : List ℕ → Outcome → List ℕ
@@ -46,6 +52,15 @@ outcome_paths path outcome = []
 -- that the folder of recordings of this path can't be listed
 abbrev pub unlisted_lines : Bool → List ℕ → Reason → List ℕ
 unlisted_lines tells from reason = if tells then not_had_line (codes "folder") (from ++ (codes ": " ++ words_of reason)) else []
+
+-- that the recordings of a period were removed, or why not
+abbrev pub removal_line : List ℕ → Result (Unit {0}) Reason → List ℕ
+removal_line period (Ok done) = state_line period (codes "removed")
+removal_line period (Err reason) = period_line period (codes "not removed") (words_of reason)
+
+abbrev pub removal_status : Result (Unit {0}) Reason → Status
+removal_status (Ok done) = Well
+removal_status (Err reason) = SessionFault
 
 -- memory ran out, or the system refused it
 abbrev pub reason_status : Reason → Status

@@ -9,4 +9,4 @@ mod telling;
 pub use periods::take_periods;
 pub use rounds::Rounds;
 pub use taking::{Round, Work};
-pub use telling::{status_of_reason, tell_unlisted, worse_of};
+pub use telling::{status_of_reason, tell_removal, tell_unlisted, worse_of};

@@ -67,6 +67,13 @@ impl Rounds {
         }
     }
 
+    /// Whether this round takes all days.
+    pub fn takes_all(&self) -> bool
+        ensures { result ≡ self.now.takes_all }
+    {
+        self.takes_all
+    }
+
     /// Whether this round writes what periods wait for.
     pub fn tells_waiting(&self) -> bool
         ensures { result ≡ self.now.tells_waiting }

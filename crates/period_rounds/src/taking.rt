@@ -1,21 +1,21 @@
 //! Taking periods, and writing what became of their tables.
 
-ghost use Rattle.std.specs.Prelude.{◌≡◌, false};
+ghost use Rattle.std.specs.Prelude.{◌≡◌, string_bytes, IfOk};
 ghost use Rattle.report_writing.specs.Told.{AreToldTo};
 ghost use Rattle.period_tables.specs.Outcomes.{views};
 ghost use Rattle.period_rounds.specs.Taking.{TakesOne, settles};
-ghost use Rattle.period_rounds.specs.Telling.{outcome_lines, outcome_paths, outcome_status, reason_status, unlisted_lines};
+ghost use Rattle.period_rounds.specs.Telling.{label_text, outcome_lines, outcome_paths, outcome_status};
 
 use crate::rounds::Rounds;
-use crate::telling::{status_of_reason, tell_outcome, tell_unlisted, write_paths};
+use crate::telling::{tell_outcome, write_paths};
 use input_sources::OpenSource;
 use ipfix_session::Source;
 use period_collect::TableMaker;
 use period_tables::{Desk, Outcome, Recordings, TablePlace, take_period};
 use recording_names::{Period, period_name};
 use recording_periods::PeriodRule;
-use report_writing::{Reason, Status, WriteLines};
-use std::alloc::Global;
+use report_writing::{Status, WriteLines};
+use std::alloc::{AllocError, Global};
 use std::rt::Clock;
 use std::sync::Wait;
 use std::thread::Threads;
@@ -35,6 +35,8 @@ pub struct Round<'a> {
     pub alloc: Global,
     /// The path of the folder of recordings.
     pub from: &'a str,
+    /// The name of the plan, if there are several: lines about its tables begin with it.
+    pub plan: Option<&'a str>,
     pub rule: PeriodRule,
     /// The second since 1970.
     pub now: u64,
@@ -70,38 +72,72 @@ pub(crate) fn take_and_tell<
     threads: &R,
     work: &mut Work<F, TableMaker<'_, S, O, E>, T, P, L>,
     round: Round,
+    unfinished: &[String],
     period: Period,
 ) -> Took
     ensures { TakesOne (views F.listed F.refuses S.seen S.failure O.opens O.sizes
         O.refuses O.coming E.contents E.failed T.table T.receipt T.refuses)
         T.path P.contents P.failed L.contents L.failed
-        round.entry period result work.old work.new }
+        round.entry unfinished.now period result work.old work.new }
 {
     let Ok(name) = period_name(round.alloc, period) else {
+        return LEFT;
+    };
+    let Ok(label) = label_of(round.alloc, round.plan, &name) else {
         return LEFT;
     };
     let Ok(path) = work.desk.tables.table_path(period) else {
         return LEFT;
     };
-    let desk = &mut work.desk;
-    match take_period(threads, desk, round.alloc, round.rule, round.now, period) {
+    let Round {
+        alloc,
+        rule,
+        now,
+        ..
+    } = round;
+    match take_period(
+        threads,
+        &mut work.desk,
+        alloc,
+        rule,
+        now,
+        unfinished,
+        period,
+    ) {
         Ok(outcome) => {
             write_paths(path.as_str(), &outcome, &mut work.out);
-            tell_taken(name.as_str(), &outcome, round.tells_waiting, &mut work.err)
+            let (period, table) = (name.as_str(), label.as_str());
+            tell_taken(period, table, &outcome, round.tells_waiting, &mut work.err)
         }
-        Err(reason) => tell_untaken(round.from, reason, round.tells_waiting, &mut work.err),
+        Err(AllocError) => LEFT,
     }
 }
 
-// Writes what became of the table of the period of this name.
-fn tell_taken<E: WriteLines>(name: &str, outcome: &Outcome, tells: bool, err: &mut E) -> Took
+// What lines call the table of the period of this name.
+fn label_of(alloc: Global, plan: Option<&str>, name: &String) -> Result<String, AllocError>
+    ensures { IfOk result (λ label. string_bytes label ≡ label_text plan.entry (string_bytes name.now)) }
+{
+    match plan {
+        Some(plan) => format!(in alloc; "{plan}/{name}"),
+        None => name.clone(),
+    }
+}
+
+// Writes what became of a table of the period of this name.
+fn tell_taken<E: WriteLines>(
+    period: &str,
+    table: &str,
+    outcome: &Outcome,
+    tells: bool,
+    err: &mut E,
+) -> Took
     ensures status { result.status ≡ outcome_status outcome.now }
     ensures settled { result.settled ≡ settles outcome.now }
     ensures told { AreToldTo E.contents E.failed err.old err.new
-        (outcome_lines tells name.now outcome.now) }
+        (outcome_lines tells period.now table.now outcome.now) }
 {
     Took {
-        status: tell_outcome(name, outcome, tells, err),
+        status: tell_outcome(period, table, outcome, tells, err),
         settled: is_settled(outcome),
     }
 }
@@ -110,18 +146,4 @@ fn is_settled(outcome: &Outcome) -> bool
     ensures { result ≡ settles outcome.now }
 {
     !matches!(outcome, Outcome::NotOver | Outcome::HeldUp(_))
-}
-
-// Writes why a period wasn't taken.
-fn tell_untaken<E: WriteLines>(from: &str, reason: Reason, tells: bool, err: &mut E) -> Took
-    ensures status { result.status ≡ reason_status reason }
-    ensures settled { result.settled ≡ false }
-    ensures told { AreToldTo E.contents E.failed err.old err.new
-        (unlisted_lines tells from.now reason) }
-{
-    tell_unlisted(from, reason, tells, err);
-    Took {
-        status: status_of_reason(reason),
-        settled: false,
-    }
 }

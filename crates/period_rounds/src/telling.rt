@@ -3,7 +3,7 @@
 ghost use Rattle.std.specs.Prelude.{◌≡◌};
 ghost use Rattle.report_writing.specs.Told.{AreToldTo};
 ghost use Rattle.report_writing.specs.Writing.{Tells};
-ghost use Rattle.period_rounds.specs.Telling.{outcome_lines, outcome_paths, outcome_status, path_line, period_line, reason_status, state_line, unlisted_lines, unread_words, worse};
+ghost use Rattle.period_rounds.specs.Telling.{outcome_lines, outcome_paths, outcome_status, path_line, period_line, reason_status, removal_line, removal_status, state_line, unlisted_lines, unread_words, worse};
 
 use period_tables::Outcome;
 use report_writing::{Reason, Status, Verbosity, WriteLines, write_not_had_because};
@@ -15,41 +15,43 @@ const WITH_REASONS: Verbosity = Verbosity {
     strict: false,
 };
 
-/// Writes what became of the table of a period, unless it was made well or stays, and answers how the command ends by it.
+/// Writes what became of a table of a period, unless it was made well or stays, and answers how the command ends by it.
 /// A line says what the period waits for only if it is time for that.
 pub(crate) fn tell_outcome<E: WriteLines>(
     period: &str,
+    table: &str,
     outcome: &Outcome,
     tells: bool,
     err: &mut E,
 ) -> Status
     ensures status { result ≡ outcome_status outcome.now }
     ensures told { AreToldTo E.contents E.failed err.old err.new
-        (outcome_lines tells period.now outcome.now) }
+        (outcome_lines tells period.now table.now outcome.now) }
 {
     // (a line that can't be written stops nothing)
-    let _ = write_outcome(period, outcome, tells, err);
+    let _ = write_outcome(period, table, outcome, tells, err);
     status_of(outcome)
 }
 
 fn write_outcome<E: WriteLines>(
     period: &str,
+    table: &str,
     outcome: &Outcome,
     tells: bool,
     err: &mut E,
 ) -> io::Result<()>
     ensures { Tells E.contents E.failed err.old err.new result
-        (outcome_lines tells period.now outcome.now) }
+        (outcome_lines tells period.now table.now outcome.now) }
 {
     match outcome {
         Outcome::NotOver | Outcome::UpToDate | Outcome::Made(false) => Ok(()),
-        Outcome::Made(true) => write_state(period, "made with a fault", err),
+        Outcome::Made(true) => write_state(table, "made with a fault", err),
         Outcome::HeldUp(name) if tells => write_period(period, "not finished", name.as_str(), err),
         Outcome::HeldUp(_) => Ok(()),
-        Outcome::FileGone(path) => write_period(period, "gone", path.as_str(), err),
-        Outcome::NotRead(reason) => write_period(period, "not read", words_of_unread(*reason), err),
-        Outcome::NotMade(_) => write_state(period, "not made", err),
-        Outcome::NotPut(reason) => write_period(period, "not written", reason.words(), err),
+        Outcome::FileGone(path) => write_period(table, "gone", path.as_str(), err),
+        Outcome::NotRead(reason) => write_period(table, "not read", words_of_unread(*reason), err),
+        Outcome::NotMade(_) => write_state(table, "not made", err),
+        Outcome::NotPut(reason) => write_period(table, "not written", reason.words(), err),
     }
 }
 
@@ -100,6 +102,23 @@ pub fn tell_unlisted<E: WriteLines>(from: &str, reason: Reason, tells: bool, err
 {
     if tells {
         let _ = write_not_had_because(WITH_REASONS, "folder", from, reason, err);
+    }
+}
+
+/// Writes that the recordings of the period of this name were removed, or why not, and answers how the command ends by it.
+pub fn tell_removal<E: WriteLines>(period: &str, removed: Result<(), Reason>, err: &mut E) -> Status
+    ensures status { result ≡ removal_status removed }
+    ensures told { AreToldTo E.contents E.failed err.old err.new (removal_line period.now removed) }
+{
+    match removed {
+        Ok(()) => {
+            let _ = write_state(period, "removed", err);
+            Status::Well
+        }
+        Err(reason) => {
+            let _ = write_period(period, "not removed", reason.words(), err);
+            Status::SessionFault
+        }
     }
 }
 

@@ -3,6 +3,8 @@
 #![tactic(auto)]
 
 #[cfg(test)]
+mod removing;
+#[cfg(test)]
 mod rounds;
 #[cfg(test)]
 mod words;

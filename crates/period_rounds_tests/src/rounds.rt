@@ -12,12 +12,11 @@ use output_tables::Output;
 use period_collect::{PeriodJob, TableMaker};
 use period_rounds::{Round, Rounds, Work, take_periods, worse_of};
 use period_tables::Desk;
-use recording_folder::open_folder;
+use recording_folder::{Folder, open_folder};
 use recording_periods::PeriodRule;
 use report_writing::Status;
 use std::alloc::{AllocError, Global};
 use std::fs;
-use std::io::{self, ErrorKind};
 use std::marker::PhantomData;
 use std::rt::Clock;
 use std::sync::Wait;
@@ -94,6 +93,7 @@ fn take_all<R: Clock + Threads + Wait + Sync>(
     let round = Round {
         alloc: rt.alloc(),
         from: "recordings",
+        plan: None,
         rule: RULE,
         now,
         tells_waiting: work.rounds.tells_waiting(),
@@ -145,12 +145,15 @@ fn job_of<'a>(elements: &'a Elements, plan: &'a Plan, made: &'a MadeWith) -> Per
     }
 }
 
-// The tables of a plan with this text.
-fn tables_of<'a>(rt: &'a HostRuntime, plan: &'a str) -> Result<PlanTables<'a>, PlanFault> {
-    match open_folder(rt, rt.alloc(), "tables") {
-        Ok(folder) => PlanTables::open(rt, folder, "source", plan, "csv"),
-        Err(_) => Err(PlanFault::NotHad(io::Error::from(ErrorKind::Other))),
-    }
+// The tables of a plan with this text in a folder, which has it then.
+fn tables_of<'a>(
+    rt: &'a HostRuntime,
+    folder: &'a Folder,
+    plan: &'a str,
+) -> Result<PlanTables<'a>, PlanFault> {
+    let tables = PlanTables::open(rt, folder, "source", plan, "csv")?;
+    tables.keep_plan()?;
+    Ok(tables)
 }
 
 // The rounds of a period that waits for an unfinished file, is made, made again after a late file came, and stays when a file
@@ -165,7 +168,8 @@ fn rounds_of<R: Clock + Threads + Wait + Sync>(
     let elements = Elements::built_in(alloc);
     let made = made_of(alloc)?;
     let job = job_of(&elements, &plan, &made);
-    let mut work = work_of(rt, job, tables_of(rt, BY_SOURCE)?);
+    let folder = open_folder(rt, alloc, "tables")?;
+    let mut work = work_of(rt, job, tables_of(rt, &folder, BY_SOURCE)?);
     take_all(threads, rt, &mut work, OVER)?;
     fs::remove_file(rt, UNFINISHED)?;
     take_all(threads, rt, &mut work, OVER + 1)?;
@@ -196,9 +200,10 @@ start,end,sourceIPv4Address,octetDeltaCount,flows
 
 #[test]
 fn tables_of_another_plan_are_refused(rt: HostRuntime) -> Result<(), Fail> {
-    let tables = tables_of(&rt, BY_SOURCE)?;
+    let folder = open_folder(&rt, rt.alloc(), "tables")?;
+    let tables = tables_of(&rt, &folder, BY_SOURCE)?;
     drop(tables);
-    let other = tables_of(&rt, "interval_ms = 1\n");
+    let other = tables_of(&rt, &folder, "interval_ms = 1\n");
     assert!(rt; matches!(other, Err(PlanFault::OtherPlan)));
     Ok(())
 }

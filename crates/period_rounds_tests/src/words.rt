@@ -1,6 +1,6 @@
 //! Names of plans, texts that are no receipts, and the worst end.
 
-use period_rounds::{status_of_reason, tell_unlisted, worse_of};
+use period_rounds::{status_of_reason, tell_removal, tell_unlisted, worse_of};
 use report_writing::{Reason, Status};
 use std::test::Fail;
 use tables_folder::{files_in_receipt, plan_name};
@@ -37,5 +37,19 @@ fn a_folder_that_cannot_be_listed_has_a_line(rt: HostRuntime) -> Result<(), Fail
         err.as_slice(),
         b"collectd: folder: recordings: no such file\n".as_slice()
     );
+    Ok(())
+}
+
+#[test]
+fn a_removal_has_a_line(rt: HostRuntime) -> Result<(), Fail> {
+    let mut err = Vec::new(rt.alloc());
+    let well = tell_removal("2026-11-25/133500", Ok(()), &mut err);
+    assert!(rt; well == Status::Well);
+    let left = tell_removal("2026-11-25/134000", Err(Reason::NoSuchFile), &mut err);
+    assert!(rt; left == Status::SessionFault);
+    let want = b"collectd: tables: 2026-11-25/133500: removed
+collectd: tables: 2026-11-25/134000: not removed: no such file
+";
+    assert_eq!(rt; err.as_slice(), want.as_slice());
     Ok(())
 }

@@ -1,5 +1,5 @@
 -- What became of the tables of periods.
-use Rattle.std.specs.Prelude.{◌≡◌, ◌⊎◌, ℕ, Bool, List, Option, None, Some, option_map, string_bytes}
+use Rattle.std.specs.Prelude.{◌≡◌, ◌⊎◌, ℕ, Bool, List, Option, Some, option_map, string_bytes}
 use Rattle.std.specs.Borrow.{Bor}
 use Rattle.std.specs.declared.alloc.Global.{Global}
 use Rattle.std.specs.declared.io.ErrorKind.{ErrorKind}
@@ -118,16 +118,3 @@ module _ {F M T : Type 0} (sees : Views F M T) where
   IsOutcome rule now unfinished begins (HeldUp held) before after =
       (name : Bor (List ℕ)) × (name.now ≡ string_bytes held) × IsPeriodState rule now unfinished begins (period.HeldUp name) × (after ≡ before)
   IsOutcome rule now unfinished begins outcome before after = IsFinished rule now unfinished begins × IsFinishedOutcome begins outcome before after
-
-  -- what isn't finished was listed first, and then the period was taken
-  pub record IsTaken (rule : PeriodRule) (now begins : ℕ) (outcome : Outcome) (before after : Desk F M T) : Type 0 where
-    pub unfinished : List (String Global)
-    pub begun : Desk F M T
-    pub lists : ListsNext (sees.listed before.folder) (sees.listed begun.folder) (record { period = None; names = unfinished })
-    pub same_maker : begun.maker ≡ before.maker
-    pub same_tables : begun.tables ≡ before.tables
-    pub outcome_is : IsOutcome rule now unfinished begins outcome begun after
-
-  -- it wasn't: what isn't finished couldn't be listed, or memory ran out
-  abbrev pub IsNotTaken : Reason → Desk F M T → Desk F M T → Type 0
-  IsNotTaken reason before after = IsUntouched before after × (sees.not_listed after.folder None reason ⊎ (reason ≡ OutOfMemory))

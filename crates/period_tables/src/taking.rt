@@ -1,7 +1,7 @@
 //! Taking a period of a folder of recordings.
 
-ghost use Rattle.std.specs.Prelude.{◌≡◌, IfErr, IfOk, OnErr};
-ghost use Rattle.period_tables.specs.Outcomes.{IsNotTaken, IsOutcome, IsTaken, views};
+ghost use Rattle.std.specs.Prelude.{◌≡◌, IfOk, OnErr};
+ghost use Rattle.period_tables.specs.Outcomes.{IsOutcome, views};
 
 use crate::desk::Desk;
 use crate::finished::take_finished;
@@ -13,48 +13,16 @@ use ipfix_session::Source;
 use period_collect::TableMaker;
 use recording_names::Period;
 use recording_periods::{PeriodRule, PeriodState, period_state};
-use report_writing::{Reason, WriteLines};
+use report_writing::WriteLines;
 use std::alloc::{AllocError, Global};
 use std::rt::Clock;
 use std::sync::Wait;
 use std::thread::Threads;
 
-/// Makes the table of a period if it is finished at this second since 1970 and has no table of exactly its files. It answers
-/// what became of the table, which may be made in threads of this handle. `Err` says why the unfinished files can't be
-/// listed, or that memory ran out; then nothing was made.
+/// Makes the table of a period if it is finished at this second since 1970, where these names were in the folder of what isn't
+/// finished, and if it has no table of exactly its files. It answers what became of the table, which may be made in threads of
+/// this handle. An `Err` changes nothing.
 pub fn take_period<
-    F: Recordings,
-    S: Source + Send + Drop,
-    O: OpenSource<S>,
-    E: WriteLines,
-    T: TablePlace,
-    R: Clock + Threads + Wait + Sync,
->(
-    threads: &R,
-    desk: &mut Desk<F, TableMaker<'_, S, O, E>, T>,
-    alloc: Global,
-    rule: PeriodRule,
-    now: u64,
-    period: Period,
-) -> Result<Outcome, Reason>
-    ensures ok { IfOk result (λ outcome. IsTaken
-        (views F.listed F.refuses S.seen S.failure O.opens O.sizes
-        O.refuses O.coming E.contents E.failed T.table T.receipt T.refuses)
-        rule now period.begins outcome desk.old desk.new) }
-    ensures err { IfErr result (λ reason. IsNotTaken
-        (views F.listed F.refuses S.seen S.failure O.opens O.sizes
-        O.refuses O.coming E.contents E.failed T.table T.receipt T.refuses)
-        reason desk.old desk.new) }
-{
-    let unfinished = desk.folder.unfinished()?;
-    match take_listed(threads, desk, alloc, rule, now, &unfinished, period) {
-        Ok(outcome) => Ok(outcome),
-        Err(AllocError) => Err(Reason::OutOfMemory),
-    }
-}
-
-// The same after what isn't finished was listed.
-fn take_listed<
     F: Recordings,
     S: Source + Send + Drop,
     O: OpenSource<S>,

@@ -2,4 +2,5 @@ pub mod Dates
 pub mod FoundFiles
 pub mod Holding
 pub mod Loops
+pub mod OneState
 pub mod PathNames

@@ -1,7 +1,7 @@
 -- Going over a list: what is known of all of it by what is left.
 use Rattle.std.proofs.Common.{◌≡◌, List, ◌∷◌, length, suc, refl, sym, subst, arith}
 use Rattle.std.specs.Prelude.{All, Any}
-use Rattle.std.proofs.lemmas.List.Elements.{All-cons}
+use Rattle.std.proofs.lemmas.List.Elements.{All-cons, All-head, All-tail}
 
 module _ {X : Type 0} (P : X → Type 0) where
   any_here : (x : X) (xs : List X) → P x → Any P (x ∷ xs)
@@ -23,3 +23,13 @@ module _ {X : Type 0} (P : X → Type 0) where
 
       pub more_some : (Any P left → Any P all) → Any P rest → Any P all
       more_some so_far later = so_far (subst (Any P) (sym split) (any_there x rest later))
+
+      pub not_this : (¬ All P left → ¬ All P all) → ¬ P x → ¬ All P all
+      not_this so_far wrong = so_far (λ every. wrong (All-head P x rest (subst (All P) split every)))
+
+      pub not_later : (¬ All P left → ¬ All P all) → ¬ All P rest → ¬ All P all
+      not_later so_far wrong = so_far (λ every. wrong (All-tail P x rest (subst (All P) split every)))
+
+-- what is so of some is not otherwise of all
+pub some_or_all : {X : Type 0} (P Q : X → Type 0) (xs : List X) → ((x : X) → P x → Q x → ⊥) → Any P xs → All Q xs → ⊥
+some_or_all P Q xs apart (k, x, within, at, some) every = apart x some (subst Q at (every k x within))

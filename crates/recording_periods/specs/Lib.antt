@@ -3,3 +3,4 @@ pub mod PeriodFolders
 pub mod FinishedPeriods
 pub mod PeriodFiles
 pub mod TableStates
+pub mod Removable

@@ -30,7 +30,8 @@ fn finished_among(alloc: Global, names: Vec<String>) -> Result<Vec<String>, Allo
     Ok(files)
 }
 
-fn is_finished_name(name: &str) -> bool
+/// Whether a name is that of a finished file.
+pub(crate) fn is_finished_name(name: &str) -> bool
     ensures { MatchBool result (IsFinishedName name.now) (¬ IsFinishedName name.now) }
 {
     match read_finished_name(name) {

@@ -2,9 +2,11 @@
 
 use recording_names::period_of;
 use recording_periods::{
-    PeriodRule, PeriodState, TableState, finished_files, period_state, read_period_at, table_state,
+    PeriodRule, PeriodState, TableState, finished_files, may_remove, period_state, read_period_at,
+    table_state,
 };
 use std::alloc::AllocError;
+use std::test::Fail;
 
 const RULE: PeriodRule = PeriodRule {
     every: 300,
@@ -134,4 +136,70 @@ fn a_late_file_makes_a_table_due(rt: HostRuntime) {
             TableState::Gone("b.ipfix")
         )
     );
+}
+
+const ONE: &str = "192.0.2.1-40012-7.ipfix";
+
+const OTHER: &str = "192.0.2.2-40013-8.ipfix";
+
+// A day after the period that begins at 2026-11-25 13:35:00 UTC.
+const OLD: u64 = 1_795_700_100;
+
+// Whether recordings of that period with these names may be removed, if they are kept for a day, and each plan has a receipt
+// that names files of these names, or none.
+fn may_go(
+    rt: &HostRuntime,
+    now: u64,
+    unfinished: &[&str],
+    names: &[&str],
+    receipts: &[Option<&[&str]>],
+) -> Result<bool, AllocError> {
+    let mut named = Vec::new(rt.alloc());
+    for receipt in receipts {
+        named.push(match receipt {
+            Some(names) => Some(paths_of(rt, *names)?),
+            None => None,
+        })?;
+    }
+    let unfinished = texts_of(rt, unfinished)?;
+    let names = texts_of(rt, names)?;
+    let period = period_of(1_795_613_700, 300);
+    Ok(may_remove(RULE, 86_400, now, &unfinished, period, &names, &named))
+}
+
+// A path to each of these names.
+fn paths_of(rt: &HostRuntime, names: &[&str]) -> Result<Vec<String>, AllocError> {
+    let mut paths = Vec::new(rt.alloc());
+    for name in names {
+        paths.push(format!(in rt.alloc(); "recordings/2026-11-25/133500/{}", *name)?)?;
+    }
+    Ok(paths)
+}
+
+#[test]
+fn recordings_go_after_a_day(rt: HostRuntime) -> Result<(), Fail> {
+    let table: Option<&[&str]> = Some(&[ONE]);
+    assert!(rt; may_go(&rt, OLD, &[], &[ONE], &[table, table])?);
+    assert!(rt; !may_go(&rt, OLD - 1, &[], &[ONE], &[table, table])?);
+    assert!(rt; !may_go(&rt, 0, &[], &[ONE], &[table])?);
+    let later = ["1795614000-192.0.2.1-40012-7", "notes"];
+    assert!(rt; may_go(&rt, OLD, &later, &[ONE], &[table])?);
+    let before = ["1795613400-192.0.2.1-40012-3"];
+    assert!(rt; !may_go(&rt, OLD, &before, &[ONE], &[table])?);
+    Ok(())
+}
+
+#[test]
+fn recordings_go_if_each_plan_has_their_table(rt: HostRuntime) -> Result<(), Fail> {
+    let table: Option<&[&str]> = Some(&[ONE]);
+    let both: Option<&[&str]> = Some(&[ONE, OTHER]);
+    assert!(rt; !may_go(&rt, OLD, &[], &[ONE], &[])?);
+    assert!(rt; !may_go(&rt, OLD, &[], &[ONE], &[table, None])?);
+    assert!(rt; !may_go(&rt, OLD, &[], &[ONE], &[None, table])?);
+    assert!(rt; !may_go(&rt, OLD, &[], &[ONE], &[both])?);
+    assert!(rt; !may_go(&rt, OLD, &[], &[ONE, OTHER], &[both, table])?);
+    assert!(rt; may_go(&rt, OLD, &[], &[ONE, OTHER], &[both])?);
+    assert!(rt; !may_go(&rt, OLD, &[], &[ONE, "notes"], &[table])?);
+    assert!(rt; !may_go(&rt, OLD, &[], &[], &[None])?);
+    Ok(())
 }

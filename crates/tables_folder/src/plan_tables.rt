@@ -2,12 +2,13 @@
 
 use crate::plan_names::table_path;
 use crate::receipt_files::{files_in_receipt, is_receipt_of};
+use crate::removing::sync_folder;
 use period_tables::TablePlace;
 use recording_folder::Folder;
 use recording_names::Period;
 use report_writing::Reason;
 use std::alloc::AllocError;
-use std::fs::{self, OpenFile, OpenOptions};
+use std::fs::{self, OpenFile};
 use std::io::{self, ErrorKind, Write};
 
 /// The name of a text that isn't whole, in the folder of what isn't finished.
@@ -26,7 +27,7 @@ const PLAN: &str = ".plan";
 #[derive(Drop)]
 pub struct PlanTables<'r> {
     rt: &'r HostRuntime,
-    folder: Folder,
+    folder: &'r Folder,
     // The path of the folder of the plan's tables.
     path: String,
     // The plan's text.
@@ -44,10 +45,11 @@ pub enum PlanFault {
 }
 
 impl<'r> PlanTables<'r> {
-    /// The tables of a plan of this name and this text, with names of this ending. Their folder is made if it isn't there.
+    /// The tables of a plan of this name and this text in a folder, with names of this ending. Nothing is written; those that
+    /// are there are of no other plan.
     pub fn open(
         rt: &'r HostRuntime,
-        folder: Folder,
+        folder: &'r Folder,
         name: &str,
         plan: &'r str,
         ending: &'static str,
@@ -62,22 +64,39 @@ impl<'r> PlanTables<'r> {
             plan,
             ending,
         };
-        match tables.keeps_plan() {
-            Ok(true) => Ok(tables),
-            Ok(false) => Err(PlanFault::OtherPlan),
+        match tables.plan_text() {
+            Ok(Some(text)) if text.as_slice() != plan.as_bytes() => Err(PlanFault::OtherPlan),
+            Ok(_) => Ok(tables),
             Err(error) => Err(PlanFault::NotHad(error)),
         }
     }
 
-    // Whether the folder has this plan. It gets it if it has none.
-    fn keeps_plan(&self) -> io::Result<bool> {
-        let path = format!(in self.rt.alloc(); "{}/{PLAN}", self.path.as_str())?;
+    /// Gives their folder the plan's text, if it has none. It is made if it isn't there.
+    pub fn keep_plan(&self) -> Result<(), PlanFault> {
+        match self.write_plan() {
+            Ok(()) => Ok(()),
+            Err(error) => Err(PlanFault::NotHad(error)),
+        }
+    }
+
+    fn write_plan(&self) -> io::Result<()> {
+        if self.plan_text()?.is_some() {
+            return Ok(());
+        }
+        let path = self.plan_path()?;
+        self.put_text(path.as_str(), self.plan.as_bytes())
+    }
+
+    fn plan_path(&self) -> Result<String, AllocError> {
+        format!(in self.rt.alloc(); "{}/{PLAN}", self.path.as_str())
+    }
+
+    // The text of the plan of the tables that are there, if their folder has one.
+    fn plan_text(&self) -> io::Result<Option<Vec<u8>>> {
+        let path = self.plan_path()?;
         match fs::read(self.rt, path.as_str()) {
-            Ok(text) => Ok(text.as_slice() == self.plan.as_bytes()),
-            Err(error) if error.kind() == ErrorKind::NotFound => {
-                self.put_text(path.as_str(), self.plan.as_bytes())?;
-                Ok(true)
-            }
+            Ok(text) => Ok(Some(text)),
+            Err(error) if error.kind() == ErrorKind::NotFound => Ok(None),
             Err(error) => Err(error),
         }
     }
@@ -167,15 +186,9 @@ impl<'r> PlanTables<'r> {
         let Some((day, _)) = path.rsplit_once('/') else {
             return Ok(());
         };
-        self.sync_folder(day)?;
-        self.sync_folder(self.path.as_str())?;
-        self.sync_folder(self.folder.path())
-    }
-
-    // Brings the names in a folder to the disk.
-    fn sync_folder(&self, path: &str) -> io::Result<()> {
-        let folder = OpenOptions::new().read(true).open(self.rt, path)?;
-        folder.sync_all()
+        sync_folder(self.rt, day)?;
+        sync_folder(self.rt, self.path.as_str())?;
+        sync_folder(self.rt, self.folder.path())
     }
 }
 

@@ -58,7 +58,8 @@ fn names_in(rt: &HostRuntime, folder: &str, name: &str) -> io::Result<Vec<String
     list_names(rt, path.as_str())
 }
 
-fn list_names(rt: &HostRuntime, path: &str) -> io::Result<Vec<String>>
+/// The names in a folder, by the order of their octets.
+pub(crate) fn list_names(rt: &HostRuntime, path: &str) -> io::Result<Vec<String>>
     ensures { IfOk result (λ names. IsSorted string_cmp names.items) }
 {
     let mut names = Vec::new(rt.alloc());

@@ -1,26 +1,26 @@
-use Rattle.std.proofs.Common.{◌≡◌, ◌∷◌, length, arith, rules}
-use Rattle.report_writing.specs.declared.status.Status.TheVariants.{Well}
+use Rattle.std.proofs.Common.{inl, inr, refl, subst}
 use Rattle.period_tables.specs.Outcomes.{views}
-use Rattle.period_rounds.specs.Taking.{IsStep}
-use Rattle.period_rounds.proofs.StepsTaken.{at_end, one_more}
+use Rattle.period_rounds.specs.Taking.{TakesEach}
 use Rattle.period_rounds.proofs.periods.take_periods.Goals as goal
 
-pub loop-period-init : goal.loop-period-init
-loop-period-init g c = λ after steps. steps
+pub returns-in-Ok : goal.returns-in-Ok
+returns-in-Ok g c =
+    let begun = record c.args.work.now { desk = record c.args.work.now.desk { folder = c.unfinished.new.self } } in
+    inl (record {
+      unfinished = c.in-Ok.unfinished.items;
+      begun = begun;
+      lists = c.in-Ok.ensures.ok;
+      rest = refl;
+      takes = subst (λ names. TakesEach (views g.F.Recordings.listed g.F.Recordings.refuses g.S.Source.seen g.S.Source.failure g.O.OpenSource.opens g.O.OpenSource.sizes g.O.OpenSource.refuses g.O.OpenSource.coming g.E.WriteLines.contents g.E.WriteLines.failed g.T.TablePlace.table g.T.TablePlace.receipt g.T.TablePlace.refuses) g.T.TablePlace.path g.P.WriteLines.contents g.P.WriteLines.failed g.L.WriteLines.contents g.L.WriteLines.failed
+          c.args.round names c.args.periods.now c.take_each.result begun c.take_each.new.work) c.deref.ensures.value c.take_each.ensures;
+    })
 
-pub loop-period-preserved : goal.loop-period-preserved
-loop-period-preserved g c =
-    let split : c.loop-period.left.now ≡ c.in-Some.period.now ∷ c.in-Some.rest.now = search rules in
-    one_more (IsStep (views g.F.Recordings.listed g.F.Recordings.refuses g.S.Source.seen g.S.Source.failure g.O.OpenSource.opens g.O.OpenSource.sizes g.O.OpenSource.refuses g.O.OpenSource.coming g.E.WriteLines.contents g.E.WriteLines.failed g.T.TablePlace.table g.T.TablePlace.receipt g.T.TablePlace.refuses) g.T.TablePlace.path g.P.WriteLines.contents g.P.WriteLines.failed g.L.WriteLines.contents g.L.WriteLines.failed c.args.round)
-    c.args.periods.now c.loop-period.left.now c.in-Some.rest.now c.in-Some.period.now
-    (record { work = c.args.work.now; status = Well }) (record { work = c.loop-period.work; status = c.loop-period.status })
-    (record { work = c.take_next-ended.new.work; status = c.worse_of-status.result })
-    split c.loop-period.invariant (c.take_next-ended.result, c.take_next-ended.ensures, c.worse_of-status.ensures)
-
-pub returns : goal.returns
-returns g c =
-    let empty : length c.loop-period.left.now ≡ 0 = grind (arith, c.split_first.ensures.variant) in
-    at_end (IsStep (views g.F.Recordings.listed g.F.Recordings.refuses g.S.Source.seen g.S.Source.failure g.O.OpenSource.opens g.O.OpenSource.sizes g.O.OpenSource.refuses g.O.OpenSource.coming g.E.WriteLines.contents g.E.WriteLines.failed g.T.TablePlace.table g.T.TablePlace.receipt g.T.TablePlace.refuses) g.T.TablePlace.path g.P.WriteLines.contents g.P.WriteLines.failed g.L.WriteLines.contents g.L.WriteLines.failed c.args.round)
-    c.args.periods.now c.loop-period.left.now
-    (record { work = c.args.work.now; status = Well }) (record { work = c.loop-period.work; status = c.loop-period.status })
-    empty c.loop-period.invariant
+pub returns-in-Err : goal.returns-in-Err
+returns-in-Err g c = inr (record {
+  reason = c.in-Err.reason;
+  why = c.in-Err.ensures.reason;
+  none = c.in-Err.ensures.err;
+  rest = refl;
+  lines = c.tell_unlisted.ensures;
+  status_is = c.status_of_reason.ensures;
+})
