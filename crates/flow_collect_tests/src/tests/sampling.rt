@@ -15,6 +15,7 @@ use ipfix_wire::ElementId;
 use std::alloc::{AllocError, Global};
 use std::test::*;
 use worked_examples::flows::*;
+use worked_examples::text_of;
 
 /// An options record: domain 1 (149, its scope) has samplingInterval (34) 10.
 const ONE_OF_TEN: &[u8] = &[
@@ -78,13 +79,11 @@ fn session<'a>(
     context: SessionContext<'a>,
 ) -> Result<Vec<InContext<'a, ScriptSource>>, AllocError> {
     let mut sessions = Vec::new(alloc);
-    for source in sources_of(alloc, &[messages])? {
-        sessions.push(InContext {
-            source,
-            context,
-            filter: None,
-        })?;
-    }
+    sessions.push(InContext {
+        source: ScriptSource::new(text_of(alloc, messages)?, 16, None, None),
+        context,
+        filter: None,
+    })?;
     Ok(sessions)
 }
 
@@ -125,7 +124,7 @@ fn counters_are_scaled(rt: HostRuntime) -> Result<(), Fail> {
     let plan = plan_of(alloc, OCTETS_ESTIMATED)?;
     let messages = [ONE_FLOW, ONE_OF_TEN, NEXT_FLOW];
     let run = collect_direct(&rt, alloc, session(alloc, &messages, context)?, &plan, 1)?;
-    let sampling = &run.sessions[0].sampling;
+    let sampling = &run.sessions.first().expect(&rt, "a session").sampling;
     let rate = Some(Rate {
         selected: 1,
         population: 10,
@@ -195,8 +194,9 @@ fn rates_are_ignored(rt: HostRuntime) -> Result<(), Fail> {
         &plan,
         1,
     )?;
-    assert_eq!(rt; run.sessions[0].sampling.rates.len(), 0);
-    assert!(rt; !run.sessions[0].sampling.is_sampled);
+    let sampling = &run.sessions.first().expect(&rt, "a session").sampling;
+    assert_eq!(rt; sampling.rates.len(), 0);
+    assert!(rt; !sampling.is_sampled);
     assert!(rt; has_row(&run.table.into_table()?, 3_000, 2));
     Ok(())
 }
