@@ -26,31 +26,15 @@ const DATA: &[u8] = &[
 // A datagram with an export time, a sequence number, a domain and these sets.
 fn datagram(alloc: Global, header: (u8, u8, u8), sets: &[&[u8]]) -> Result<Vec<u8>, AllocError> {
     let (export_time, sequence, domain) = header;
-    let mut octets = Vec::from_slice(
-        alloc,
-        &[
-            0,
-            10,
-            0,
-            16,
-            0,
-            0,
-            0,
-            export_time,
-            0,
-            0,
-            0,
-            sequence,
-            0,
-            0,
-            0,
-            domain,
-        ],
-    )?;
+    let mut body = Vec::new(alloc);
+    let mut length: u8 = 16;
     for set in sets {
-        octets.extend_from_slice(set)?;
-        octets[3] = octets[3].saturating_add(12);
+        body.extend_from_slice(set)?;
+        length = length.saturating_add(12);
     }
+    let mut octets = Vec::from_slice(alloc, &[0, 10, 0, length])?;
+    octets.extend_from_slice(&[0, 0, 0, export_time, 0, 0, 0, sequence, 0, 0, 0, domain])?;
+    octets.extend_from_slice(&body)?;
     Ok(octets)
 }
 
