@@ -99,8 +99,9 @@ pub const FINISH: CommandWords = CommandWords {
 
 pub const TABLES: CommandWords = CommandWords {
     about: "Makes the tables of the finished periods of a folder of recordings that have none yet",
-    example: "A table is TABLES/PLAN/YYYY-MM-DD/HHMMSS.csv, the beginning of its period in UTC, where PLAN is the name of\n\
-        the plan's file without .toml. Its receipt stands beside it. A period that has a further file is made again.\n\n\
+    example: "A table is TABLES/PLAN/YYYY-MM-DD/HHMMSS.ipfix, the beginning of its period in UTC, and the same as .csv, or as\n\
+        .json by --format; with --format ipfix only that. PLAN is the name of the plan's file without .toml. Beside each\n\
+        stands its receipt. A period that has a further file is made again.\n\n\
         Example:\n  collectd tables --from recordings --into tables --plan plan.toml",
     shared: &[],
     own: &[

@@ -6,11 +6,12 @@ ghost use Rattle.period_rounds.specs.Rounds.{first_taken};
 ghost use Rattle.period_rounds.specs.Telling.{reason_status};
 
 use crate::opening::{check_engine, name_plans, open_tables};
-use crate::plans::{PlanWork, TablesWork, keep_plans, open_plans, read_plans};
+use crate::plans::{PlanTexts, PlanWork, TablesWork, keep_plans, open_plans, read_plans};
 use crate::removing::remove_old;
 use cli_inputs::TablesArguments;
 use command_collect::Engine;
 use period_rounds::{Round, Rounds, status_of_reason, take_periods, tell_unlisted, worse_of};
+use period_texts::take_text_of;
 use recording_folder::second_now;
 use recording_names::Period;
 use recording_periods::PeriodRule;
@@ -121,6 +122,9 @@ fn take_round<R: Clock + Threads + Wait + Sync>(
     let mut takes_all = false;
     for (place, plan) in plans.iter_mut().enumerate() {
         plan.work.rounds.begin(now);
+        if let Some(texts) = &mut plan.texts {
+            texts.texts.rounds.begin(now);
+        }
         takes_all = plan.work.rounds.takes_all();
         let round = Round {
             alloc: run.rt.alloc(),
@@ -131,7 +135,7 @@ fn take_round<R: Clock + Threads + Wait + Sync>(
             // (what all plans wait for is told once)
             tells_waiting: place == 0 && plan.work.rounds.tells_waiting(),
         };
-        status = worse_of(status, take_plan(threads, run, &mut plan.work, round));
+        status = worse_of(status, take_plan(threads, run, plan, round));
     }
     if let Some(keep) = run.keep {
         if takes_all {
@@ -144,13 +148,14 @@ fn take_round<R: Clock + Threads + Wait + Sync>(
     status
 }
 
-// Takes the periods of a plan, as far as this round takes them.
+// Takes the periods of a plan, as far as this round takes them, and then their texts.
 fn take_plan<R: Clock + Threads + Wait + Sync>(
     threads: &R,
     run: TablesRun,
-    work: &mut TablesWork,
+    plan: &mut PlanWork,
     round: Round,
 ) -> Status {
+    let work = &mut plan.work;
     let days = match days_in(run.rt, run.from) {
         Ok(days) => days,
         Err(error) => return tell_recordings(work, round, Reason::of(&error)),
@@ -162,7 +167,26 @@ fn take_plan<R: Clock + Threads + Wait + Sync>(
             status = worse_of(status, tell_recordings(work, round, Reason::of(&error)));
         }
     }
-    worse_of(status, take_periods(threads, work, round, &periods))
+    status = worse_of(status, take_periods(threads, work, round, &periods));
+    match &mut plan.texts {
+        Some(texts) => worse_of(status, take_texts(work, texts, round, &periods)),
+        None => status,
+    }
+}
+
+// Takes the texts of these periods.
+fn take_texts<'a>(
+    work: &mut TablesWork<'a>,
+    made: &mut PlanTexts<'a>,
+    round: Round,
+    periods: &[Period],
+) -> Status {
+    let mut status = Status::Well;
+    for period in periods {
+        let ended = take_text_of(&made.job, work, &mut made.texts, round, *period);
+        status = worse_of(status, ended);
+    }
+    status
 }
 
 // Adds the periods of a day.

@@ -3,20 +3,24 @@
 ghost use Rattle.std.specs.Prelude.{◌≡◌, IfErr, IfOk, map};
 ghost use Rattle.std.specs.List.{AllZip};
 ghost use Rattle.period_rounds.specs.Rounds.{AreNew};
-ghost use Rattle.command_tables.specs.Plans.{IsWorkOf};
+ghost use Rattle.command_tables.specs.Plans.{AreTextsOf, IsWorkOf};
 
 use crate::opening::{NamedPlan, ending_of, tell_plan};
-use cli_inputs::{PlanMade, TablesArguments, collect_job, load_plan_made};
+use cli_inputs::{PlanMade, TableArguments, TablesArguments, collect_job, load_plan_made};
 use command_collect::Engine;
+use flow_export::Format;
 use input_sources::{FileInTurn, FilesInTurn};
 use ipfix_session::FromReader;
+use output_tables::Output;
 use period_collect::{PeriodJob, TableMaker};
 use period_rounds::{Rounds, Work};
 use period_tables::Desk;
+use period_texts::{TextJob, Texts};
 use recording_folder::Folder;
 use report_writing::{CheckedWriter, Status};
 use std::io::{Stderr, Stdout};
 use std::marker::PhantomData;
+use table_parts::PlanAtHand;
 use tables_folder::{PlanTables, RecordingsFolder};
 
 /// A plan that was read, with its maps.
@@ -36,11 +40,19 @@ pub(crate) type TablesWork<'a> = Work<
     CheckedWriter<Stderr>,
 >;
 
-/// A plan by its name, and the work on its tables.
+/// A plan by its name, the work on its tables in IPFIX, and that on their texts in another format, if there are to be any.
 #[derive(Drop)]
 pub(crate) struct PlanWork<'a> {
     pub name: &'a str,
     pub work: TablesWork<'a>,
+    pub texts: Option<PlanTexts<'a>>,
+}
+
+/// The texts of a plan's tables, and how they are made.
+#[derive(Drop)]
+pub(crate) struct PlanTexts<'a> {
+    pub job: TextJob<'a>,
+    pub texts: Texts<PlanTables<'a>>,
 }
 
 /// Reads each of these plans. If one can't be, `err` has a line.
@@ -73,7 +85,8 @@ pub(crate) fn open_plans<'a>(
     read: &'a [ReadPlan<'a>],
     err: &mut Stderr,
 ) -> Result<Vec<PlanWork<'a>>, Status>
-    ensures { IfOk result (λ plans. AllZip IsWorkOf read.now plans.items) }
+    ensures { IfOk result (λ plans.
+        AllZip (λ read plan. IsWorkOf read arguments.now.output plan) read.now plans.items) }
 {
     let mut plans = Vec::new(rt.alloc());
     for plan in read {
@@ -93,17 +106,14 @@ fn open_plan<'a>(
     plan: &'a ReadPlan<'a>,
     err: &mut Stderr,
 ) -> Result<PlanWork<'a>, Status>
-    ensures ok { IfOk result (IsWorkOf plan.now) }
+    ensures ok { IfOk result (IsWorkOf plan.now arguments.now.output) }
     ensures err { IfErr result (λ status. status ≡ Status.NotOpened) }
 {
     let NamedPlan { path, name } = plan.named;
     let PlanMade { loaded, maps, made } = &plan.made;
-    let ending = ending_of(arguments.output.format);
-    let tables = match PlanTables::open(rt, folder, name, made.plan.as_str(), ending) {
-        Ok(tables) => tables,
-        Err(fault) => return Err(tell_plan(arguments.into, name, &fault, err)),
-    };
-    let table = arguments.table(path);
+    let tables = open_named(rt, arguments.into, folder, plan, Format::Ipfix, err)?;
+    let texts = open_texts(rt, arguments, folder, plan, err)?;
+    let table = as_ipfix(&arguments.table(path));
     let job = PeriodJob {
         recordings: arguments.from,
         collect: collect_job(loaded, maps.as_ref(), &table, engine, &[]),
@@ -112,7 +122,77 @@ fn open_plan<'a>(
     Ok(PlanWork {
         name,
         work: work_of(rt, job, tables),
+        texts,
     })
+}
+
+// What is told of tables, but that they are written as IPFIX.
+fn as_ipfix<'m, 'w>(table: &TableArguments<'m, 'w>) -> TableArguments<'m, 'w>
+    ensures { result ≡ record table.now
+        { output = record table.now.output { format = Format.Ipfix } } }
+{
+    let output = Output {
+        format: Format::Ipfix,
+        ..table.output
+    };
+    TableArguments { output, ..*table }
+}
+
+// The tables of a plan in this format. If there are some of another plan, or none can be put, `err` has a line.
+fn open_named<'a>(
+    rt: &'a HostRuntime,
+    into: &str,
+    folder: &'a Folder,
+    plan: &'a ReadPlan<'a>,
+    format: Format,
+    err: &mut Stderr,
+) -> Result<PlanTables<'a>, Status>
+    ensures err { IfErr result (λ status. status ≡ Status.NotOpened) }
+{
+    let name = plan.named.name;
+    match PlanTables::open(
+        rt,
+        folder,
+        name,
+        plan.made.made.plan.as_str(),
+        ending_of(format),
+    ) {
+        Ok(tables) => Ok(tables),
+        Err(fault) => Err(tell_plan(into, name, &fault, err)),
+    }
+}
+
+// The texts of a plan's tables, unless they are written as IPFIX only.
+fn open_texts<'a>(
+    rt: &'a HostRuntime,
+    arguments: &TablesArguments<'_, 'a>,
+    folder: &'a Folder,
+    plan: &'a ReadPlan<'a>,
+    err: &mut Stderr,
+) -> Result<Option<PlanTexts<'a>>, Status>
+    ensures ok { IfOk result (AreTextsOf plan.now arguments.now.output) }
+    ensures err { IfErr result (λ status. status ≡ Status.NotOpened) }
+{
+    let format = arguments.output.format;
+    if let Format::Ipfix = format {
+        return Ok(None);
+    }
+    let place = open_named(rt, arguments.into, folder, plan, format, err)?;
+    let PlanMade { loaded, made, .. } = &plan.made;
+    let job = TextJob {
+        elements: &loaded.elements,
+        plan: &loaded.read.plan,
+        at_hand: PlanAtHand {
+            text: made.plan.as_str(),
+            elements: &made.elements,
+            maps: &made.maps,
+        },
+        output: arguments.output,
+        collectd: made.collectd.as_str(),
+    };
+    let rounds = Rounds::new(rt.alloc());
+    let texts = Texts { place, rounds };
+    Ok(Some(PlanTexts { job, texts }))
 }
 
 // What a run with this job works with.

@@ -8,5 +8,8 @@ mod telling;
 
 pub use periods::take_periods;
 pub use rounds::Rounds;
-pub use taking::{Round, Work};
-pub use telling::{status_of_reason, tell_removal, tell_unlisted, worse_of};
+pub use taking::{Round, Work, label_of};
+pub use telling::{
+    status_of_reason, tell_removal, tell_unlisted, words_of_unread, worse_of, write_path,
+    write_period,
+};

@@ -82,14 +82,14 @@ impl Rounds {
     }
 
     /// Whether a period isn't looked at in this round.
-    pub(crate) fn has_settled(&self, period: Period) -> bool
+    pub fn has_settled(&self, period: Period) -> bool
         ensures { result ≡ is_settled self.now period.begins }
     {
         self.settled.contains(&period.begins)
     }
 
     /// A period isn't looked at again before the next round over all days, unless memory runs out for that.
-    pub(crate) fn settle(&mut self, period: Period)
+    pub fn settle(&mut self, period: Period)
         ensures { SettlesAtMost period.begins self.old self.new }
     {
         let _ = self.settled.insert(period.begins);

@@ -113,8 +113,8 @@ pub(crate) fn take_and_tell<
     }
 }
 
-// What lines call the table of the period of this name.
-fn label_of(alloc: Global, plan: Option<&str>, name: &String) -> Result<String, AllocError>
+/// What lines call the table of the period of this name.
+pub fn label_of(alloc: Global, plan: Option<&str>, name: &String) -> Result<String, AllocError>
     ensures { IfOk result (λ label. string_bytes label ≡ label_text plan.entry (string_bytes name.now)) }
 {
     match plan {

@@ -55,7 +55,8 @@ fn write_outcome<E: WriteLines>(
     }
 }
 
-fn words_of_unread(reason: Reason) -> &'static str
+/// Why a period can't be read, in words.
+pub fn words_of_unread(reason: Reason) -> &'static str
     ensures { result.now ≡ unread_words reason }
 {
     match reason {
@@ -64,8 +65,14 @@ fn words_of_unread(reason: Reason) -> &'static str
     }
 }
 
+/// Writes a line about a period, with the name of what it is about, or why.
 #[tactic(auto, unfolding(crate::specs::Telling::period_line))]
-fn write_period<E: WriteLines>(period: &str, what: &str, name: &str, err: &mut E) -> io::Result<()>
+pub fn write_period<E: WriteLines>(
+    period: &str,
+    what: &str,
+    name: &str,
+    err: &mut E,
+) -> io::Result<()>
     ensures { Tells E.contents E.failed err.old err.new result
         (period_line period.now what.now name.now) }
 {
@@ -88,9 +95,9 @@ pub(crate) fn write_paths<O: WriteLines>(path: &str, outcome: &Outcome, out: &mu
     }
 }
 
-// Writes the path of a table.
+/// Writes the path of a table.
 #[tactic(auto, unfolding(crate::specs::Telling::path_line))]
-fn write_path<O: WriteLines>(path: &str, out: &mut O) -> io::Result<()>
+pub fn write_path<O: WriteLines>(path: &str, out: &mut O) -> io::Result<()>
     ensures { Tells O.contents O.failed out.old out.new result (path_line path.now) }
 {
     writeln!(out, "{path}")

@@ -7,6 +7,7 @@ use std::alloc::AllocError;
 /// A place of tables and their receipts, by their periods.
 pub trait TablePlace {
     ghost use Rattle.std.specs.Prelude.{◌≡◌, ◌⊎◌, ℕ, List, Option, IfErr, IfOk, OnErr, OnOk, string_bytes};
+    ghost use Rattle.std.specs.Option.{option_map};
     ghost use Rattle.report_writing.specs.declared.reason.Reason.{Reason};
     ghost use Rattle.period_tables.specs.Standing.{IsKeptAt, IsKeptBeside, IsPutAt, NamesFiles};
 
@@ -32,6 +33,16 @@ pub trait TablePlace {
         ensures ok { IfOk result (NamesFiles (receipt self.old period.begins)) }
         ensures kept { self.new ≡ self.old }
         ensures reason { IfErr result (refuses self.new period.begins) };
+
+    /// The text of the receipt of a period, if it has one.
+    fn standing_receipt(&self, period: Period) -> Result<Option<Vec<u8>>, Reason>
+        ensures ok { IfOk result (λ text. receipt self.now period.begins (option_map (λ v. v.items) text)) }
+        ensures reason { IfErr result (refuses self.now period.begins) };
+
+    /// The text of the table of a period.
+    fn standing_table(&self, period: Period) -> Result<Vec<u8>, Reason>
+        ensures ok { IfOk result (λ text. table self.now period.begins text.items) }
+        ensures reason { IfErr result (refuses self.now period.begins) };
 
     /// Puts the table of a period and its receipt. After an `Err` either both stand, or both are as they were.
     fn put(&mut self, period: Period, text: &[u8], receipt_text: &[u8]) -> Result<(), Reason>

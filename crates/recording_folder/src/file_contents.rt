@@ -15,8 +15,8 @@ use std::io::{self, ErrorKind, Read};
 pub struct FileContents {
     /// How many of its octets are whole messages, one after another from its front.
     pub whole: u64,
-    /// What its messages give, up to the first that has a fault. The recorder's own are counted, too: preambles, withdrawals,
-    /// and templates that are defined again.
+    /// What its messages give, up to the first that has a fault. The recorder's own are counted, too: options records that are
+    /// said again, preambles, withdrawals, and templates that are defined again.
     pub report: FileReport,
     /// What a session that goes on needs: the templates that are in force at its end, and the last message of each domain.
     pub session: EarlierSession,

@@ -118,6 +118,12 @@ impl<'r> PlanTables<'r> {
         }
     }
 
+    // The octets of the table of a period.
+    fn table_octets(&self, period: Period) -> io::Result<Vec<u8>> {
+        let path = self.table_path(period)?;
+        fs::read(self.rt, path.as_str())
+    }
+
     // Ends what a run that stopped began for a period: if the next receipt is that of the table that is there, it becomes the
     // receipt, and otherwise it is removed.
     fn settle(&self, period: Period) -> io::Result<()> {
@@ -217,6 +223,21 @@ impl<'r> TablePlace for PlanTables<'r> {
         match files_in_receipt(self.rt.alloc(), text.as_str(), self.plan) {
             Ok(paths) => Ok(Some(paths)),
             Err(reason) => Err(reason),
+        }
+    }
+
+    fn standing_receipt(&self, period: Period) -> Result<Option<Vec<u8>>, Reason> {
+        match self.receipt_text(period) {
+            Ok(Some(text)) => Ok(Some(text.into_bytes())),
+            Ok(None) => Ok(None),
+            Err(error) => Err(reason_of_unread(&error)),
+        }
+    }
+
+    fn standing_table(&self, period: Period) -> Result<Vec<u8>, Reason> {
+        match self.table_octets(period) {
+            Ok(octets) => Ok(octets),
+            Err(error) => Err(Reason::of(&error)),
         }
     }
 

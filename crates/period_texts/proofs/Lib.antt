@@ -1,0 +1,2 @@
+pub mod TextsAdded
+pub mod TablesIn

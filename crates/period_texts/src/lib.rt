@@ -1,0 +1,18 @@
+//! The text of a period's table in another format than IPFIX, made of the table in IPFIX and its receipt that stand, as `merge
+//! --receipts` makes it of one part.
+#![tactic(auto)]
+
+mod at_hand;
+mod fault;
+mod job;
+mod making;
+mod merged;
+mod periods;
+mod receipts;
+mod taking;
+mod telling;
+
+pub use fault::TextFault;
+pub use job::TextJob;
+pub use periods::{Texts, take_text_of};
+pub use taking::{TextOutcome, take_text};
