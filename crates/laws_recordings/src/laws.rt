@@ -20,8 +20,7 @@ pub fn recordings_give_all_records()
         (filter is_flow (flat_map records_of texts)) }
     ensures table { (plan : PlanValue) (table : Table) (texts files : List (List ℕ))
         → AreRecordedIn texts files → IsTable plan (flat_map records_of files) table
-        → IsTable plan (flat_map records_of texts)
-        (with_options plan (flat_map records_of texts) table) }
+        → let came = flat_map records_of texts in IsTable plan came (with_options plan came table) }
 {}
 
 /// If a table is made of the files of each period, and its export is what a source holds, then the merged
