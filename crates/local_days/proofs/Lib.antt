@@ -1,2 +1,3 @@
 pub mod Starts
 pub mod Rising
+pub mod OneDay

@@ -1,7 +1,7 @@
 //! Borders by rules of time zones in the form of POSIX, with values by `date -u` and by hand.
 
 use jiff::tz::TimeZone;
-use local_days::{LocalInterval, local_borders};
+use local_days::{LocalInterval, day_at, local_borders};
 use std::alloc::Global;
 
 /// The rules of Europe/Zurich, where the clock is set at 02:00 and 03:00.
@@ -94,5 +94,28 @@ fn all_days_and_months_have_borders(rt: HostRuntime) {
         ),
     ] {
         assert_eq!(rt; ends_of(rt.alloc(), interval, rule), Some(ends));
+    }
+}
+
+// In Zurich 2025-10-26 has the hour from 02:00 twice; in Havana the clock shows 1969 as 1970 begins in UTC.
+#[test]
+fn seconds_are_in_the_day_and_month_that_the_clock_shows(rt: HostRuntime) {
+    for (interval, rule, second, day) in [
+        (LocalInterval::Day, ZURICH, 1_761_429_599, 20_386),
+        (LocalInterval::Day, ZURICH, 1_761_429_600, 20_387),
+        (LocalInterval::Day, ZURICH, 1_761_438_600, 20_387),
+        (LocalInterval::Day, ZURICH, 1_761_442_200, 20_387),
+        (LocalInterval::Day, ZURICH, 1_761_519_599, 20_387),
+        (LocalInterval::Day, ZURICH, 1_761_519_600, 20_388),
+        (LocalInterval::Month, ZURICH, 1_761_951_599, 20_362),
+        (LocalInterval::Month, ZURICH, 1_761_951_600, 20_393),
+        (LocalInterval::Day, UTC, 86_399, 0),
+        (LocalInterval::Day, HAVANA, 0, 0),
+        (LocalInterval::Month, HAVANA, 0, 0),
+        (LocalInterval::Day, UTC, u64::MAX, 2_932_895),
+    ] {
+        let zone = TimeZone::posix(rule).ok();
+        let found = zone.map(|zone| day_at(interval, zone, second));
+        assert_eq!(rt; found, Some(day));
     }
 }
