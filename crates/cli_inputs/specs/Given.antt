@@ -112,6 +112,7 @@ module _ (chosen : Chosen) where
     pub workers : IsNumberGiven chosen (codes "workers") (Some told.workers)
     pub every : IsNumberGiven chosen (codes "every") (Some told.every)
     pub grace : IsNumberGiven chosen (codes "grace") (Some told.grace)
+    pub days : option_map (λ zone. zone.now) told.days ≡ text_given chosen (codes "days")
     pub keep_days : IsNumberGiven chosen (codes "keep-recordings") told.keep_days
     pub follow : IsFlagGiven chosen (codes "follow") told.follow
 

@@ -22,6 +22,11 @@ pub record AreOfZone (interval : LocalInterval) (name borders : List ℕ) : Type
   pub named : IsZoneNamed rules name zone
   pub are : AreBorders interval zone borders
 
+-- a zone whose rules are those under the name, and UTC if that is named, in any letter case
+pub record IsZoneOf (rules : TimeZoneDatabase) (name : List ℕ) (zone : TimeZone) : Type 0 where
+  pub utc : lower name ≡ codes "utc" → zone ≡ UTC
+  pub named : IsZoneNamed rules name zone
+
 -- there are borders exactly if local intervals were asked for, and then those of these
 abbrev pub AreBordersFor : Option LocalInterval → List ℕ → Option (List ℕ) → Type 0
 AreBordersFor None name None = Unit {0}

@@ -6,7 +6,7 @@ ghost use Rattle.cli_words.specs.Arguments.{OneNumber, reading_of};
 
 use crate::formats::{dump_form, merge_interval, table_format};
 use cli_words::{
-    AGAIN, Argument, BUFFER, Chosen, DIRECT, DUMP_FORMAT, ELEMENTS, EVERY, EXPORTER, FAULT,
+    AGAIN, Argument, BUFFER, Chosen, DAYS, DIRECT, DUMP_FORMAT, ELEMENTS, EVERY, EXPORTER, FAULT,
     FILES_FROM, FLOW_FILES, FOLDER, FOLLOW, FROM, GRACE, IDLE, INCOMPLETE, INTO, KEEP_RECORDINGS,
     LISTEN, MERGE_INTO, PEERS, PERIODS_FROM, PLAN, PLANS, PROGRESS, RECEIPT, RECEIPT_FILE,
     RECEIPT_OF, RECEIPTS, RECORD_IDLE, RECORD_LISTEN, RECORD_SESSIONS, RECORD_VERBOSE,
@@ -149,6 +149,8 @@ pub struct TablesArguments<'m, 'w> {
     /// How many seconds a period has, and for how many after its end it is left alone.
     pub every: u64,
     pub grace: u64,
+    /// The name of the time zone whose days and months have tables, too, if there is one.
+    pub days: Option<&'w str>,
     /// For how many days from its begin on the recordings of a period are kept, if not for ever.
     pub keep_days: Option<u32>,
     /// Whether it goes on for ever.
@@ -382,6 +384,7 @@ fn read_tables<'m, 'w>(chosen: Chosen<'m, 'w>) -> Option<TablesArguments<'m, 'w>
         workers: workers as usize,
         every: u64::from(every),
         grace: u64::from(grace),
+        days: chosen.text(DAYS),
         keep_days: chosen.number(KEEP_RECORDINGS),
         follow: chosen.is_given(FOLLOW),
     })

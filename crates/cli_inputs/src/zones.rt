@@ -1,9 +1,10 @@
 //! The days and months of the system's time zones.
 
-ghost use Rattle.std.specs.Prelude.{◌≡◌, IfOk, option_map};
+ghost use Rattle.std.specs.Prelude.{◌≡◌, IfErr, IfOk, option_map};
 ghost use Rattle.std.specs.Option.{ForSome};
 ghost use Rattle.flow_merge.specs.RowRecords.{AreOrdered};
-ghost use Rattle.cli_inputs.specs.Zones.{AreBordersFor, AreOfZone, zone_name as name_of};
+ghost use Rattle.cli_inputs.specs.Zones.{AreBordersFor, AreOfZone, IsZoneOf, zone_name as name_of};
+ghost use Rattle.jiff.specs.ZoneView.{plain_database, plain_zone};
 
 use input_files::ReadText;
 use jiff::tz::{TimeZone, TimeZoneDatabase};
@@ -66,16 +67,51 @@ fn borders_in(
         return Err(without_memory(err));
     };
     let Ok(zone) = zones.get(name) else {
-        let _ = writeln!(
-            err,
-            "error: --zone '{name}' is no time zone of {ZONE_FOLDER}"
-        );
-        return Err(Status::NotOpened);
+        return Err(no_zone("zone", name, err));
     };
     match local_borders(rt.alloc(), interval, zone) {
         Ok(borders) => Ok(borders),
         Err(_) => Err(without_memory(err)),
     }
+}
+
+/// The zones whose rules are known: UTC, and the zone of this name, if one is named and the system has its rules.
+pub fn known_zones(
+    rt: &HostRuntime,
+    name: Option<&str>,
+    err: &mut Stderr,
+) -> Result<TimeZoneDatabase, Status> {
+    match zones_with(rt, rt.alloc(), zone_name(name)) {
+        Ok(zones) => Ok(zones),
+        Err(AllocError) => Err(without_memory(err)),
+    }
+}
+
+/// Of these zones the one whose days and months are to have tables. If none has this name, `err` has a line.
+pub fn zone_of_days<'z>(
+    zones: &'z TimeZoneDatabase,
+    name: &str,
+    err: &mut Stderr,
+) -> Result<TimeZone<'z>, Status>
+    ensures zone { IfOk result (λ zone.
+        IsZoneOf (plain_database zones.now) name.now (plain_zone zone)) }
+    ensures err { IfErr result (λ status. status ≡ Status.NotOpened) }
+{
+    match zones.get(name) {
+        Ok(zone) => Ok(zone),
+        Err(_) => Err(no_zone("days", name, err)),
+    }
+}
+
+// The zone that an option of this word names is none.
+fn no_zone(word: &str, name: &str, err: &mut Stderr) -> Status
+    ensures { result ≡ Status.NotOpened }
+{
+    let _ = writeln!(
+        err,
+        "error: --{word} '{name}' is no time zone of {ZONE_FOLDER}"
+    );
+    Status::NotOpened
 }
 
 // There was no memory for borders.

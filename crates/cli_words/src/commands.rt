@@ -12,7 +12,7 @@ use crate::options::{
     TABLE, TABLE_FORMAT, TIME, VERBOSE, WORKERS, ZONE,
 };
 use crate::period_options::{
-    FOLLOW, GRACE, KEEP_RECORDINGS, PERIODS_FROM, PLANS, RECORDED_EVERY, TABLES_INTO,
+    DAYS, FOLLOW, GRACE, KEEP_RECORDINGS, PERIODS_FROM, PLANS, RECORDED_EVERY, TABLES_INTO,
 };
 
 /// A command.
@@ -101,7 +101,8 @@ pub const TABLES: CommandWords = CommandWords {
     about: "Makes the tables of the finished periods of a folder of recordings that have none yet",
     example: "A table is TABLES/PLAN/YYYY-MM-DD/HHMMSS.ipfix, the beginning of its period in UTC, and the same as .csv, or as\n\
         .json by --format; with --format ipfix only that. PLAN is the name of the plan's file without .toml. Beside each\n\
-        stands its receipt. A period that has a further file is made again.\n\n\
+        stands its receipt. A period that has a further file is made again. With --days the same is in TABLES/PLAN/days and\n\
+        TABLES/PLAN/months, as YYYY-MM-DD and YYYY-MM, merged of the tables of the periods that begin there.\n\n\
         Example:\n  collectd tables --from recordings --into tables --plan plan.toml",
     shared: &[],
     own: &[
@@ -114,6 +115,7 @@ pub const TABLES: CommandWords = CommandWords {
         TIME,
         RECORDED_EVERY,
         GRACE,
+        DAYS,
         KEEP_RECORDINGS,
         FOLLOW,
         VERBOSE,

@@ -27,7 +27,7 @@ pub use options::{
     WORKERS, ZONE,
 };
 pub use period_options::{
-    FOLLOW, GRACE, KEEP_RECORDINGS, PERIODS_FROM, PLANS, RECORDED_EVERY, TABLES_INTO,
+    DAYS, FOLLOW, GRACE, KEEP_RECORDINGS, PERIODS_FROM, PLANS, RECORDED_EVERY, TABLES_INTO,
 };
 pub use showing::show;
 pub use subcommands::Subcommand;

@@ -57,3 +57,11 @@ pub const KEEP_RECORDINGS: Argument = Argument {
     due: Due::Never,
     help: "Remove the recordings of each period that began so many days ago and has its table of exactly its files",
 };
+
+/// Whose local days and months have tables, too.
+pub const DAYS: Argument = Argument {
+    word: "days",
+    takes: Takes::Text("ZONE"),
+    due: Due::Never,
+    help: "Merge the tables of each local day and month of this time zone, too, as Europe/Zurich",
+};

@@ -6,10 +6,11 @@ ghost use Rattle.period_rounds.specs.Rounds.{first_taken};
 ghost use Rattle.period_rounds.specs.Telling.{reason_status};
 
 use crate::opening::{check_engine, name_plans, open_tables};
-use crate::plans::{PlanTexts, PlanWork, TablesWork, keep_plans, open_plans, read_plans};
+use crate::plans::{PlanDays, PlanTexts, PlanWork, TablesWork, keep_plans, open_plans, read_plans};
 use crate::removing::remove_old;
-use cli_inputs::TablesArguments;
+use cli_inputs::{TablesArguments, known_zones, zone_of_days};
 use command_collect::Engine;
+use period_days::{days_of, place_periods, take_day_of, take_day_text};
 use period_rounds::{Round, Rounds, status_of_reason, take_periods, tell_unlisted, worse_of};
 use period_texts::take_text_of;
 use recording_folder::second_now;
@@ -27,8 +28,9 @@ use tables_folder::{days_in, periods_in};
 #[derive(Clone, Copy)]
 pub(crate) struct TablesRun<'a> {
     pub rt: &'a HostRuntime,
-    /// The path of the folder of recordings.
+    /// The paths of the folders of recordings and of tables.
     pub from: &'a str,
+    pub into: &'a str,
     pub rule: PeriodRule,
     /// For how many seconds from its begin on the recordings of a period are kept, if not for ever.
     pub keep: Option<u64>,
@@ -47,9 +49,14 @@ pub fn tables<R: Clock + Threads + Wait + Sync>(
     let engine = Engine::Lots(arguments.workers);
     check_engine(engine, &mut err)?;
     let named = name_plans(rt.alloc(), arguments.plans, &mut err)?;
+    let zones = known_zones(rt, arguments.days, &mut err)?;
+    let zone = match arguments.days {
+        Some(name) => Some(zone_of_days(&zones, name, &mut err)?),
+        None => None,
+    };
     let read = read_plans(rt, arguments, &named, &mut err)?;
     let folder = open_tables(rt, arguments.into, &mut err)?;
-    let mut plans = open_plans(rt, arguments, engine, &folder, &read, &mut err)?;
+    let mut plans = open_plans(rt, arguments, engine, &folder, &read, zone, &mut err)?;
     keep_plans(arguments.into, &plans, &mut err)?;
     let run = run_of(rt, arguments);
     Ok(if arguments.follow {
@@ -62,6 +69,7 @@ pub fn tables<R: Clock + Threads + Wait + Sync>(
 // A run of the command with what it is given.
 fn run_of<'a>(rt: &'a HostRuntime, arguments: &TablesArguments<'_, 'a>) -> TablesRun<'a>
     ensures from { result.from ≡ arguments.now.from }
+    ensures into { result.into ≡ arguments.now.into }
     ensures every { result.rule.every ≡ arguments.now.every }
     ensures grace { result.rule.grace ≡ arguments.now.grace }
     ensures keep { result.keep ≡ option_map (λ days. days * 86_400) arguments.now.keep_days }
@@ -69,6 +77,7 @@ fn run_of<'a>(rt: &'a HostRuntime, arguments: &TablesArguments<'_, 'a>) -> Table
     TablesRun {
         rt,
         from: arguments.from,
+        into: arguments.into,
         rule: PeriodRule {
             every: arguments.every,
             grace: arguments.grace,
@@ -148,7 +157,7 @@ fn take_round<R: Clock + Threads + Wait + Sync>(
     status
 }
 
-// Takes the periods of a plan, as far as this round takes them, and then their texts.
+// Takes the periods of a plan, as far as this round takes them, then their texts, and, if it takes all, the days and months.
 fn take_plan<R: Clock + Threads + Wait + Sync>(
     threads: &R,
     run: TablesRun,
@@ -156,22 +165,65 @@ fn take_plan<R: Clock + Threads + Wait + Sync>(
     round: Round,
 ) -> Status {
     let work = &mut plan.work;
+    let tells = round.tells_waiting;
     let days = match days_in(run.rt, run.from) {
         Ok(days) => days,
-        Err(error) => return tell_recordings(work, round, Reason::of(&error)),
+        Err(error) => return tell_folder(work, run.from, tells, Reason::of(&error)),
     };
     let mut status = Status::Well;
     let mut periods = Vec::new(run.rt.alloc());
     for day in days_taken(&work.rounds, &days) {
         if let Err(error) = add_periods(run, day.as_str(), &mut periods) {
-            status = worse_of(status, tell_recordings(work, round, Reason::of(&error)));
+            status = worse_of(
+                status,
+                tell_folder(work, run.from, tells, Reason::of(&error)),
+            );
         }
     }
     status = worse_of(status, take_periods(threads, work, round, &periods));
-    match &mut plan.texts {
-        Some(texts) => worse_of(status, take_texts(work, texts, round, &periods)),
-        None => status,
+    if let Some(texts) = &mut plan.texts {
+        status = worse_of(status, take_texts(work, texts, round, &periods));
     }
+    if work.rounds.takes_all()
+        && let Some(local) = &mut plan.local
+    {
+        status = worse_of(status, take_days(run, work, &mut local.days, round));
+        status = worse_of(status, take_days(run, work, &mut local.months, round));
+    }
+    status
+}
+
+// Takes the days, or the months, of all periods that have a table, and their texts.
+fn take_days<'a>(
+    run: TablesRun,
+    work: &mut TablesWork<'a>,
+    made: &mut PlanDays<'a>,
+    round: Round,
+) -> Status {
+    let periods = match work.desk.tables.periods() {
+        Ok(periods) => periods,
+        Err(error) => return tell_folder(work, run.into, true, Reason::of(&error)),
+    };
+    let Ok(placed) = place_periods(round.alloc, &made.tables.calendar, &periods) else {
+        return Status::Failed;
+    };
+    let Ok(days) = days_of(round.alloc, &placed) else {
+        return Status::Failed;
+    };
+    let mut status = Status::Well;
+    for day in &days {
+        status = worse_of(
+            status,
+            take_day_of(work, &mut made.tables, round, &placed, *day),
+        );
+        if let Some(texts) = &mut made.texts {
+            status = worse_of(
+                status,
+                take_day_text(work, &made.tables, texts, round, *day),
+            );
+        }
+    }
+    status
 }
 
 // Takes the texts of these periods.
@@ -204,10 +256,10 @@ fn days_taken<'d>(rounds: &Rounds, days: &'d [String]) -> &'d [String]
     &days[rounds.first_day(days.len())..]
 }
 
-// Writes why the recordings can't be listed, and answers how the command ends by it.
-fn tell_recordings(work: &mut TablesWork, round: Round, reason: Reason) -> Status
+// Writes why a folder can't be listed, if it is time for that, and answers how the command ends by it.
+fn tell_folder(work: &mut TablesWork, path: &str, tells: bool, reason: Reason) -> Status
     ensures { result ≡ reason_status reason }
 {
-    tell_unlisted(round.from, reason, round.tells_waiting, &mut work.err);
+    tell_unlisted(path, reason, tells, &mut work.err);
     status_of_reason(reason)
 }

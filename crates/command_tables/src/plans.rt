@@ -2,8 +2,10 @@
 
 ghost use Rattle.std.specs.Prelude.{◌≡◌, IfErr, IfOk, map};
 ghost use Rattle.std.specs.List.{AllZip};
+ghost use Rattle.cli_inputs.specs.Formats.{format_word};
 ghost use Rattle.period_rounds.specs.Rounds.{AreNew};
-ghost use Rattle.command_tables.specs.Plans.{AreTextsOf, IsWorkOf};
+ghost use Rattle.tables_folder.specs.PlanPlaces.{HasTablesOf};
+ghost use Rattle.command_tables.specs.Plans.{AreDayTextsOf, AreLocalOf, AreTextsOf, IsDaysOf, IsTextJob, IsWorkOf, tables_of as tables_for};
 
 use crate::opening::{NamedPlan, ending_of, tell_plan};
 use cli_inputs::{PlanMade, TableArguments, TablesArguments, collect_job, load_plan_made};
@@ -11,8 +13,11 @@ use command_collect::Engine;
 use flow_export::Format;
 use input_sources::{FileInTurn, FilesInTurn};
 use ipfix_session::FromReader;
+use jiff::tz::TimeZone;
+use local_days::LocalInterval;
 use output_tables::Output;
 use period_collect::{PeriodJob, TableMaker};
+use period_days::{Calendar, DayJob, DayTables, DayTexts};
 use period_rounds::{Rounds, Work};
 use period_tables::Desk;
 use period_texts::{TextJob, Texts};
@@ -21,7 +26,7 @@ use report_writing::{CheckedWriter, Status};
 use std::io::{Stderr, Stdout};
 use std::marker::PhantomData;
 use table_parts::PlanAtHand;
-use tables_folder::{PlanTables, RecordingsFolder};
+use tables_folder::{PlanTables, RecordingsFolder, TablesOf};
 
 /// A plan that was read, with its maps.
 #[derive(Drop)]
@@ -40,12 +45,14 @@ pub(crate) type TablesWork<'a> = Work<
     CheckedWriter<Stderr>,
 >;
 
-/// A plan by its name, the work on its tables in IPFIX, and that on their texts in another format, if there are to be any.
+/// A plan by its name, the work on its tables in IPFIX, and that on their texts in another format and on the tables of its days
+/// and of its months, if there are to be any.
 #[derive(Drop)]
 pub(crate) struct PlanWork<'a> {
     pub name: &'a str,
     pub work: TablesWork<'a>,
     pub texts: Option<PlanTexts<'a>>,
+    pub local: Option<LocalTables<'a>>,
 }
 
 /// The texts of a plan's tables, and how they are made.
@@ -53,6 +60,20 @@ pub(crate) struct PlanWork<'a> {
 pub(crate) struct PlanTexts<'a> {
     pub job: TextJob<'a>,
     pub texts: Texts<PlanTables<'a>>,
+}
+
+/// The tables of a plan's days and of its months.
+#[derive(Drop)]
+pub(crate) struct LocalTables<'a> {
+    pub days: PlanDays<'a>,
+    pub months: PlanDays<'a>,
+}
+
+/// The tables of a plan's days or of its months, and their texts in another format, if there are to be any.
+#[derive(Drop)]
+pub(crate) struct PlanDays<'a> {
+    pub tables: DayTables<'a, PlanTables<'a>>,
+    pub texts: Option<DayTexts<'a, PlanTables<'a>>>,
 }
 
 /// Reads each of these plans. If one can't be, `err` has a line.
@@ -83,14 +104,15 @@ pub(crate) fn open_plans<'a>(
     engine: Engine,
     folder: &'a Folder,
     read: &'a [ReadPlan<'a>],
+    zone: Option<TimeZone<'a>>,
     err: &mut Stderr,
 ) -> Result<Vec<PlanWork<'a>>, Status>
     ensures { IfOk result (λ plans.
-        AllZip (λ read plan. IsWorkOf read arguments.now.output plan) read.now plans.items) }
+        AllZip (λ read plan. IsWorkOf read arguments.now.output zone.entry plan) read.now plans.items) }
 {
     let mut plans = Vec::new(rt.alloc());
     for plan in read {
-        let work = open_plan(rt, arguments, engine, folder, plan, err)?;
+        let work = open_plan(rt, arguments, engine, folder, plan, zone, err)?;
         let Ok(()) = plans.push(work) else {
             return Err(Status::Failed);
         };
@@ -104,15 +126,18 @@ fn open_plan<'a>(
     engine: Engine,
     folder: &'a Folder,
     plan: &'a ReadPlan<'a>,
+    zone: Option<TimeZone<'a>>,
     err: &mut Stderr,
 ) -> Result<PlanWork<'a>, Status>
-    ensures ok { IfOk result (IsWorkOf plan.now arguments.now.output) }
+    ensures ok { IfOk result (IsWorkOf plan.now arguments.now.output zone.entry) }
     ensures err { IfErr result (λ status. status ≡ Status.NotOpened) }
 {
     let NamedPlan { path, name } = plan.named;
     let PlanMade { loaded, maps, made } = &plan.made;
-    let tables = open_named(rt, arguments.into, folder, plan, Format::Ipfix, err)?;
+    let (into, of) = (arguments.into, TablesOf::Periods);
+    let tables = open_named(rt, into, folder, plan, of, Format::Ipfix, err)?;
     let texts = open_texts(rt, arguments, folder, plan, err)?;
+    let local = open_local(rt, arguments, folder, plan, zone, err)?;
     let table = as_ipfix(&arguments.table(path));
     let job = PeriodJob {
         recordings: arguments.from,
@@ -123,6 +148,7 @@ fn open_plan<'a>(
         name,
         work: work_of(rt, job, tables),
         texts,
+        local,
     })
 }
 
@@ -144,9 +170,11 @@ fn open_named<'a>(
     into: &str,
     folder: &'a Folder,
     plan: &'a ReadPlan<'a>,
+    of: TablesOf,
     format: Format,
     err: &mut Stderr,
 ) -> Result<PlanTables<'a>, Status>
+    ensures ok { IfOk result (HasTablesOf of (format_word format)) }
     ensures err { IfErr result (λ status. status ≡ Status.NotOpened) }
 {
     let name = plan.named.name;
@@ -155,6 +183,7 @@ fn open_named<'a>(
         folder,
         name,
         plan.made.made.plan.as_str(),
+        of,
         ending_of(format),
     ) {
         Ok(tables) => Ok(tables),
@@ -177,9 +206,20 @@ fn open_texts<'a>(
     if let Format::Ipfix = format {
         return Ok(None);
     }
-    let place = open_named(rt, arguments.into, folder, plan, format, err)?;
+    let (into, of) = (arguments.into, TablesOf::Periods);
+    let place = open_named(rt, into, folder, plan, of, format, err)?;
+    let job = text_job(plan, arguments.output);
+    let rounds = Rounds::new(rt.alloc());
+    let texts = Texts { place, rounds };
+    Ok(Some(PlanTexts { job, texts }))
+}
+
+// How texts of the tables of a plan are made.
+fn text_job<'a>(plan: &'a ReadPlan<'a>, output: Output) -> TextJob<'a>
+    ensures { IsTextJob plan.now output result }
+{
     let PlanMade { loaded, made, .. } = &plan.made;
-    let job = TextJob {
+    TextJob {
         elements: &loaded.elements,
         plan: &loaded.read.plan,
         at_hand: PlanAtHand {
@@ -187,12 +227,105 @@ fn open_texts<'a>(
             elements: &made.elements,
             maps: &made.maps,
         },
-        output: arguments.output,
+        output,
         collectd: made.collectd.as_str(),
+    }
+}
+
+// The tables of a plan's days and of its months, if there is a zone.
+fn open_local<'a>(
+    rt: &'a HostRuntime,
+    arguments: &TablesArguments<'_, 'a>,
+    folder: &'a Folder,
+    plan: &'a ReadPlan<'a>,
+    zone: Option<TimeZone<'a>>,
+    err: &mut Stderr,
+) -> Result<Option<LocalTables<'a>>, Status>
+    ensures ok { IfOk result (AreLocalOf plan.now arguments.now.output zone.entry) }
+    ensures err { IfErr result (λ status. status ≡ Status.NotOpened) }
+{
+    let Some(zone) = zone else {
+        return Ok(None);
     };
-    let rounds = Rounds::new(rt.alloc());
-    let texts = Texts { place, rounds };
-    Ok(Some(PlanTexts { job, texts }))
+    let interval = LocalInterval::Day;
+    let days = open_days(
+        rt,
+        arguments,
+        folder,
+        plan,
+        Calendar { interval, zone },
+        err,
+    )?;
+    let interval = LocalInterval::Month;
+    let months = open_days(
+        rt,
+        arguments,
+        folder,
+        plan,
+        Calendar { interval, zone },
+        err,
+    )?;
+    Ok(Some(LocalTables { days, months }))
+}
+
+// The tables of its days, or of its months.
+fn open_days<'a>(
+    rt: &'a HostRuntime,
+    arguments: &TablesArguments<'_, 'a>,
+    folder: &'a Folder,
+    plan: &'a ReadPlan<'a>,
+    calendar: Calendar<'a>,
+    err: &mut Stderr,
+) -> Result<PlanDays<'a>, Status>
+    ensures ok { IfOk result (IsDaysOf plan.now arguments.now.output calendar.entry) }
+    ensures err { IfErr result (λ status. status ≡ Status.NotOpened) }
+{
+    let (into, output) = (arguments.into, arguments.output);
+    let of = tables_of(calendar.interval);
+    let place = open_named(rt, into, folder, plan, of, Format::Ipfix, err)?;
+    let texts = open_day_texts(rt, arguments, folder, plan, of, err)?;
+    let format = Format::Ipfix;
+    let text = text_job(plan, Output { format, ..output });
+    let verbosity = arguments.verbosity;
+    let job = DayJob { text, verbosity };
+    Ok(PlanDays {
+        tables: DayTables {
+            calendar,
+            job,
+            place,
+        },
+        texts,
+    })
+}
+
+fn tables_of(interval: LocalInterval) -> TablesOf
+    ensures { result ≡ tables_for interval }
+{
+    match interval {
+        LocalInterval::Day => TablesOf::Days,
+        LocalInterval::Month => TablesOf::Months,
+    }
+}
+
+// Their texts, unless they are written as IPFIX only.
+fn open_day_texts<'a>(
+    rt: &'a HostRuntime,
+    arguments: &TablesArguments<'_, 'a>,
+    folder: &'a Folder,
+    plan: &'a ReadPlan<'a>,
+    of: TablesOf,
+    err: &mut Stderr,
+) -> Result<Option<DayTexts<'a, PlanTables<'a>>>, Status>
+    ensures ok { IfOk result (AreDayTextsOf plan.now arguments.now.output of) }
+    ensures err { IfErr result (λ status. status ≡ Status.NotOpened) }
+{
+    let format = arguments.output.format;
+    if let Format::Ipfix = format {
+        return Ok(None);
+    }
+    let place = open_named(rt, arguments.into, folder, plan, of, format, err)?;
+    let job = text_job(plan, arguments.output);
+    Ok(Some(DayTexts { job, place }))
 }
 
 // What a run with this job works with.

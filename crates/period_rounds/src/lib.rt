@@ -10,6 +10,6 @@ pub use periods::take_periods;
 pub use rounds::Rounds;
 pub use taking::{Round, Work, label_of};
 pub use telling::{
-    status_of_reason, tell_removal, tell_unlisted, words_of_unread, worse_of, write_path,
-    write_period,
+    status_of_reason, tell_outcome, tell_removal, tell_unlisted, words_of_unread, worse_of,
+    write_path, write_paths, write_period,
 };

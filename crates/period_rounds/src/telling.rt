@@ -17,7 +17,7 @@ const WITH_REASONS: Verbosity = Verbosity {
 
 /// Writes what became of a table of a period, unless it was made well or stays, and answers how the command ends by it.
 /// A line says what the period waits for only if it is time for that.
-pub(crate) fn tell_outcome<E: WriteLines>(
+pub fn tell_outcome<E: WriteLines>(
     period: &str,
     table: &str,
     outcome: &Outcome,
@@ -87,7 +87,7 @@ fn write_state<E: WriteLines>(period: &str, state: &str, err: &mut E) -> io::Res
 }
 
 /// Writes the path of a table if it was made.
-pub(crate) fn write_paths<O: WriteLines>(path: &str, outcome: &Outcome, out: &mut O)
+pub fn write_paths<O: WriteLines>(path: &str, outcome: &Outcome, out: &mut O)
     ensures { AreToldTo O.contents O.failed out.old out.new (outcome_paths path.now outcome.now) }
 {
     if let Outcome::Made(_) = outcome {

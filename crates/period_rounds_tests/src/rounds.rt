@@ -22,7 +22,7 @@ use std::rt::Clock;
 use std::sync::Wait;
 use std::test::Fail;
 use std::thread::Threads;
-use tables_folder::{PlanFault, PlanTables, RecordingsFolder, days_in, periods_in};
+use tables_folder::{PlanFault, PlanTables, RecordingsFolder, TablesOf, days_in, periods_in};
 use worked_examples::flows::{NEXT_FLOW, ONE_FLOW};
 use worked_examples::text_of;
 
@@ -151,7 +151,7 @@ fn tables_of<'a>(
     folder: &'a Folder,
     plan: &'a str,
 ) -> Result<PlanTables<'a>, PlanFault> {
-    let tables = PlanTables::open(rt, folder, "source", plan, "csv")?;
+    let tables = PlanTables::open(rt, folder, "source", plan, TablesOf::Periods, "csv")?;
     tables.keep_plan()?;
     Ok(tables)
 }

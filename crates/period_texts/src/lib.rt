@@ -15,4 +15,6 @@ mod telling;
 pub use fault::TextFault;
 pub use job::TextJob;
 pub use periods::{Texts, take_text_of};
+pub use receipts::receipt_in;
 pub use taking::{TextOutcome, take_text};
+pub use telling::{tell_text, write_text_path};

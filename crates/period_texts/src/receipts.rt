@@ -10,7 +10,7 @@ use std::alloc::{AllocError, Global};
 use table_receipts::{Receipt, ReceiptFault, read_receipt, write_receipt};
 
 /// The receipt that octets are the text of.
-pub(crate) fn receipt_in(alloc: Global, octets: &[u8]) -> Result<Receipt, Reason>
+pub fn receipt_in(alloc: Global, octets: &[u8]) -> Result<Receipt, Reason>
     ensures ok { IfOk result (λ receipt. receipt_text (receipt_value receipt) ≡ octets.now) }
     ensures back { (r : ReceiptValue) → FitsReceipt r → receipt_text r ≡ octets.now
         → IfOk result (λ receipt. receipt_value receipt ≡ r) }

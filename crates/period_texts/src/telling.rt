@@ -13,7 +13,7 @@ use report_writing::{Status, WriteLines};
 use std::io;
 
 /// Writes the path of a text if it was made.
-pub(crate) fn write_text_path<O: WriteLines>(path: &str, outcome: &TextOutcome, out: &mut O)
+pub fn write_text_path<O: WriteLines>(path: &str, outcome: &TextOutcome, out: &mut O)
     ensures { AreToldTo O.contents O.failed out.old out.new (text_paths path.now outcome.now) }
 {
     if let TextOutcome::Made = outcome {
@@ -22,7 +22,7 @@ pub(crate) fn write_text_path<O: WriteLines>(path: &str, outcome: &TextOutcome, 
 }
 
 /// Writes why a table has no text of it, and answers how the command ends by it.
-pub(crate) fn tell_text<E: WriteLines>(table: &str, outcome: &TextOutcome, err: &mut E) -> Status
+pub fn tell_text<E: WriteLines>(table: &str, outcome: &TextOutcome, err: &mut E) -> Status
     ensures status { result ≡ text_status outcome.now }
     ensures told { AreToldTo E.contents E.failed err.old err.new (text_lines table.now outcome.now) }
 {

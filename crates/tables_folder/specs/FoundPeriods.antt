@@ -1,5 +1,5 @@
 -- The days and the periods among the names in folders.
-use Rattle.std.specs.Prelude.{◌≡◌, ◌⊎◌, ◌<◌, ℕ, List, [], ◌∷◌, IsSorted, codes, string_bytes}
+use Rattle.std.specs.Prelude.{◌≡◌, ◌⊎◌, ◌<◌, ℕ, List, [], ◌∷◌, ◌++◌, IsSorted, codes, string_bytes}
 use Rattle.std.specs.String.{string_cmp}
 use Rattle.std.specs.declared.alloc.Global.{Global}
 use Rattle.std.specs.declared.string.String.{String}
@@ -29,6 +29,18 @@ AreDaysOf names days = Finds (λ name. HasNoPeriod (string_bytes name) (codes "0
 abbrev pub ArePeriodsOf : List ℕ → List (String Global) → List Period → Type 0
 ArePeriodsOf day names periods = Finds (λ name. HasNoPeriod day (string_bytes name)) (λ name period. IsPeriodAt period.begins day (string_bytes name)) names periods
 
+-- the table in IPFIX of a period has this name in the folder of a day
+abbrev pub IsTableAt : ℕ → List ℕ → List ℕ → Type 0
+IsTableAt begins day name = (time : List ℕ) × (name ≡ time ++ codes ".ipfix") × IsPeriodAt begins day time
+
+-- that of no period has it
+abbrev pub HasNoTable : List ℕ → List ℕ → Type 0
+HasNoTable day name = (begins : ℕ) → begins < calendar_end → ¬ IsTableAt begins day name
+
+-- the periods whose tables have these names, in the same order
+abbrev pub AreTablesOf : List ℕ → List (String Global) → List Period → Type 0
+AreTablesOf day names periods = Finds (λ name. HasNoTable day (string_bytes name)) (λ name period. IsTableAt period.begins day (string_bytes name)) names periods
+
 -- the days, or the periods of a day, among some names in the order of their octets
 pub record AreListedDays (days : List (String Global)) : Type 0 where
   pub names : List (String Global)
@@ -39,3 +51,8 @@ pub record AreListedPeriods (day : List ℕ) (periods : List Period) : Type 0 wh
   pub names : List (String Global)
   pub in_order : IsSorted string_cmp names
   pub are_periods : ArePeriodsOf day names periods
+
+pub record AreListedTables (day : List ℕ) (periods : List Period) : Type 0 where
+  pub names : List (String Global)
+  pub in_order : IsSorted string_cmp names
+  pub are_tables : AreTablesOf day names periods

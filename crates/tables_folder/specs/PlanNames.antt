@@ -1,7 +1,10 @@
 -- The name of a plan, and the paths of its tables.
-use Rattle.std.specs.Prelude.{◌≡◌, ◌≢◌, ◌⊎◌, ℕ, List, ◌++◌, codes}
+use Rattle.std.specs.Prelude.{◌≡◌, ◌≢◌, ◌⊎◌, ℕ, List, [], ◌++◌, codes}
 use Rattle.recording_names.specs.PeriodNames.{IsPeriodName}
-use Rattle.exporter_names.specs.RecordedExporters.{IsFileName}
+use Rattle.exporter_names.specs.Cuts.{HasNo, joined}
+use Rattle.exporter_names.specs.RecordedExporters.{IsFileName, slash}
+use Rattle.tables_folder.specs.declared.plan_names.TablesOf.{TablesOf}
+use Rattle.tables_folder.specs.declared.plan_names.TablesOf.TheVariants.{Periods, Days, Months}
 
 -- the name of a file without `.toml` at its end
 abbrev pub IsShortName : List ℕ → List ℕ → Type 0
@@ -13,6 +16,24 @@ pub record IsPlanName (path name : List ℕ) : Type 0 where
   pub is_file : IsFileName path file
   pub is_short : IsShortName file name
 
--- the path of the table of the period that begins then, in the folder of a plan's tables, with this ending
-abbrev pub IsTablePath : List ℕ → List ℕ → ℕ → List ℕ → Type 0
-IsTablePath folder ending begins path = (name : List ℕ) × IsPeriodName begins name × (path ≡ folder ++ (codes "/" ++ (name ++ (codes "." ++ ending))))
+abbrev pub hyphen : ℕ
+hyphen = 45
+
+-- what stands before the last octet of a value, or the whole text if it has none
+abbrev pub IsBefore : ℕ → List ℕ → List ℕ → Type 0
+IsBefore octet text front = (HasNo octet text × (front ≡ text)) ⊎ ((back : List ℕ) × (text ≡ joined octet front back) × HasNo octet back)
+
+-- a table is named by its period's name, or by that of its day or its month, in the folder of such
+abbrev pub IsTableName : TablesOf → List ℕ → List ℕ → List ℕ → Type 0
+IsTableName Periods period folder name = (folder ≡ []) × (name ≡ period)
+IsTableName Days period folder name = (folder ≡ codes "days/") × IsBefore slash period name
+IsTableName Months period folder name = (folder ≡ codes "months/") × ((day : List ℕ) × IsBefore slash period day × IsBefore hyphen day name)
+
+-- the path of the table of what begins then, in the folder of a plan's tables, with this ending
+pub record IsTablePath (of : TablesOf) (folder ending : List ℕ) (begins : ℕ) (path : List ℕ) : Type 0 where
+  pub period : List ℕ
+  pub inner : List ℕ
+  pub name : List ℕ
+  pub is_period : IsPeriodName begins period
+  pub is_name : IsTableName of period inner name
+  pub path_is : path ≡ folder ++ (codes "/" ++ (inner ++ (name ++ (codes "." ++ ending))))

@@ -1,7 +1,7 @@
 //! The days and the periods among the names in folders.
 
-ghost use Rattle.std.specs.Prelude.{◌≡◌, codes, IfOk, MatchBool};
-ghost use Rattle.tables_folder.specs.FoundPeriods.{AreDaysOf, ArePeriodsOf, HasNoPeriod, IsDayName};
+ghost use Rattle.std.specs.Prelude.{◌≡◌, ◌≢◌, ◌++◌, ℕ, List, codes, IfOk, MatchBool, MatchOption};
+ghost use Rattle.tables_folder.specs.FoundPeriods.{AreDaysOf, ArePeriodsOf, AreTablesOf, HasNoPeriod, HasNoTable, IsDayName, IsTableAt};
 
 use recording_names::Period;
 use recording_periods::read_period_at;
@@ -51,4 +51,41 @@ pub(crate) fn periods_among(
         left = rest;
     }
     Ok(periods)
+}
+
+/// The periods whose tables in IPFIX in the folder of a day have these names, in the same order.
+pub(crate) fn tables_among(
+    alloc: Global,
+    day: &str,
+    names: &[String],
+) -> Result<Vec<Period>, AllocError>
+    ensures { IfOk result (λ periods. AreTablesOf day.now names.now periods.items) }
+{
+    let mut periods = Vec::new(alloc);
+    let mut left = names;
+    while let Some((name, rest)) = left.split_first() {
+        if let Some(period) = table_period(day, name.as_str()) {
+            periods.push(period)?;
+        }
+        left = rest;
+    }
+    Ok(periods)
+}
+
+// The period whose table has this name in the folder of a day.
+fn table_period(day: &str, name: &str) -> Option<Period>
+    ensures { MatchOption result (HasNoTable day.now name.now)
+        (λ period. IsTableAt period.begins day.now name.now) }
+{
+    match time_of(name) {
+        Some(time) => read_period_at(day, time),
+        None => None,
+    }
+}
+
+fn time_of(name: &str) -> Option<&str>
+    ensures { MatchOption result ((front : List ℕ) → name.now ≢ front ++ codes ".ipfix")
+        (λ time. name.now ≡ time.now ++ codes ".ipfix") }
+{
+    name.strip_suffix(".ipfix")
 }

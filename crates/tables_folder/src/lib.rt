@@ -8,7 +8,7 @@ mod receipt_files;
 mod recordings_folder;
 mod removing;
 
-pub use plan_names::plan_name;
+pub use plan_names::{TablesOf, plan_name};
 pub use plan_tables::{PlanFault, PlanTables};
 pub use receipt_files::files_in_receipt;
 pub use recordings_folder::{RecordingsFolder, days_in, periods_in};

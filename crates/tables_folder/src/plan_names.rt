@@ -1,7 +1,9 @@
 //! The name of a plan, and the paths of its tables.
 
 ghost use Rattle.std.specs.Prelude.{◌≡◌, ◌≢◌, ◌++◌, [], codes, string_bytes, IfOk, MatchOption};
-ghost use Rattle.tables_folder.specs.PlanNames.{IsPlanName, IsShortName, IsTablePath};
+ghost use Rattle.tables_folder.specs.PlanNames.{IsBefore, IsPlanName, IsShortName, IsTableName, IsTablePath, hyphen};
+ghost use Rattle.exporter_names.specs.Cuts.{HasNo, joined};
+ghost use Rattle.exporter_names.specs.RecordedExporters.{slash};
 
 use exporter_names::file_name;
 use recording_names::{Period, period_name};
@@ -25,29 +27,102 @@ fn short_name(file: &str) -> &str
     }
 }
 
-/// The path of the table of a period in the folder of a plan's tables, with this ending.
+/// What tables are of.
+#[derive(Clone, Copy, Debug, PartialEq, Eq)]
+pub enum TablesOf {
+    Periods,
+    /// Each day is told as the period that begins with it in UTC.
+    Days,
+    /// Each month is told so by its first day.
+    Months,
+}
+
+/// The path of the table of a period, a day or a month in the folder of a plan's tables, with this ending.
 pub(crate) fn table_path(
     alloc: Global,
     folder: &String,
+    of: TablesOf,
     period: Period,
     ending: &str,
 ) -> Result<String, AllocError>
     ensures { IfOk result (λ path.
-        IsTablePath (string_bytes folder.now) ending.now period.begins (string_bytes path)) }
+        IsTablePath of (string_bytes folder.now) ending.now period.begins (string_bytes path)) }
 {
     let name = period_name(alloc, period)?;
-    let path = path_of(alloc, folder, &name, ending)?;
+    let path = path_of(alloc, folder, short_of(of, name.as_str()), ending)?;
     Ok(path)
+}
+
+// What a table is named by: its period's name, or its part that names the day or the month, in the folder of such.
+fn short_of(of: TablesOf, name: &str) -> TableName<'_>
+    ensures { IsTableName of name.now result.folder.now result.name.now }
+{
+    match of {
+        TablesOf::Periods => TableName { folder: "", name },
+        TablesOf::Days => TableName {
+            folder: "days/",
+            name: day_in(name),
+        },
+        TablesOf::Months => TableName {
+            folder: "months/",
+            name: month_in(day_in(name)),
+        },
+    }
+}
+
+// The name of a table, and what stands before it.
+#[derive(Clone, Copy)]
+struct TableName<'n> {
+    folder: &'n str,
+    name: &'n str,
+}
+
+// What stands before the last slash.
+fn day_in(name: &str) -> &str
+    ensures { IsBefore slash name.now result.now }
+{
+    match at_slash(name) {
+        Some(parts) => parts.0,
+        None => name,
+    }
+}
+
+fn at_slash(name: &str) -> Option<(&str, &str)>
+    ensures { MatchOption result (HasNo slash name.now)
+        (λ parts. (name.now ≡ joined slash parts.0.now parts.1.now) × HasNo slash parts.1.now) }
+{
+    name.rsplit_once('/')
+}
+
+// What stands before the last hyphen.
+fn month_in(day: &str) -> &str
+    ensures { IsBefore hyphen day.now result.now }
+{
+    match at_hyphen(day) {
+        Some(parts) => parts.0,
+        None => day,
+    }
+}
+
+fn at_hyphen(day: &str) -> Option<(&str, &str)>
+    ensures { MatchOption result (HasNo hyphen day.now)
+        (λ parts. (day.now ≡ joined hyphen parts.0.now parts.1.now) × HasNo hyphen parts.1.now) }
+{
+    day.rsplit_once('-')
 }
 
 fn path_of(
     alloc: Global,
     folder: &String,
-    name: &String,
+    table: TableName,
     ending: &str,
 ) -> Result<String, AllocError>
     ensures { IfOk result (λ path. string_bytes path ≡ string_bytes folder.now
-        ++ (codes "/" ++ (string_bytes name.now ++ (codes "." ++ ending.now)))) }
+        ++ (codes "/" ++ (table.entry.folder.now ++ (table.entry.name.now ++ (codes "." ++ ending.now))))) }
 {
-    format!(in alloc; "{folder}/{name}.{ending}")
+    let TableName {
+        folder: inner,
+        name,
+    } = table;
+    format!(in alloc; "{folder}/{inner}{name}.{ending}")
 }

@@ -1,7 +1,8 @@
 //! The tables of a plan in a folder on the disk.
 
-use crate::plan_names::table_path;
+use crate::plan_names::{TablesOf, table_path};
 use crate::receipt_files::{files_in_receipt, is_receipt_of};
+use crate::recordings_folder::{days_in, table_periods_in};
 use crate::removing::sync_folder;
 use period_tables::TablePlace;
 use recording_folder::Folder;
@@ -32,6 +33,8 @@ pub struct PlanTables<'r> {
     path: String,
     // The plan's text.
     plan: &'r str,
+    // What the tables are of.
+    of: TablesOf,
     // What the name of a table ends with.
     ending: &'static str,
 }
@@ -45,15 +48,21 @@ pub enum PlanFault {
 }
 
 impl<'r> PlanTables<'r> {
-    /// The tables of a plan of this name and this text in a folder, with names of this ending. Nothing is written; those that
-    /// are there are of no other plan.
+    ghost use Rattle.std.specs.Prelude.{IfOk};
+    ghost use Rattle.tables_folder.specs.PlanPlaces.{HasTablesOf};
+
+    /// The tables of periods, of days or of months of a plan of this name and this text in a folder, with names of this ending.
+    /// Nothing is written; those that are there are of no other plan.
     pub fn open(
         rt: &'r HostRuntime,
         folder: &'r Folder,
         name: &str,
         plan: &'r str,
+        of: TablesOf,
         ending: &'static str,
-    ) -> Result<Self, PlanFault> {
+    ) -> Result<Self, PlanFault>
+        ensures { IfOk result (HasTablesOf of ending.now) }
+    {
         let Ok(path) = format!(in rt.alloc(); "{}/{name}", folder.path()) else {
             return Err(PlanFault::NotHad(io::Error::from(ErrorKind::OutOfMemory)));
         };
@@ -62,6 +71,7 @@ impl<'r> PlanTables<'r> {
             folder,
             path,
             plan,
+            of,
             ending,
         };
         match tables.plan_text() {
@@ -77,6 +87,17 @@ impl<'r> PlanTables<'r> {
             Ok(()) => Ok(()),
             Err(error) => Err(PlanFault::NotHad(error)),
         }
+    }
+
+    /// The periods whose tables in IPFIX are there, in order.
+    pub fn periods(&self) -> io::Result<Vec<Period>> {
+        let mut periods = Vec::new(self.rt.alloc());
+        for day in &days_in(self.rt, self.path.as_str())? {
+            for period in table_periods_in(self.rt, self.path.as_str(), day.as_str())? {
+                periods.push(period)?;
+            }
+        }
+        Ok(periods)
     }
 
     fn write_plan(&self) -> io::Result<()> {
@@ -206,12 +227,12 @@ impl<'r> TablePlace for PlanTables<'r> {
 
     ghost receipt = { λ _ _ _. ⊤ };
 
-    ghost path = { λ tables begins path. IsTablePath (string_bytes tables.path) tables.ending.now begins path };
+    ghost path = { λ tables begins path. IsTablePath tables.of (string_bytes tables.path) tables.ending.now begins path };
 
     ghost refuses = { λ _ _ _. ⊤ };
 
     fn table_path(&self, period: Period) -> Result<String, AllocError> {
-        table_path(self.rt.alloc(), &self.path, period, self.ending)
+        table_path(self.rt.alloc(), &self.path, self.of, period, self.ending)
     }
 
     fn receipt_files(&mut self, period: Period) -> Result<Option<Vec<String>>, Reason> {

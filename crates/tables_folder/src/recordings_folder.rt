@@ -2,9 +2,9 @@
 
 ghost use Rattle.std.specs.Prelude.{⊤, None, IsSorted, IfOk};
 ghost use Rattle.std.specs.String.{string_cmp};
-ghost use Rattle.tables_folder.specs.FoundPeriods.{AreListedDays, AreListedPeriods};
+ghost use Rattle.tables_folder.specs.FoundPeriods.{AreListedDays, AreListedPeriods, AreListedTables};
 
-use crate::found_periods::{days_among, periods_among};
+use crate::found_periods::{days_among, periods_among, tables_among};
 use period_tables::Recordings;
 use recording_names::{Period, period_name};
 use report_writing::Reason;
@@ -85,4 +85,12 @@ pub fn periods_in(rt: &HostRuntime, folder: &str, day: &str) -> io::Result<Vec<P
 {
     let names = names_in(rt, folder, day)?;
     Ok(periods_among(rt.alloc(), day, &names)?)
+}
+
+/// The periods whose tables in IPFIX are in the folder of a day, in order.
+pub(crate) fn table_periods_in(rt: &HostRuntime, folder: &str, day: &str) -> io::Result<Vec<Period>>
+    ensures { IfOk result (λ periods. AreListedTables day.now periods.items) }
+{
+    let names = names_in(rt, folder, day)?;
+    Ok(tables_among(rt.alloc(), day, &names)?)
 }

@@ -1,0 +1,37 @@
+//! The inputs of a day's receipt that the receipts of its parts don't have any more.
+
+ghost use Rattle.std.specs.Prelude.{◌≡◌, map};
+ghost use Rattle.std.specs.Option.{option_map};
+ghost use Rattle.table_receipts.specs.Values.{file_value, input_value};
+ghost use Rattle.period_days.specs.GoneInputs as gone;
+
+use table_receipts::{FileReceipt, InputReceipt};
+
+/// The first of some inputs that isn't among others, where both are in the same order.
+pub(crate) fn first_gone<'a>(
+    own: &'a [InputReceipt],
+    others: &[InputReceipt],
+) -> Option<&'a InputReceipt>
+    ensures { option_map (λ input. input_value input.now) result
+        ≡ gone.first_gone (map input_value own.now) (map input_value others.now) }
+{
+    let mut left = own;
+    let mut rest = others;
+    while let Some((input, later)) = left.split_first() {
+        let Some((other, after)) = rest.split_first() else {
+            return Some(input);
+        };
+        if is_same(&input.file, &other.file) {
+            left = later;
+        }
+        rest = after;
+    }
+    None
+}
+
+fn is_same(file: &FileReceipt, other: &FileReceipt) -> bool
+    ensures { result ≡ gone.is_same (file_value file.now) (file_value other.now) }
+{
+    file.name.as_str() == other.name.as_str()
+        || (file.octets == other.octets && file.sha256 == other.sha256)
+}

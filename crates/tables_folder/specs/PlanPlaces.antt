@@ -1,0 +1,9 @@
+-- The places of a plan's tables.
+use Rattle.std.specs.Prelude.{◌≡◌, ℕ, List}
+use Rattle.tables_folder.specs.declared.plan_names.TablesOf.{TablesOf}
+use Rattle.tables_folder.specs.declared.plan_tables.PlanTables.{PlanTables}
+
+-- the tables at a place are of these, and their names have this ending
+pub record HasTablesOf (of : TablesOf) (ending : List ℕ) (tables : PlanTables) : Type 0 where
+  pub of_is : tables.of ≡ of
+  pub ending_is : tables.ending.now ≡ ending
