@@ -1,7 +1,8 @@
 //! Recording as the words say it.
 
-ghost use Rattle.std.specs.Prelude.{◌≡◌, ◌/◌, ◌↔◌, ◌⊎◌, IfOk, IsOk, IsSome, MatchOption};
+ghost use Rattle.std.specs.Prelude.{◌≡◌, ◌-◌, ◌/◌, ◌↔◌, ◌⊎◌, IfOk, IsOk, IsSome, MatchOption};
 ghost use Rattle.std.specs.Duration.{as_nanos};
+ghost use Rattle.std.specs.Int.NonZero.{non_zero_u64_get};
 
 use crate::beginning::{Intake, write_beginning};
 use crate::descriptors::{descriptor_limit, peers_within, write_descriptors};
@@ -151,12 +152,22 @@ fn intake_of(sockets: &Sockets, order: &RecordOrder, limits: &PeerLimits) -> Int
     }
 }
 
-// From which second on (since 1970) what peers sent is read back: for as long as one may be silent. Without datagrams nothing is.
+// From which second on (since 1970) periods begin of which what peers sent is read back. Without datagrams nothing is.
 fn since_of(rt: &HostRuntime, arguments: &RecordArguments) -> u64 {
     match arguments.udp {
-        Some(_) => second_now(rt).saturating_sub(idle_of(arguments)),
+        Some(_) => first_read_back(second_now(rt), arguments),
         None => u64::MAX,
     }
+}
+
+// When the first period began that ended no longer ago than a peer may be silent.
+fn first_read_back(now: u64, arguments: &RecordArguments) -> u64
+    ensures { let every = non_zero_u64_get arguments.now.every in
+        MatchOption arguments.now.idle (result ≡ now - IDLE - every)
+        (λ limit. result ≡ now - as_nanos limit / 1000000000 - every) }
+{
+    now.saturating_sub(idle_of(arguments))
+        .saturating_sub(arguments.every.get())
 }
 
 // How many seconds a peer may be silent.

@@ -1,6 +1,6 @@
 -- Which datagram begins the session of a peer.
-use Rattle.std.proofs.Common.{◌≡◌, ℕ, Bool, true, false, List, [], Ok, Option, Some, None, sym, ap, subst, ◌∙◌, inl, inr}
-use Rattle.std.specs.Prelude.{◌≢◌, ◌⊎◌, IfOk, Result, Err, length}
+use Rattle.std.proofs.Common.{◌≡◌, ℕ, true, false, List, [], Ok, Option, Some, None, sym, ap, subst, ◌∙◌, inl, inr}
+use Rattle.std.specs.Prelude.{◌≢◌, IfOk, Result, Err, length}
 use Rattle.std.specs.BTreeMap.{BTreeMap, values, get}
 use Rattle.std.specs.Ordering.{nat_cmp}
 use Rattle.ipfix_wire.specs.declared.header.Header.{Header}
@@ -15,7 +15,9 @@ use Rattle.ipfix_message.specs.declared.fault.MessageFault.TheVariants.{OutOfMem
 use Rattle.ipfix_datagrams.proofs.Answered.{no_values, some_values}
 use Rattle.recording_resumption.specs.Resumption.{resumed_by}
 use Rattle.recording_resumption.specs.declared.earlier_domain.EarlierDomain.{EarlierDomain}
-use Rattle.recording_peer.specs.Beginnings.{BeginsIf, BeginsPeer, first_basis, resumed_first}
+use Rattle.recording_peer.specs.Beginnings.{BeginsAs, IsTakenFirst, first_basis, resumed_first}
+use Rattle.recording_peer.specs.declared.beginning.Beginning.{Beginning}
+use Rattle.recording_peer.specs.declared.beginning.Beginning.TheVariants.{Begins, PassesBy, BeginsNone}
 use Rattle.recording_peer.specs.Peers.{resumed_at, resumed_of}
 
 -- of a peer of which nothing is kept
@@ -23,18 +25,21 @@ pub no_domains : (d : DomainsView) → d.spent ≡ false → StandsFor d.domains
 no_domains d fresh stands = record { fresh = fresh; stands = stands }
 
 -- a datagram that is taken
-begins : (budget : ℕ) (ws : List (ℕ × ℕ)) (ts : List Template) (m : List ℕ) (r : DatagramReading) (x : Message) → IsReadingOf (first_basis ts) [] m r x → Fits budget ws x.domains → (defines_template m ≡ true) ⊎ (ts ≢ []) → BeginsPeer budget ts m
-begins budget ws ts m r x is fits leaves = record { preparation = preparation_of r; weights = ws; given = x; taken = is.taken; fits = fits; leaves = leaves }
+taken : (budget : ℕ) (ws : List (ℕ × ℕ)) (ts : List Template) (m : List ℕ) (r : DatagramReading) (x : Message) → IsReadingOf (first_basis ts) [] m r x → Fits budget ws x.domains → IsTakenFirst budget ts m
+taken budget ws ts m r x is fits = record { preparation = preparation_of r; weights = ws; given = x; taken = is.taken; fits = fits }
 
 -- where none is resumed
-pub begins_by_own : (budget : ℕ) (ws : List (ℕ × ℕ)) (ts : BTreeMap ℕ Template) (m : List ℕ) (r : DatagramReading) (x : Message) (defines : Bool) → IsReadingOf (first_basis (values ts)) [] m r x → Fits budget ws x.domains → length ts.entries ≡ 0
-    → defines ≡ defines_template m → BeginsIf budget (values ts) m defines
-begins_by_own budget ws ts m r x true is fits none d = begins budget ws (values ts) m r x is fits (inl (sym d))
-begins_by_own budget ws ts m r x false is fits none d = inr (inr (inr (sym d, no_values ts none)))
+pub begins_by_own : (budget : ℕ) (ws : List (ℕ × ℕ)) (ts : BTreeMap ℕ Template) (m : List ℕ) (r : DatagramReading) (x : Message) → IsReadingOf (first_basis (values ts)) [] m r x → Fits budget ws x.domains → defines_template m ≡ true
+    → BeginsAs budget (values ts) m Begins
+begins_by_own budget ws ts m r x is fits defines = record { taken = taken budget ws (values ts) m r x is fits; leaves = inl defines }
+
+pub passes_by : (budget : ℕ) (ws : List (ℕ × ℕ)) (ts : BTreeMap ℕ Template) (m : List ℕ) (r : DatagramReading) (x : Message) (h : Header) → message_header m ≡ Ok h → IsReadingOf (first_basis (values ts)) [] m r x → Fits budget ws x.domains → length ts.entries ≡ 0
+    → defines_template m ≡ false → BeginsAs budget (values ts) m (PassesBy h)
+passes_by budget ws ts m r x h good is fits none defines = (good, record { taken = taken budget ws (values ts) m r x is fits; defines = defines; none = no_values ts none })
 
 -- and where some are
-pub begins_by_resumed : (budget : ℕ) (ws : List (ℕ × ℕ)) (ts : BTreeMap ℕ Template) (m : List ℕ) (r : DatagramReading) (x : Message) → IsReadingOf (first_basis (values ts)) [] m r x → Fits budget ws x.domains → (length ts.entries ≡ 0 → ⊥) → BeginsPeer budget (values ts) m
-begins_by_resumed budget ws ts m r x is fits some = begins budget ws (values ts) m r x is fits (inr (some_values ts some))
+pub begins_by_resumed : (budget : ℕ) (ws : List (ℕ × ℕ)) (ts : BTreeMap ℕ Template) (m : List ℕ) (r : DatagramReading) (x : Message) → IsReadingOf (first_basis (values ts)) [] m r x → Fits budget ws x.domains → (length ts.entries ≡ 0 → ⊥) → BeginsAs budget (values ts) m Begins
+begins_by_resumed budget ws ts m r x is fits some = record { taken = taken budget ws (values ts) m r x is fits; leaves = inr (some_values ts some) }
 
 -- what is counted after it
 pub fits_after : (budget : ℕ) (o : Option (BTreeMap ℕ ℕ)) (ws : List (ℕ × ℕ)) (after : History) → WeighAfter o budget [] after → Fits budget ws [] → (vs : List (ℕ × ℕ)) × Fits budget vs after
@@ -50,13 +55,13 @@ has_fault : (basis : Basis) (m : List ℕ) (f : MessageFault) → IsRefused basi
 has_fault basis m f (inl memory) other = absurd (other memory)
 has_fault basis m f (inr fault) other = fault.1
 
-pub none_begun : {E : Type 0} (budget : ℕ) (ts : List Template) (m : List ℕ) (f : MessageFault) (r : Result Bool E) → IsRefused (first_basis ts) [] m f → IfOk r (λ b. (b ≡ false) × (f ≢ OutOfMemory)) → IfOk r (BeginsIf budget ts m)
-none_begun budget ts m f (Ok b) refused none = subst (BeginsIf budget ts m) (sym none.0) (inl (f, has_fault (first_basis ts) m f refused none.1))
+pub none_begun : {E : Type 0} (budget : ℕ) (ts : List Template) (m : List ℕ) (f : MessageFault) (r : Result Beginning E) → IsRefused (first_basis ts) [] m f → IfOk r (λ b. (b ≡ BeginsNone) × (f ≢ OutOfMemory)) → IfOk r (BeginsAs budget ts m)
+none_begun budget ts m f (Ok b) refused none = subst (BeginsAs budget ts m) (sym none.0) (inl (f, has_fault (first_basis ts) m f refused none.1))
 none_begun budget ts m f (Err e) refused none = tt
 
 -- with what is resumed
-pub with_resumed : {E : Type 0} (left : BTreeMap ℕ EarlierDomain) (m : List ℕ) (h : Header) (o : Option EarlierDomain) (b : Result Bool E) (budget : ℕ) → message_header m ≡ Ok h → resumed_by (get nat_cmp left h.domain) h ≡ o
-    → IfOk b (BeginsIf budget (resumed_of o).templates m) → IfOk b (BeginsIf budget (resumed_first left m) m)
+pub with_resumed : {E : Type 0} (left : BTreeMap ℕ EarlierDomain) (m : List ℕ) (h : Header) (o : Option EarlierDomain) (b : Result Beginning E) (budget : ℕ) → message_header m ≡ Ok h → resumed_by (get nat_cmp left h.domain) h ≡ o
+    → IfOk b (BeginsAs budget (resumed_of o).templates m) → IfOk b (BeginsAs budget (resumed_first left m) m)
 with_resumed left m h o b budget good is so =
     let same : resumed_first left m ≡ (resumed_of o).templates = ap (λ r. (resumed_at left [] r).templates) good ∙ ap (λ (p : Option EarlierDomain). (resumed_of p).templates) is in
-    subst (λ (ts : List Template). IfOk b (BeginsIf budget ts m)) (sym same) so
+    subst (λ (ts : List Template). IfOk b (BeginsAs budget ts m)) (sym same) so

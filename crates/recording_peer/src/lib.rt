@@ -14,7 +14,7 @@ mod peer_session;
 mod places;
 mod resumption;
 
-pub use beginning::begins_peer;
+pub use beginning::{Beginning, begins_peer};
 pub use peer_answer::PeerAnswer;
 pub use peer_recorder::PeerRecorder;
 pub use peer_session::PeerSession;

@@ -9,9 +9,10 @@ use crate::outcome::{Became, Outcome};
 use crate::peer_place::PeerPlace;
 use crate::peer_state::PeerState;
 use crate::peers::Peers;
+use ipfix_wire::Header;
 use recording_files::FileSeries;
-use recording_peer::begins_peer;
-use recording_resumption::EarlierDomains;
+use recording_peer::{Beginning, begins_peer};
+use recording_resumption::{EarlierDomains, go_on};
 use std::alloc::{AllocError, Global};
 use std::net::SocketAddr;
 
@@ -52,8 +53,17 @@ impl<F: FileSeries + Drop> Peers<F> {
         }
         let earlier = place.earlier(alloc, peer);
         match begins_peer(alloc, self.limits.templates, &earlier, datagram) {
-            Ok(true) => self.record_begun(alloc, place, peer, earlier, datagram, second),
-            Ok(false) => {
+            Ok(Beginning::Begins) => {
+                self.record_begun(alloc, place, peer, earlier, datagram, second)
+            }
+            Ok(Beginning::PassesBy(header)) => {
+                pass_by(alloc, place, peer, earlier, &header);
+                Outcome {
+                    became: Became::NoPlace,
+                    gone: None,
+                }
+            }
+            Ok(Beginning::BeginsNone) => {
                 place.give_back(alloc, peer, earlier);
                 Outcome {
                     became: Became::NoPlace,
@@ -154,5 +164,20 @@ impl<F: FileSeries + Drop> Peers<F> {
                 Some(Became::Ended(ended))
             }
         }
+    }
+}
+
+// Keeps again what an earlier run left of a peer, after a datagram with this header that begins no session, as one of a session would
+// leave it. Without memory nothing is kept.
+fn pass_by<F: FileSeries, P: PeerPlace<F>>(
+    alloc: Global,
+    place: &mut P,
+    peer: SocketAddr,
+    earlier: EarlierDomains,
+    header: &Header,
+) {
+    let mut left = earlier;
+    if go_on(&mut left, header, false).is_ok() {
+        place.give_back(alloc, peer, left);
     }
 }

@@ -5,7 +5,7 @@ use Rattle.std.specs.BTreeMap.{get, values}
 use Rattle.ipfix_message.specs.declared.record.Template.{Template}
 use Rattle.ipfix_datagrams.proofs.Answered.{bad_header_refused, no_values}
 use Rattle.recording_resumption.specs.Resumption.{resumed_by}
-use Rattle.recording_peer.specs.Beginnings.{BeginsIf, first_basis, resumed_first}
+use Rattle.recording_peer.specs.Beginnings.{BeginsAs, first_basis, resumed_first}
 use Rattle.recording_peer.proofs.FirstDatagrams.{none_begun, with_resumed}
 use Rattle.recording_peer.proofs.beginning.begins_peer.Goals as goal
 
@@ -28,4 +28,4 @@ returns-in-None c =
     let found : resumed_by (get nat_cmp c.args.earlier.now h.domain) h ≡ None = search rules in
     let none : values c.new-none.result ≡ [] = no_values c.new-none.result c.new-none.ensures.len in
     with_resumed c.args.earlier.now m h None c.begins_with-in-None.result c.args.budget c.in-Ok.ensures.gives found
-    (subst (λ (ts : List Template). IfOk c.begins_with-in-None.result (BeginsIf c.args.budget ts m)) none c.begins_with-in-None.ensures)
+    (subst (λ (ts : List Template). IfOk c.begins_with-in-None.result (BeginsAs c.args.budget ts m)) none c.begins_with-in-None.ensures)

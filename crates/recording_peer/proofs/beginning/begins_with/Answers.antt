@@ -14,7 +14,7 @@ returns-in-Ok-Kept c =
     let domains = no_domains c.new-domains.result c.new-domains.ensures.fresh c.new-domains.ensures.empty in
     let x = subst (λ (r : Reading). Answers (first_basis ts) c.args.budget [] m r) c.in-Ok-Kept.field-0-is (answers_first k c.args.resumed.now c.args.budget m _ c.new-known.ensures.budget (c.in-Ok-Kept.ensures.reads [] domains c.new-known.ensures.keeps)) in
     let f = fits_after c.args.budget _ k.weights.entries x.0.domains x.2 (subst (λ (n : ℕ). Fits n k.weights.entries []) c.new-known.ensures.budget c.new-known.ensures.keeps.fits) in
-    c.leaves_template.ensures c.args.budget f.0 m x.0 x.1 f.1
+    c.beginning_of.ensures c.args.budget f.0 m x.0 c.requires x.1 f.1
 
 pub returns-in-Ok-TooMuch : goal.returns-in-Ok-TooMuch
 returns-in-Ok-TooMuch c =
@@ -30,7 +30,7 @@ returns-in-Ok-Ignored c =
     let ts = values c.args.resumed.now in
     let domains = no_domains c.new-domains.result c.new-domains.ensures.fresh c.new-domains.ensures.empty in
     let x = subst (λ (r : Reading). Answers (first_basis ts) c.args.budget [] m r) c.in-Ok-Ignored.field-0-is (answers_first c.new-known.result c.args.resumed.now c.args.budget m _ c.new-known.ensures.budget (c.in-Ok-Ignored.ensures.reads [] domains c.new-known.ensures.keeps)) in
-    inr (inr (inl x.0))
+    inr (inr x.0)
 
 pub returns : goal.returns
 returns c =

@@ -1,7 +1,6 @@
-use Rattle.std.proofs.Common.{◌≡◌, true, false, sym, ap, subst, ◌∙◌}
+use Rattle.std.proofs.Common.{◌≡◌, sym, ap, ◌∙◌}
 use Rattle.std.specs.Prelude.{nat_lt}
-use Rattle.recording_peer.specs.Late.{is_late}
-use Rattle.recording_peer.specs.Recording.{KnownShown, PeerView, known_shown, taken_in}
+use Rattle.recording_peer.specs.Recording.{PeerView, taken_in}
 use Rattle.recording_peer.proofs.Lateness.{late_is, late_off, off_is, on_is}
 use Rattle.recording_peer.proofs.Taking.{inside_of}
 use Rattle.recording_peer.proofs.peer_recorder.PeerRecorder.is_late.Goals as goal

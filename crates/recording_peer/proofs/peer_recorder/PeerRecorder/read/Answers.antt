@@ -3,7 +3,7 @@ use Rattle.std.proofs.lemmas.Result.{err_from_is_err_and}
 use Rattle.recording_peer.specs.Fronts.{ReadsWhere}
 use Rattle.recording_peer.specs.Late.{is_late}
 use Rattle.recording_peer.specs.Peers.{known_after_all}
-use Rattle.recording_peer.specs.Recording.{KnownShown, PeerView, known_shown, taken_in}
+use Rattle.recording_peer.specs.Recording.{PeerView, known_shown, taken_in}
 use Rattle.recording_peer.proofs.Lateness.{barred_is, fails_late, reads_late, reads_on_time}
 use Rattle.recording_peer.proofs.Listed.{keeps_known}
 use Rattle.recording_peer.proofs.Taking.{inside_of, represents}

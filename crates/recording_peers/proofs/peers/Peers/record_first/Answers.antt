@@ -1,5 +1,5 @@
 use Rattle.std.proofs.Common.{refl, subst, inl, inr}
-use Rattle.recording_peer.specs.Beginnings.{BeginsIf, resumed_first}
+use Rattle.recording_peer.specs.Beginnings.{BeginsAs, resumed_first}
 use Rattle.recording_peers.proofs.peers.Peers.record_first.Goals as goal
 
 pub returns-then-lacks_room-clause-records : goal.returns-then-lacks_room-clause-records
@@ -9,10 +9,16 @@ returns-then-lacks_room-clause-records g c =
 pub record_begun-requires-clause-begins : goal.record_begun-requires-clause-begins
 record_begun-requires-clause-begins g c =
     let m = c.args.datagram.now in
-    subst (BeginsIf c.args.self.now.limits.templates (resumed_first c.earlier-earlier.result m) m) c.in-Ok-true.field-0-test c.in-Ok-true.ensures
+    subst (BeginsAs c.args.self.now.limits.templates (resumed_first c.earlier-earlier.result m) m) c.in-Ok-Begins.field-0-is c.in-Ok-Begins.ensures
 
-pub returns-in-Ok-false-clause-records : goal.returns-in-Ok-false-clause-records
-returns-in-Ok-false-clause-records g c =
+pub returns-in-Ok-PassesBy-clause-records : goal.returns-in-Ok-PassesBy-clause-records
+returns-in-Ok-PassesBy-clause-records g c =
     let m = c.args.datagram.now in
-    let none = subst (BeginsIf c.args.self.now.limits.templates (resumed_first c.earlier-earlier.result m) m) c.in-Ok-false.field-0-test c.in-Ok-false.ensures in
-    record { nothing = record { begins = c.requires; same = refl; none_went = refl }; why = inl (c.earlier-earlier.result, none) }
+    let none = subst (BeginsAs c.args.self.now.limits.templates (resumed_first c.earlier-earlier.result m) m) c.in-Ok-PassesBy.field-0-is c.in-Ok-PassesBy.ensures in
+    record { nothing = record { begins = c.requires; same = refl; none_went = refl }; why = inl (c.earlier-earlier.result, inl none.1) }
+
+pub returns-in-Ok-BeginsNone-clause-records : goal.returns-in-Ok-BeginsNone-clause-records
+returns-in-Ok-BeginsNone-clause-records g c =
+    let m = c.args.datagram.now in
+    let none = subst (BeginsAs c.args.self.now.limits.templates (resumed_first c.earlier-earlier.result m) m) c.in-Ok-BeginsNone.field-0-is c.in-Ok-BeginsNone.ensures in
+    record { nothing = record { begins = c.requires; same = refl; none_went = refl }; why = inl (c.earlier-earlier.result, inr none) }
