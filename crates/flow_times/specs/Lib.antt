@@ -1,0 +1,6 @@
+-- What public contracts cite.
+pub mod Untimed
+pub mod Starts
+pub mod Timed
+pub mod Elements
+pub mod Noted

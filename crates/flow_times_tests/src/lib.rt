@@ -1,0 +1,5 @@
+//! The tests of `flow_times`.
+#![tactic(auto)]
+
+#[cfg(test)]
+mod tests;

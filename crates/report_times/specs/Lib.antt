@@ -1,0 +1,4 @@
+-- What public contracts cite.
+pub mod UntimedLines
+pub mod StartsLines
+pub mod TimesLines
