@@ -336,6 +336,16 @@ impl Record<'_> {
         (start.or_else(|| before(end)), end.or_else(|| after(start)))
     }
 
+    /// Whether it has a start and an end in milliseconds or seconds.
+    fn is_timed(&self) -> bool {
+        self.time(152, 150).is_some() && self.time(153, 151).is_some()
+    }
+
+    /// The first other element of a time that it has, whatever its octets are.
+    fn other_time(&self) -> Option<&'static str> {
+        OTHER_TIMES.iter().find(|(number, _)| self.octets(*number).is_some()).map(|(_, name)| *name)
+    }
+
     /// The text of the first field of an element, if it has a value.
     fn text(&self, element: Element) -> Option<&str> {
         let name = name_of(element);
@@ -462,8 +472,27 @@ fn covered(plan: &Plan, start: u64, end: u64) -> (u64, u64) {
     }
 }
 
+/// The elements of times that are read with `times = "all"` only, those of starts first, then those of ends and of durations.
+const OTHER_TIMES: [(u16, &str); 10] = [
+    (154, "flowStartMicroseconds"),
+    (156, "flowStartNanoseconds"),
+    (158, "flowStartDeltaMicroseconds"),
+    (22, "flowStartSysUpTime"),
+    (155, "flowEndMicroseconds"),
+    (157, "flowEndNanoseconds"),
+    (159, "flowEndDeltaMicroseconds"),
+    (21, "flowEndSysUpTime"),
+    (161, "flowDurationMilliseconds"),
+    (162, "flowDurationMicroseconds"),
+];
+
 /// How many records there are of each class: used, options, untimed, backward, unkeyed, too long.
 type Tally = [u64; 6];
+
+/// Whether a record is let pass.
+fn counts(plan: &Plan, record: &Record) -> bool {
+    record.scope > 0 || plan.conditions.iter().all(|condition| holds(condition, plan, record))
+}
 
 #[derive(Default)]
 struct Table {
@@ -474,7 +503,7 @@ struct Table {
 
 impl Table {
     fn add(&mut self, plan: &Plan, record: &Record, started: Option<u64>) {
-        if record.scope == 0 && !plan.conditions.iter().all(|condition| holds(condition, plan, record)) {
+        if !counts(plan, record) {
             self.filtered += 1;
             return;
         }
@@ -562,12 +591,17 @@ fn main() -> ExitCode {
             return ExitCode::from(2);
         }
     };
-    let (mut table, mut texts, mut status) = (Table::default(), String::new(), 0);
+    let (mut table, mut texts, mut untimed_texts, mut status) = (Table::default(), String::new(), String::new(), 0);
     for (file, number) in words[1..].iter().zip(1..) {
         let (mut session, mut told) = (Session::default(), Told::default());
         let octets = fs::read(file).map_err(|_| Fault::ReadFailed);
+        let (mut is_timed, mut other) = (plan.all_times, None);
         let take = |record: &Record| {
             table.add(&plan, record, told.of(record));
+            if record.scope == 0 && counts(&plan, record) {
+                is_timed |= record.is_timed();
+                other = other.or(record.other_time());
+            }
             told.note(record);
         };
         let ended = octets.and_then(|octets| read_session(&octets, &mut session, take));
@@ -579,6 +613,9 @@ fn main() -> ExitCode {
             texts += &format!("collectd: session {number}: fault {} {fault:?}\n", fault as u8);
             status = 1;
         }
+        if let (false, Some(name)) = (is_timed, other) {
+            untimed_texts += &format!("collectd: session {number} \"{file}\": all flows are untimed: {name} is read with times = \"all\"\n");
+        }
     }
     if table.is_too_large() {
         eprintln!("collectd: collect: fault 6 SumTooLarge");
@@ -586,7 +623,7 @@ fn main() -> ExitCode {
     }
     table.write(&plan);
     let [used, options, untimed, backward, unkeyed, too_long] = table.tally;
-    eprint!("{texts}");
+    eprint!("{texts}{untimed_texts}");
     let filtered = if plan.conditions.is_empty() { String::new() } else { format!(" filtered {}", table.filtered) };
     eprintln!(
         "collectd: records: used {used} options {options} untimed {untimed} backward {backward} unkeyed {unkeyed} too_long {too_long}{filtered}"

@@ -3,12 +3,14 @@
 ghost use Rattle.std.specs.Prelude.{◌≡◌};
 ghost use Rattle.std.specs.Option.{option_map};
 ghost use Rattle.flow_filtered_plan.specs.FilteredPlans.{filter_of};
+ghost use Rattle.flow_times.specs.Noted.{noted_under};
 ghost use Rattle.flow_plan_maps.specs.Wants.{refuses_sampled as is_refusing, wanted_context as context_wanted, wanted_options as options_wanted};
 
 use crate::arguments::TableArguments;
 use command_collect::{CollectJob, Engine};
 use flow_maps::Maps;
 use flow_plan_maps::{refuses_sampled, wanted_context, wanted_options};
+use flow_times::TimeNoting;
 use input_sources::LoadedPlan;
 use std::net::IpAddr;
 
@@ -32,6 +34,9 @@ pub fn collect_job<'a>(
     // Where the plan counts estimates records get these, and where it refuses sampled records the run does.
     ensures estimates { option_map (λ e. e.now) result.estimates ≡ loaded.now.estimates }
     ensures refuses { result.refuses_sampled ≡ is_refusing loaded.now.read }
+    // Of times it tells what is to be told under the plan, which is more if it is verbose.
+    ensures times { result.times ≡ noted_under loaded.now.read.plan.choices.times
+        table.now.verbosity.verbose }
     ensures exporters { result.exporters.now ≡ exporters.now }
     // The rest is as the command is given.
     ensures engine { result.engine ≡ engine }
@@ -49,6 +54,7 @@ pub fn collect_job<'a>(
         maps,
         estimates: loaded.estimates.as_ref(),
         refuses_sampled: refuses_sampled(&loaded.read),
+        times: TimeNoting::under(loaded.read.plan.choices().times, table.verbosity.verbose),
         filter: loaded.read.conditions(),
         exporters,
     }

@@ -14,7 +14,7 @@ use Rattle.output_tables.proofs.BuiltIn.{written_built_in}
 use Rattle.command_collect.specs.Collects.{Collects, CollectsJob, CollectsPlainly}
 use Rattle.command_collect.specs.Engines.{due_fault}
 use Rattle.command_collect.specs.Exporters.{in_context}
-use Rattle.command_collect.specs.Gathered.{all_filtered, samplings_in}
+use Rattle.command_collect.specs.Gathered.{all_filtered, samplings_in, times_of_each}
 use Rattle.command_collect.specs.Runs.{RunsJob, RunsPlainly}
 use Rattle.command_collect.specs.declared.job.CollectJob.{CollectJob}
 use Rattle.command_collect.proofs.LinesTold.{behind_nothing, fault_told, is_strict, plain_lines}
@@ -47,7 +47,7 @@ module _ {S W : Type 0} (seen : S → SourceView) (failure : S → Option ErrorK
         statuses = r.statuses;
         table = λ ran.
             table_short seen job.verbosity.strict (is_some job.estimates) job.plan.now job.engine status given sources plainly _ _ (is_strict job plain.quiet)
-            (λ c ends. (written_built_in job.elements.now job.plan.now job.output _ _ c.table plain.no_files ends.0, subst AreTold (plain_lines job plain.quiet plain.all origins (fulls_in c.sessions.items) (samplings_in c.sessions.items) c.table (capped (all_filtered c.sessions.items)) ends.1.ended ends.1.are_ended.reports) ends.1.told)) (r.table ran);
+            (λ c ends. (written_built_in job.elements.now job.plan.now job.output _ _ c.table plain.no_files ends.0, subst AreTold (plain_lines job plain.quiet plain.all plain.no_times origins (fulls_in c.sessions.items) (samplings_in c.sessions.items) (times_of_each c.sessions.items) c.table (capped (all_filtered c.sessions.items)) ends.1.ended ends.1.are_ended.reports) ends.1.told)) (r.table ran);
         failed = λ three.
             fault_told (new ≡ old) _ _ _ _ AreTold AreTold (fault_plain seen job.verbosity.strict (is_some job.estimates) job.plan.now job.engine status given sources plainly (length sources))
             (not_exported_short seen job.verbosity.strict (is_some job.estimates) job.plan.now job.engine status given sources plainly job.output (new ≡ old)) (λ lines told. told) (r.failed three);

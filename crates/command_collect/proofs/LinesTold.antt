@@ -13,7 +13,10 @@ use Rattle.flow_table.specs.declared.missing.Missing.{Missing}
 use Rattle.flow_table.specs.declared.table.Table.{Table}
 use Rattle.flow_table.specs.declared.tally.Tally.{Tally}
 use Rattle.flow_estimates.specs.declared.report.SamplingReport.{SamplingReport}
+use Rattle.flow_times.specs.declared.notes.TimesReport.{TimesReport}
+use Rattle.flow_times.specs.declared.notes.TimeNoting.TheVariants.{Nothing}
 use Rattle.report_sampling.specs.SamplingLines.{sampling_told}
+use Rattle.report_times.specs.TimesLines.{times_told}
 use Rattle.report_sessions.specs.EndedSessions.{EndedSession}
 use Rattle.report_sessions.specs.MissingLines.{missing_told}
 use Rattle.report_writing.specs.OpeningLines.{if_verbose, opened_line}
@@ -78,11 +81,13 @@ module _ (job : CollectJob) (plain : job.verbosity ≡ NOTHING_MORE) where
       ap (λ (l : List ℕ). tally_line_with (if_filtered job filtered) table.tally ++ l) nothing ∙ append-nil _ ∙ counts
 
   -- and of sessions only their reports
-  pub plain_lines : job.filter ≡ None → (origins : List Origin) (fulls : List FullReport) (samplings : List SamplingReport) (table : Table) (filtered : ℕ) (ended : List EndedSession) → map (λ (e : EndedSession). e.full) ended ≡ fulls
-      → run_lines job origins samplings table filtered ended ≡ report_lines (reports_in fulls) ++ tally_line table.tally
-  plain_lines all origins fulls samplings table filtered ended are =
+  pub plain_lines : job.filter ≡ None → job.times ≡ Nothing → (origins : List Origin) (fulls : List FullReport) (samplings : List SamplingReport) (times : List TimesReport) (table : Table) (filtered : ℕ) (ended : List EndedSession) → map (λ (e : EndedSession). e.full) ended ≡ fulls
+      → run_lines job origins samplings times table filtered ended ≡ report_lines (reports_in fulls) ++ tally_line table.tally
+  plain_lines all no_times origins fulls samplings times table filtered ended are =
       let nothing : sampling_told job.verbosity origins samplings ≡ [] = rw (is_verbose, is_strict) refl in
-      ap₂ (λ (l m : List ℕ). l ++ m) (told_plain job.verbosity is_verbose is_strict job.elements.now origins ended fulls are) (ap₂ (λ (l m : List ℕ). l ++ m) nothing (plain_table all table filtered))
+      let untold : times_told job.times origins times ≡ [] = rw no_times refl in
+      let counts = ap₂ (λ (l m : List ℕ). l ++ m) nothing (ap₂ (λ (l m : List ℕ). l ++ m) untold (plain_table all table filtered)) in
+      ap₂ (λ (l m : List ℕ). l ++ m) (told_plain job.verbosity is_verbose is_strict job.elements.now origins ended fulls are) counts
 
   -- what follows nothing
   pub behind_nothing : (first : List ℕ) → first ≡ [] → (origins : List Origin) (lines : List ℕ) → first ++ (opened_lines job.verbosity origins ++ lines) ≡ lines

@@ -13,6 +13,8 @@ use Rattle.ipfix_session.specs.Ledger.{capped}
 use Rattle.ipfix_session.specs.Sources.{SourceView}
 use Rattle.ipfix_session.specs.declared.report.FullReport.{FullReport}
 use Rattle.flow_estimates.specs.declared.report.SamplingReport.{SamplingReport}
+use Rattle.flow_times.specs.declared.notes.TimesReport.{TimesReport}
+use Rattle.flow_times.specs.declared.notes.TimeNoting.TheVariants.{Nothing}
 use Rattle.report_writing.specs.declared.origin.Origin.{Origin}
 use Rattle.report_writing.specs.declared.verbosity.TheConstants.{NOTHING_MORE}
 use Rattle.flow_table.specs.Plans.{PlanValue}
@@ -39,7 +41,7 @@ use Rattle.exporter_options.specs.declared.beside.TheConstants as asked
 use Rattle.command_collect.specs.Engines.{CollectsBy, due_fault}
 use Rattle.command_collect.specs.Exporters.{asked_of, in_context, in_places, other_origins, others_told}
 use Rattle.command_collect.specs.Runs.{AddsUpWhole, EndedWell, HaveNoFault, IsCollectFault, IsFaultBy, IsNotExported, IsOfWhole, WritesAndTellsJob, WritesTable, plain_texts, texts_in_context}
-use Rattle.command_collect.specs.Gathered.{all_filtered, IsGathered, samplings_in}
+use Rattle.command_collect.specs.Gathered.{all_filtered, IsGathered, samplings_in, times_of_each}
 use Rattle.command_collect.specs.Told.{run_lines}
 use Rattle.command_collect.specs.declared.engine.Engine.{Engine}
 use Rattle.command_collect.specs.declared.gathered.Gathered.{Gathered}
@@ -61,6 +63,7 @@ pub record IsPlainJob (job : CollectJob) : Type 0 where
   pub all : job.filter ≡ None
   pub unestimated : job.estimates ≡ None
   pub none_refused : job.refuses_sampled ≡ false
+  pub no_times : job.times ≡ Nothing
 
 -- asks for nothing
 nothing_asked : (job : CollectJob) → IsPlainJob job → asked_of job ≡ asked.NOTHING_WANTED
@@ -85,23 +88,26 @@ as_many job [] told origins = refl
 as_many job (s ∷ sources) told origins = ap suc (as_many job sources (others_told told) (other_origins origins))
 
 -- what is said of what was gathered is said of what was collected
-pub of_gathered : {S : Type 0} (P : List S → List FullReport → List SamplingReport → Table → ℕ → Type 0) (c : FullSerialAnswer S) (g : Gathered S) → IsGathered c g → P g.run.sources.items g.run.sessions.items g.sampling.items g.run.table g.filtered
-    → P c.sources.items (fulls_in c.sessions.items) (samplings_in c.sessions.items) c.table (capped (all_filtered c.sessions.items))
+pub of_gathered : {S : Type 0} (P : List S → List FullReport → List SamplingReport → List TimesReport → Table → ℕ → Type 0) (c : FullSerialAnswer S) (g : Gathered S) → IsGathered c g
+    → P g.run.sources.items g.run.sessions.items g.sampling.items g.times.items g.run.table g.filtered
+    → P c.sources.items (fulls_in c.sessions.items) (samplings_in c.sessions.items) (times_of_each c.sessions.items) c.table (capped (all_filtered c.sessions.items))
 of_gathered {S = S} P c g is p =
     let fulls = fulls_in c.sessions.items in
     let samplings = samplings_in c.sessions.items in
-    subst (λ (n : ℕ). P c.sources.items fulls samplings c.table n) is.filtered_is
-    (subst (λ (t : Table). P c.sources.items fulls samplings t g.filtered) is.table_is
-    (subst (λ (l : List SamplingReport). P c.sources.items fulls l g.run.table g.filtered) is.sampling_is
-    (subst (λ (l : List FullReport). P c.sources.items l g.sampling.items g.run.table g.filtered) is.sessions_are
-    (subst (λ (v : Vec S Global). P v.items g.run.sessions.items g.sampling.items g.run.table g.filtered) is.sources_are p))))
+    let times = times_of_each c.sessions.items in
+    subst (λ (n : ℕ). P c.sources.items fulls samplings times c.table n) is.filtered_is
+    (subst (λ (t : Table). P c.sources.items fulls samplings times t g.filtered) is.table_is
+    (subst (λ (l : List TimesReport). P c.sources.items fulls samplings l g.run.table g.filtered) is.times_is
+    (subst (λ (l : List SamplingReport). P c.sources.items fulls l g.times.items g.run.table g.filtered) is.sampling_is
+    (subst (λ (l : List FullReport). P c.sources.items l g.sampling.items g.times.items g.run.table g.filtered) is.sessions_are
+    (subst (λ (v : Vec S Global). P v.items g.run.sessions.items g.sampling.items g.times.items g.run.table g.filtered) is.sources_are p)))))
 
 pub tells_gathered : {S W : Type 0} (contents : W → Option (List ℕ)) (old new : W) (AreTold : List ℕ → Type 0) (failure : S → Option ErrorKind) (job : CollectJob) (origins : List Origin) (c : FullSerialAnswer S) (g : Gathered S) → IsGathered c g
-    → Writes job.elements.now job.plan.now job.output (contents old) (contents new) g.run.table → TellsEnded failure g.run.sources.items g.run.sessions.items (run_lines job origins g.sampling.items g.run.table g.filtered) AreTold
+    → Writes job.elements.now job.plan.now job.output (contents old) (contents new) g.run.table → TellsEnded failure g.run.sources.items g.run.sessions.items (run_lines job origins g.sampling.items g.times.items g.run.table g.filtered) AreTold
     → WritesAndTellsJob contents old new AreTold failure job origins c
 tells_gathered {S = S} contents old new AreTold failure job origins c g is writes tells =
-    of_gathered (λ (sources : List S) (fulls : List FullReport) (samplings : List SamplingReport) (table : Table) (n : ℕ).
-    Writes job.elements.now job.plan.now job.output (contents old) (contents new) table × TellsEnded failure sources fulls (run_lines job origins samplings table n) AreTold) c g is (writes, tells)
+    of_gathered (λ (sources : List S) (fulls : List FullReport) (samplings : List SamplingReport) (times : List TimesReport) (table : Table) (n : ℕ).
+    Writes job.elements.now job.plan.now job.output (contents old) (contents new) table × TellsEnded failure sources fulls (run_lines job origins samplings times table n) AreTold) c g is (writes, tells)
 
 pub not_written_of : {S : Type 0} (output : Output) (IsUntouched : Type 0) (fault : ExportFault) (c : FullSerialAnswer S) (g : Gathered S) → IsGathered c g → IsNotWritten output (length (rows_in g.run.table)) IsUntouched fault
     → IsNotWritten output (length (rows_in c.table)) IsUntouched fault

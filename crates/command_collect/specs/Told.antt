@@ -3,11 +3,13 @@ use Rattle.std.specs.Prelude.{◌⊎◌, ℕ, List, ◌++◌, codes, Option, opt
 use Rattle.std.specs.declared.net.socket_addr.SocketAddr.{SocketAddr}
 use Rattle.flow_estimates.specs.declared.report.SamplingReport.{SamplingReport}
 use Rattle.flow_table.specs.declared.table.Table.{Table}
+use Rattle.flow_times.specs.declared.notes.TimesReport.{TimesReport}
 use Rattle.flow_export.specs.declared.fault.ExportFault.{ExportFault}
 use Rattle.flow_collect.specs.declared.fault.CollectFault.{CollectFault}
 use Rattle.report_writing.specs.OpeningLines.{not_had_lines}
 use Rattle.output_tables.specs.ExportFaultLines.{export_fault_line}
 use Rattle.report_sampling.specs.SamplingLines.{sampling_told}
+use Rattle.report_times.specs.TimesLines.{times_told}
 use Rattle.report_sessions.specs.EndedSessions.{EndedSession}
 use Rattle.report_sessions.specs.MissingLines.{missing_told}
 use Rattle.report_sessions.specs.ReportLines.{tally_line_with}
@@ -29,10 +31,16 @@ if_filtered job filtered = option_map (λ filter. filtered) job.filter
 abbrev pub table_told : CollectJob → Table → ℕ → List ℕ
 table_told job table filtered = tally_line_with (if_filtered job filtered) table.tally ++ missing_told job.verbosity job.elements.now job.plan.now table.missing
 
--- the sessions, in order, then at which rates their records are sampled, and then what is told of their table
-abbrev pub run_lines : CollectJob → List Origin → List SamplingReport → Table → ℕ → List EndedSession → List ℕ
-run_lines job origins samplings table filtered ended =
-    told_lines job.verbosity job.elements.now origins ended ++ (sampling_told job.verbosity origins samplings ++ table_told job table filtered)
+-- what is told after the sessions: at which rates their records are sampled, by which elements they say times, and then what is
+-- told of their table
+abbrev pub counts_told : CollectJob → List Origin → List SamplingReport → List TimesReport → Table → ℕ → List ℕ
+counts_told job origins samplings times table filtered =
+    sampling_told job.verbosity origins samplings ++ (times_told job.times origins times ++ table_told job table filtered)
+
+-- the sessions, in order, and then that
+abbrev pub run_lines : CollectJob → List Origin → List SamplingReport → List TimesReport → Table → ℕ → List EndedSession → List ℕ
+run_lines job origins samplings times table filtered ended =
+    told_lines job.verbosity job.elements.now origins ended ++ counts_told job origins samplings times table filtered
 
 -- after the first lines each session is told when it is had, with its origin; and after these what the last fact says
 pub record TellsBehind (AreOrigins : List Origin → Type 0) (verbosity : Verbosity) (first : List ℕ) (AreTold : List ℕ → Type 0) (Tells : List Origin → (List ℕ → Type 0) → Type 0) : Type 0 where

@@ -1,13 +1,12 @@
 //! How a run ended, and what it tells.
 
-ghost use Rattle.std.specs.Prelude.{◌≡◌, ◌⊎◌, ◌↔◌, ◌++◌, true, All, IsTrue, is_some};
+ghost use Rattle.std.specs.Prelude.{◌≡◌, ◌⊎◌, ◌↔◌, true, All, IsTrue, is_some};
 ghost use Rattle.report_writing.specs.Writing.{Tells};
 ghost use Rattle.flow_collect.specs.InFull.{FullSerialAnswer};
 ghost use Rattle.flow_collect.specs.Texts.{HasNoFault};
-ghost use Rattle.report_sampling.specs.SamplingLines.{sampling_told};
 ghost use Rattle.report_sessions.specs.EndedSessions.{TellsEnded};
 ghost use Rattle.command_collect.specs.Runs.{AddsUpIfWell, WentWell};
-ghost use Rattle.command_collect.specs.Told.{if_filtered as if_filtered_by, run_lines, table_told};
+ghost use Rattle.command_collect.specs.Told.{counts_told, if_filtered as if_filtered_by, run_lines, table_told};
 
 use crate::gathered::Gathered;
 use crate::job::CollectJob;
@@ -16,6 +15,7 @@ use flow_table::FlatTable;
 use ipfix_session::{FullReport, Source};
 use report_sampling::{is_sampling_spotless, write_sampling};
 use report_sessions::{is_spotless, write_missing, write_tally_with, write_told_reports};
+use report_times::write_times;
 use report_writing::{Origin, Status, WriteLines};
 use std::io;
 
@@ -93,7 +93,7 @@ fn have_no_fault(reports: &[FullReport]) -> bool
 }
 
 /// Writes what there is to tell of sessions, each with the reason that its own source answers, of the rates at which their
-/// records are sampled, and of their records.
+/// records are sampled and of their times, and of their records.
 pub fn tell<S: Source + Drop, E: WriteLines>(
     job: &CollectJob,
     origins: &[Origin],
@@ -101,7 +101,8 @@ pub fn tell<S: Source + Drop, E: WriteLines>(
     err: &mut E,
 ) -> io::Result<()>
     ensures { let run = gathered.now.run in TellsEnded S.failure run.sources.items run.sessions.items
-        (run_lines job.now origins.now gathered.now.sampling.items run.table gathered.now.filtered)
+        (run_lines job.now origins.now gathered.now.sampling.items gathered.now.times.items run.table
+        gathered.now.filtered)
         (Tells E.contents E.failed err.old err.new result) }
 {
     let run = &gathered.run;
@@ -116,7 +117,7 @@ pub fn tell<S: Source + Drop, E: WriteLines>(
     tell_counts(job, origins, gathered, err)
 }
 
-// What is told after the sessions: the rates of sampling, and then of the table.
+// What is told after the sessions: the rates of sampling, the elements of times, and then of the table.
 fn tell_counts<S: Drop, E: WriteLines>(
     job: &CollectJob,
     origins: &[Origin],
@@ -124,10 +125,11 @@ fn tell_counts<S: Drop, E: WriteLines>(
     err: &mut E,
 ) -> io::Result<()>
     ensures { Tells E.contents E.failed err.old err.new result
-        (sampling_told job.now.verbosity origins.now gathered.now.sampling.items
-        ++ table_told job.now gathered.now.run.table gathered.now.filtered) }
+        (counts_told job.now origins.now gathered.now.sampling.items gathered.now.times.items
+        gathered.now.run.table gathered.now.filtered) }
 {
     write_sampling(job.verbosity, origins, &gathered.sampling, err)?;
+    write_times(job.times, origins, &gathered.times, err)?;
     tell_table(job, &gathered.run.table, gathered.filtered, err)
 }
 

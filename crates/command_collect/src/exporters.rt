@@ -32,6 +32,7 @@ pub fn in_context<'a, S: Drop>(
             maps: job.maps,
             estimates: job.estimates,
             refuses_sampled: job.refuses_sampled,
+            times: job.times,
         };
         all.push(InContext {
             source,

@@ -12,6 +12,7 @@ use flow_estimates::Estimates;
 use flow_filter::Filter;
 use flow_maps::Maps;
 use flow_table::{Context, Plan};
+use flow_times::TimeNoting;
 use output_tables::Output;
 use report_writing::{NOTHING_MORE, Verbosity};
 use std::net::IpAddr;
@@ -40,6 +41,8 @@ pub struct CollectJob<'a> {
     pub estimates: Option<&'a Estimates>,
     /// Whether nothing is collected if a record that counts was sampled.
     pub refuses_sampled: bool,
+    /// What is noted of the times of records that count, and told of each session.
+    pub times: TimeNoting,
     /// Which records count, where the plan has conditions.
     pub filter: Option<&'a Filter>,
     /// The exporter that is told of each session, if one is, by its place. Of a connection it is the peer if none is
@@ -61,6 +64,7 @@ impl<'a> CollectJob<'a> {
         ensures maps { result.maps ≡ None }
         ensures estimates { result.estimates ≡ None }
         ensures refuses { result.refuses_sampled ≡ false }
+        ensures times { result.times ≡ TimeNoting.Nothing }
         ensures filter { result.filter ≡ None }
     {
         CollectJob {
@@ -74,6 +78,7 @@ impl<'a> CollectJob<'a> {
             maps: None,
             estimates: None,
             refuses_sampled: false,
+            times: TimeNoting::Nothing,
             filter: None,
             exporters: &[],
         }

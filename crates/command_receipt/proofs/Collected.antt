@@ -14,6 +14,7 @@ use Rattle.command_collect.specs.Exporters.{in_noting_context}
 use Rattle.command_collect.specs.declared.job.CollectJob.{CollectJob}
 use Rattle.ipfix_session.specs.declared.report.FullReport.{FullReport}
 use Rattle.flow_estimates.specs.declared.report.SamplingReport.{SamplingReport}
+use Rattle.flow_times.specs.declared.notes.TimesReport.{TimesReport}
 use Rattle.flow_table.specs.declared.table.Table.{Table}
 use Rattle.flow_collect.specs.InFull.{FullSerialAnswer, fulls_in}
 use Rattle.command_collect.specs.Gathered.{IsGathered, samplings_in}
@@ -31,12 +32,12 @@ use Rattle.command_receipt.specs.declared.run.Receipted.{Receipted}
 pub put_of : {S : Type 0} (Holds : List ℕ → Type 0) (made : MadeWith) (job : CollectJob) (origins : List Origin) (digests : List (List ℕ)) (old : Option (List ℕ)) (c : FullSerialAnswer S) (g : Gathered S) → IsGathered c g
     → IsPut Holds made job origins g.run.sessions.items g.sampling.items digests old g.run.table → IsPut Holds made job origins (fulls_in c.sessions.items) (samplings_in c.sessions.items) digests old c.table
 put_of {S = S} Holds made job origins digests old c g is put =
-    of_gathered (λ (sources : List S) (fulls : List FullReport) (samplings : List SamplingReport) (table : Table) (n : ℕ). IsPut Holds made job origins fulls samplings digests old table) c g is put
+    of_gathered (λ (sources : List S) (fulls : List FullReport) (samplings : List SamplingReport) (times : List TimesReport) (table : Table) (n : ℕ). IsPut Holds made job origins fulls samplings digests old table) c g is put
 
 pub not_put_of : {S : Type 0} (job : CollectJob) (origins : List Origin) (digests : List (List ℕ)) (IsUntouched : Type 0) (fault : RunFault) (c : FullSerialAnswer S) (g : Gathered S) → IsGathered c g
     → IsNotPut job origins g.run.sessions.items digests g.run.table IsUntouched fault → IsNotPut job origins (fulls_in c.sessions.items) digests c.table IsUntouched fault
 not_put_of {S = S} job origins digests IsUntouched fault c g is not =
-    of_gathered (λ (sources : List S) (fulls : List FullReport) (samplings : List SamplingReport) (table : Table) (n : ℕ). IsNotPut job origins fulls digests table IsUntouched fault) c g is not
+    of_gathered (λ (sources : List S) (fulls : List FullReport) (samplings : List SamplingReport) (times : List TimesReport) (table : Table) (n : ℕ). IsNotPut job origins fulls digests table IsUntouched fault) c g is not
 
 -- the same, whatever became of the writer
 pub untouched : (job : CollectJob) (origins : List Origin) (fulls : List FullReport) (digests : List (List ℕ)) (table : Table) (IsUntouched : Type 0) (fault : RunFault)

@@ -9,6 +9,7 @@ use Rattle.ipfix_message.specs.declared.record.DataRecord.{DataRecord}
 use Rattle.ipfix_session.specs.Given.{records_of}
 use Rattle.ipfix_session.specs.Sources.{SourceView}
 use Rattle.flow_estimates.specs.declared.report.SamplingReport.{SamplingReport}
+use Rattle.flow_times.specs.declared.notes.TimesReport.{TimesReport}
 use Rattle.report_writing.specs.declared.origin.Origin.{Origin}
 use Rattle.flow_table.specs.Plans.{PlanValue}
 use Rattle.flow_table.specs.declared.table.Table.{Table}
@@ -73,6 +74,7 @@ module _ {H S : Type 0} (part : H → S) (seen : S → SourceView) where
         records_are = g.records_are;
         filtered_is = g.filtered_is;
         sampling_is = g.sampling_is;
+        times_is = g.times_is;
       }
 
   given_parts : (job : CollectJob) (befores : List H) (told : List (Option IpAddr)) (origins : List Origin) (afters : List H) (fulls : List FilteredReport) (records : List (List DataRecord))
@@ -102,9 +104,9 @@ module _ {H S : Type 0} (part : H → S) (seen : S → SourceView) where
 
   -- and so was what was gathered of it
   pub gathers_parts : (engine : Engine) (job : CollectJob) (plan : PlanValue) (wholes : List H) (sources : List S) (origins : List Origin) (whole : Gathered H) (run : Gathered S)
-      → map part wholes ≡ sources → run.run.sources.items ≡ map part whole.run.sources.items → run.run.sessions.items ≡ whole.run.sessions.items → run.run.table ≡ whole.run.table → run.filtered ≡ whole.filtered → run.sampling ≡ whole.sampling
+      → map part wholes ≡ sources → run.run.sources.items ≡ map part whole.run.sources.items → run.run.sessions.items ≡ whole.run.sessions.items → run.run.table ≡ whole.run.table → run.filtered ≡ whole.filtered → run.sampling ≡ whole.sampling → run.times ≡ whole.times
       → GathersBy engine (IsGivenInContext (λ h. seen (part h))) (in_context job wholes origins) plan whole → GathersBy engine (IsGivenInContext seen) (in_context job sources origins) plan run
-  gathers_parts engine job plan wholes sources origins whole run same afters sessions table filtered sampling by =
+  gathers_parts engine job plan wholes sources origins whole run same afters sessions table filtered sampling times by =
       let c = by.collected in
       let g = by.gathered in
       let s : FullSerialAnswer S = record { sessions = c.sessions; sources = run.run.sources; table = c.table } in
@@ -112,7 +114,7 @@ module _ {H S : Type 0} (part : H → S) (seen : S → SourceView) where
       record {
         collected = s;
         collects = collects_parts engine job plan wholes sources origins c s same those refl refl by.collects;
-        gathered = record { sessions_are = sessions ∙ g.sessions_are; sources_are = refl; table_is = table ∙ g.table_is; filtered_is = filtered ∙ g.filtered_is; sampling_is = ap (λ (v : Vec SamplingReport Global). v.items) sampling ∙ g.sampling_is };
+        gathered = record { sessions_are = sessions ∙ g.sessions_are; sources_are = refl; table_is = table ∙ g.table_is; filtered_is = filtered ∙ g.filtered_is; sampling_is = ap (λ (v : Vec SamplingReport Global). v.items) sampling ∙ g.sampling_is; times_is = ap (λ (v : Vec TimesReport Global). v.items) times ∙ g.times_is };
       }
 
   -- and parts are too large if their wholes are
@@ -125,7 +127,7 @@ module _ {H S : Type 0} (part : H → S) (seen : S → SourceView) where
   -- those of the first text
   abbrev first_records : CollectJob → H → List (Option IpAddr) → List Origin → List ℕ → List DataRecord
   first_records job h told origins x =
-      counted_in (record { source = h; context = record { exporter = exporter_of (first_told told) (first_origin origins); wanted = job.wanted; options = asked_of job; maps = job.maps; estimates = job.estimates; refuses_sampled = job.refuses_sampled }; filter = job.filter }) (records_of x)
+      counted_in (record { source = h; context = record { exporter = exporter_of (first_told told) (first_origin origins); wanted = job.wanted; options = asked_of job; maps = job.maps; estimates = job.estimates; refuses_sampled = job.refuses_sampled; times = job.times }; filter = job.filter }) (records_of x)
 
   records_same : (job : CollectJob) (wholes : List H) (told : List (Option IpAddr)) (origins : List Origin) (texts : List (List ℕ))
       → records_in_context (in_places job wholes told origins) texts ≡ records_in_context (in_places job (map part wholes) told origins) texts

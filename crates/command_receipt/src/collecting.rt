@@ -93,6 +93,7 @@ fn finish_run<S: Source + Drop, T: Start>(
     ensures table { IfOk result (λ h. h.gathered.run.table ≡ gathered.run.table) }
     ensures filtered { IfOk result (λ h. h.gathered.filtered ≡ gathered.filtered) }
     ensures sampling { IfOk result (λ h. h.gathered.sampling ≡ gathered.sampling) }
+    ensures times { IfOk result (λ h. h.gathered.times ≡ gathered.times) }
     ensures digests { IfOk result (λ h. AreOfSessions S.seen T.texts 0 h.gathered.run.sources.items
         h.gathered.run.sessions.items h.digests.items) }
 {
@@ -100,6 +101,7 @@ fn finish_run<S: Source + Drop, T: Start>(
         run,
         filtered,
         sampling,
+        times,
     } = gathered;
     let Serial {
         sessions,
@@ -116,6 +118,7 @@ fn finish_run<S: Source + Drop, T: Start>(
             },
             filtered,
             sampling,
+            times,
         },
         digests,
     })

@@ -2,6 +2,7 @@ pub mod PlaceLists
 pub mod GivenLists
 pub mod Large
 pub mod Rated
+mod Timed
 pub mod Contexts
 pub mod LargeRuns
 pub mod Judged

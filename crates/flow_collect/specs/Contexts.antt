@@ -16,6 +16,9 @@ use Rattle.flow_estimates.specs.Estimates.{if_estimated}
 use Rattle.flow_estimates.specs.Noted.{Noted}
 use Rattle.exporter_options.specs.Known.{Known}
 use Rattle.exporter_options.specs.declared.beside.TheConstants as told
+use Rattle.flow_times.specs.Untimed.{times_of}
+use Rattle.flow_times.specs.declared.notes.TimesReport.{TimesReport}
+use Rattle.flow_times.specs.declared.notes.TimeNoting.TheVariants.{Nothing}
 use Rattle.flow_table.specs.declared.context.Context.{Context}
 use Rattle.flow_table.specs.declared.context.TheConstants.{EXPORTER, EXPORTER_IPV4_ADDRESS, EXPORTER_IPV6_ADDRESS, OBSERVATION_DOMAIN_ID}
 use Rattle.flow_collect.specs.Rated.{asked_after, noted_after, notes_first}
@@ -73,7 +76,7 @@ all_with_context c records = map (with_context c) (all_told (asked_first c.optio
 
 -- nothing is known, and nothing is wanted
 abbrev pub nothing_known : SessionContext
-nothing_known = record { exporter = None; wanted = NOTHING_WANTED; options = told.NOTHING_WANTED; maps = None; estimates = None; refuses_sampled = false }
+nothing_known = record { exporter = None; wanted = NOTHING_WANTED; options = told.NOTHING_WANTED; maps = None; estimates = None; refuses_sampled = false; times = Nothing }
 
 module _ {S : Type 0} where
   abbrev pub sources_of : List (InContext S) → List S
@@ -98,6 +101,10 @@ module _ {S : Type 0} where
   -- what is noted of the rates of those that it counts, if rates are asked for
   abbrev pub noted_in : InContext S → List DataRecord → Option Noted
   noted_in s own = noted_after s.context.estimates (notes_first s.context.options.sampling) (counted_in s own)
+
+  -- and what is told of the times of those that it counts, if that is asked for
+  abbrev pub times_in : InContext S → List DataRecord → TimesReport
+  times_in s own = times_of s.context.times (counted_in s own)
 
   -- the records of these texts that count, each with what the session of its source knows
   abbrev pub records_in_context : List (InContext S) → List (List ℕ) → List (List DataRecord)

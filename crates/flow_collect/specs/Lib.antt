@@ -1,6 +1,7 @@
 -- What public contracts cite.
 pub mod Places
 pub mod Rated
+pub mod Timed
 pub mod Contexts
 pub mod Headline
 pub mod InFull

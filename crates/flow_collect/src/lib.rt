@@ -21,6 +21,7 @@ mod session_thread;
 mod settling;
 mod shortage;
 mod threads;
+mod time_sink;
 mod without_rest;
 mod worker;
 

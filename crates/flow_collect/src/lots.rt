@@ -11,9 +11,11 @@ use crate::context_fields::ContextFields;
 use crate::context_sink::ContextSink;
 use crate::rate_sink::{RateSink, first_notes};
 use crate::session_context::InContext;
+use crate::time_sink::TimeSink;
 use exporter_options::ToldFields;
 use flow_filter::FilterSink;
 use flow_table::{Partial, Plan, TableFault};
+use flow_times::TimeNotes;
 use ipfix_message::DataRecord;
 use ipfix_session::{READ_LIMIT, Sink, Source, drive_in_full};
 use std::alloc::{AllocError, Global};
@@ -133,11 +135,14 @@ fn drive_one<S: Source + Drop>(
         mut sessions,
         partial,
     } = lot;
-    let table = TableSink { partial };
+    let times = TimeSink {
+        notes: TimeNotes::new(context.times),
+        sink: TableSink { partial },
+    };
     let fields = ContextFields::new(alloc, context)?;
     let told = ToldFields::new(alloc, context.options)?;
     let notes = first_notes(alloc, context.options.sampling)?;
-    let rates = RateSink::new(context.estimates, notes, table);
+    let rates = RateSink::new(context.estimates, notes, times);
     let mut sink = ContextSink::new(told, fields, FilterSink::new(filter, rates));
     let full = drive_in_full(alloc, &mut source, &mut sink, READ_LIMIT);
     if sink.lost.is_some() || sink.refused > 0 {
@@ -145,14 +150,16 @@ fn drive_one<S: Source + Drop>(
     }
     let ContextSink { told, sink, .. } = sink;
     let FilterSink { filtered, sink, .. } = sink;
-    let (sampling, table) = sink.finish(alloc, &told);
+    let (sampling, times) = sink.finish(alloc, &told);
+    let TimeSink { notes, sink } = times;
     sources.push(source)?;
     sessions.push(FilteredReport {
         full,
         filtered,
         sampling,
+        times: notes.report(),
     })?;
-    let TableSink { partial } = table;
+    let TableSink { partial } = sink;
     Ok(Lot {
         sources,
         sessions,

@@ -10,6 +10,7 @@ use flow_maps::Maps;
 use flow_table::{
     Context, EXPORTER, EXPORTER_IPV4_ADDRESS, EXPORTER_IPV6_ADDRESS, OBSERVATION_DOMAIN_ID,
 };
+use flow_times::TimeNoting;
 use ipfix_message::Fields;
 use ipfix_wire::ElementId;
 use std::alloc::{AllocError, Global};
@@ -56,6 +57,8 @@ pub struct SessionContext<'a> {
     pub estimates: Option<&'a Estimates>,
     /// Whether nothing is collected if a record that counts was sampled, by the rates that `options` asks for.
     pub refuses_sampled: bool,
+    /// What is noted of the times of the records that count.
+    pub times: TimeNoting,
 }
 
 /// No elements of context.
@@ -77,6 +80,7 @@ pub fn no_context<'a>() -> SessionContext<'a>
         maps: None,
         estimates: None,
         refuses_sampled: false,
+        times: TimeNoting::Nothing,
     }
 }
 

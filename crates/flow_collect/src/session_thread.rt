@@ -11,9 +11,11 @@ use crate::link_sink::LinkSink;
 use crate::rate_sink::{RateSink, first_notes};
 use crate::session_context::SessionContext;
 use crate::shortage::Shortage;
+use crate::time_sink::TimeSink;
 use exporter_options::ToldFields;
 use flow_filter::{Filter, FilterSink};
 use flow_link::Sender;
+use flow_times::TimeNotes;
 use ipfix_session::{READ_LIMIT, Source, drive_in_full};
 use std::alloc::Global;
 use std::sync::Wait;
@@ -64,10 +66,14 @@ pub fn run_session<'x, S: Source + Drop, G: Gate, R: Wait>(
     let fields = ContextFields::new(alloc, context)?;
     let told = ToldFields::new(alloc, context.options)?;
     let notes = first_notes(alloc, context.options.sampling)?;
-    let rates = RateSink::new(context.estimates, notes, link);
+    let times = TimeSink {
+        notes: TimeNotes::new(context.times),
+        sink: link,
+    };
+    let rates = RateSink::new(context.estimates, notes, times);
     let mut sink = ContextSink::new(told, fields, FilterSink::new(filter, rates));
     let full = drive_in_full(alloc, &mut source, &mut sink, READ_LIMIT);
-    let sent = sink.sink.sink.sink.send_last();
+    let sent = sink.sink.sink.sink.sink.send_last();
     if let Some(shortage) = sink.lost {
         return Err(shortage);
     }
@@ -76,14 +82,15 @@ pub fn run_session<'x, S: Source + Drop, G: Gate, R: Wait>(
     }
     let ContextSink { told, sink, .. } = sink;
     let FilterSink { filtered, sink, .. } = sink;
-    let (sampling, link) = sink.finish(alloc, &told);
+    let (sampling, times) = sink.finish(alloc, &told);
     Ok(EndedSession {
         report: FilteredReport {
             full,
             filtered,
             sampling,
+            times: times.notes.report(),
         },
         source,
-        sender: link.sender,
+        sender: times.sink.sender,
     })
 }

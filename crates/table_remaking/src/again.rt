@@ -12,6 +12,7 @@ use command_receipt::{MadeWith, Remade, RemakeFault, remake};
 use flow_export::Format;
 use flow_maps::Maps;
 use flow_plan_maps::{refuses_sampled, wanted_context, wanted_options};
+use flow_times::TimeNoting;
 use input_sources::LoadedPlan;
 use ipfix_session::Source;
 use output_tables::Output;
@@ -107,6 +108,7 @@ fn collect_job<'a>(by: &'a MadeBy, said: &TableReceipt) -> CollectJob<'a>
         maps: by.maps.as_ref(),
         estimates: loaded.estimates.as_ref(),
         refuses_sampled: refuses_sampled(&loaded.read),
+        times: TimeNoting::Nothing,
         filter: loaded.read.conditions(),
         exporters: by.exporters.as_slice(),
     }

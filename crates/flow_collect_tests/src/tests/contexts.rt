@@ -2,7 +2,6 @@
 
 use super::texts::*;
 use element_registry::Elements;
-use exporter_options::NOTHING_WANTED;
 use flow_collect::{
     ContextFields, Exporter, InContext, OpenGate, Pool, SessionContext, collect_direct,
     collect_flat, no_context,
@@ -93,10 +92,7 @@ fn fields_follow_the_records_own(rt: HostRuntime) -> Result<(), Fail> {
     let context = SessionContext {
         exporter: Some(Exporter::Ipv4(IPV4)),
         wanted: ALL,
-        options: NOTHING_WANTED,
-        maps: None,
-        estimates: None,
-        refuses_sampled: false,
+        ..no_context()
     };
     ContextFields::new(rt.alloc(), context)?.append(&mut item)?;
     assert_eq!(rt; item.fields.len(), 4);
@@ -112,10 +108,7 @@ fn each_domain_has_its_own_fields(rt: HostRuntime) -> Result<(), Fail> {
     let context = SessionContext {
         exporter: None,
         wanted: ALL,
-        options: NOTHING_WANTED,
-        maps: None,
-        estimates: None,
-        refuses_sampled: false,
+        ..no_context()
     };
     let mut fields = ContextFields::new(rt.alloc(), context)?;
     for domain in [7, 0, 7, 8] {
@@ -136,10 +129,7 @@ fn only_what_is_wanted_is_appended(rt: HostRuntime) -> Result<(), Fail> {
     let of_ipv6 = SessionContext {
         exporter: Some(Exporter::Ipv6(IPV6)),
         wanted: ALL,
-        options: NOTHING_WANTED,
-        maps: None,
-        estimates: None,
-        refuses_sampled: false,
+        ..no_context()
     };
     ContextFields::new(rt.alloc(), of_ipv6)?.append(&mut item)?;
     assert_eq!(rt; item.fields.len(), 4);
@@ -162,10 +152,7 @@ fn three_sessions(
                 context: SessionContext {
                     exporter,
                     wanted,
-                    options: NOTHING_WANTED,
-                    maps: None,
-                    estimates: None,
-                    refuses_sampled: false,
+                    ..no_context()
                 },
                 filter: None,
             })?;

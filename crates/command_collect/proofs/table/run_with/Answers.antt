@@ -48,7 +48,7 @@ returns-clause-runs g c =
     let strict = job.verbosity.strict in
     let is_scaled = is_some job.estimates in
     let told = zero_if_well c.status_of.result status _ refl c.status_of.ensures.ends c.status_of.ensures.well in
-    let well = of_gathered (λ sources fulls samplings table n. (status ≡ 0) ↔ WentWell strict is_scaled fulls samplings table) by.collected c.in-Ok.gathered by.gathered told in
+    let well = of_gathered (λ sources fulls samplings times table n. (status ≡ 0) ↔ WentWell strict is_scaled fulls samplings table) by.collected c.in-Ok.gathered by.gathered told in
     record {
       statuses = one_of_three c.status_of.result status refl c.status_of.ensures.ends;
       table = λ ran.

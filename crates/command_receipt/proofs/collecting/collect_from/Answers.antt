@@ -34,7 +34,7 @@ returns-in-Ok-finish_run-clause-ok g c =
     let job = c.args.job.now in
     let run = c.in-Ok-finish_run.ensures in
     gathers_parts part g.S.Source.seen job.engine job job.plan.now c.in-Ok.hashed.items c.args.sources.items c.args.origins.now c.in-Ok-collect_job.gathered c.in-Ok-finish_run.run'.gathered
-    c.in-Ok.ensures run.sources run.sessions run.table run.filtered run.sampling c.in-Ok-collect_job.ensures.ok
+    c.in-Ok.ensures run.sources run.sessions run.table run.filtered run.sampling run.times c.in-Ok-collect_job.ensures.ok
 
 pub returns-in-Ok-finish_run-clause-digests : goal.returns-in-Ok-finish_run-clause-digests
 returns-in-Ok-finish_run-clause-digests g c =

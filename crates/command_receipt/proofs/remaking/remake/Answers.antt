@@ -28,10 +28,10 @@ returns-in-Ok-remake_run-clause-remade g c =
       collected = by.collected;
       collects = by.collects;
       first = λ texts t. first_in_context g.S.Source.seen given by.collected.sources.items by.collected.sessions.items by.collects.headline.records texts by.collects.headline.given t;
-      text_is = of_gathered (λ sources fulls samplings table n. remade.text.items ≡ export_text job.elements.now job.output job.plan.now table) by.collected run.gathered by.gathered c.in-Ok-remake_run.ensures.text;
+      text_is = of_gathered (λ sources fulls samplings times table n. remade.text.items ≡ export_text job.elements.now job.output job.plan.now table) by.collected run.gathered by.gathered c.in-Ok-remake_run.ensures.text;
       digests = digests;
-      are_digests = of_gathered (λ sources fulls samplings table n. AreDigestsOf g.S.Source.seen c.args.sources.items fulls digests) by.collected run.gathered by.gathered c.in-Ok.ensures.digests;
-      is_made = of_gathered (λ sources fulls samplings table n. IsMade c.args.made job c.args.origins.now fulls samplings digests (Some []) table (receipt_value remade.receipt)) by.collected run.gathered by.gathered c.in-Ok-remake_run.ensures.made;
+      are_digests = of_gathered (λ sources fulls samplings times table n. AreDigestsOf g.S.Source.seen c.args.sources.items fulls digests) by.collected run.gathered by.gathered c.in-Ok.ensures.digests;
+      is_made = of_gathered (λ sources fulls samplings times table n. IsMade c.args.made job c.args.origins.now fulls samplings digests (Some []) table (receipt_value remade.receipt)) by.collected run.gathered by.gathered c.in-Ok-remake_run.ensures.made;
     }
 
 pub returns-clause-fault : goal.returns-clause-fault
@@ -44,7 +44,7 @@ returns-clause-fault g c =
       collects = by.collects;
       not_put = record {
         digests = digests;
-        are_digests = of_gathered (λ sources fulls samplings table n. AreDigestsOf g.S.Source.seen c.args.sources.items fulls digests) by.collected run.gathered by.gathered c.in-Ok.ensures.digests;
+        are_digests = of_gathered (λ sources fulls samplings times table n. AreDigestsOf g.S.Source.seen c.args.sources.items fulls digests) by.collected run.gathered by.gathered c.in-Ok.ensures.digests;
         ends = not_put_of c.args.job.now c.args.origins.now digests (Unit {0}) c.in-Err-remake_run.fault by.collected run.gathered by.gathered c.in-Err-remake_run.ensures.not_made;
       };
     }

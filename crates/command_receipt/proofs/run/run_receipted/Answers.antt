@@ -39,7 +39,7 @@ returns-in-Err-answer-clause-runs g c =
           collects = by.collects;
           not_put = record {
             digests = digests;
-            are_digests = of_gathered (λ sources fulls samplings table n. AreDigestsOf g.S.Source.seen c.args.sources.items fulls digests) by.collected c.in-Ok.run'.gathered by.gathered c.in-Ok.ensures.digests;
+            are_digests = of_gathered (λ sources fulls samplings times table n. AreDigestsOf g.S.Source.seen c.args.sources.items fulls digests) by.collected c.in-Ok.run'.gathered by.gathered c.in-Ok.ensures.digests;
             ends = not_put_of c.args.job.now c.args.origins.now digests (c.write_run-out.result.out ≡ c.args.to.out) c.in-Err-answer.fault by.collected c.in-Ok.run'.gathered by.gathered (search rules);
           };
         },
@@ -59,7 +59,7 @@ returns-clause-runs g c =
     let is_scaled = is_some job.estimates in
     let digests = c.in-Ok.run'.digests.items in
     let told = zero_if_well c.status_of-status.result status _ refl c.status_of-status.ensures.ends c.status_of-status.ensures.well in
-    let well = of_gathered (λ sources fulls samplings table n. (status ≡ 0) ↔ WentWell strict is_scaled fulls samplings table) by.collected c.in-Ok.run'.gathered by.gathered told in
+    let well = of_gathered (λ sources fulls samplings times table n. (status ≡ 0) ↔ WentWell strict is_scaled fulls samplings table) by.collected c.in-Ok.run'.gathered by.gathered told in
     record {
       statuses = one_of_three c.status_of-status.result status refl c.status_of-status.ensures.ends;
       table = λ ran.
@@ -69,7 +69,7 @@ returns-clause-runs g c =
                 (record { ended = c.tell.ensures.ended; are_ended = c.tell.ensures.are_ended; told = is_told _ _ _ c.tell.result _ c.tell.ensures.told.told c.tell.ensures.told.failed }),
             record {
               digests = digests;
-              are_digests = of_gathered (λ sources fulls samplings table n. AreDigestsOf g.S.Source.seen c.args.sources.items fulls digests) by.collected c.in-Ok.run'.gathered by.gathered c.in-Ok.ensures.digests;
+              are_digests = of_gathered (λ sources fulls samplings times table n. AreDigestsOf g.S.Source.seen c.args.sources.items fulls digests) by.collected c.in-Ok.run'.gathered by.gathered c.in-Ok.ensures.digests;
               ends = put_of (g.P.ReceiptPlace.holds c.write_run-out.result.place) c.args.to.made job c.args.origins.now digests (g.W.Write.contents c.args.to.out) by.collected c.in-Ok.run'.gathered by.gathered (search rules);
             },
           );
