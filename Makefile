@@ -12,7 +12,7 @@ try: ; @cd crates/collectd_cli && rt try -- dump < ../../examples/one-flow.ipfix
 # One crate, and those below it: make check CRATE=network_prefixes
 check: ; @cd crates/$(CRATE) && rt check
 
-.PHONY: try check test edits bench compare interop refusals hostile soak scale install dist deb packages slim clean
+.PHONY: try check test edits bench compare interop refusals hostile soak scale service install dist deb packages slim clean
 test: ; @tests/gate/run
 
 edits: ; @tests/more/try_edits
@@ -30,6 +30,8 @@ hostile: bin/collectd ; @tests/more/peers && tests/more/datagrams
 soak: bin/collectd ; @tests/more/soak && tests/more/soak_recordings
 
 scale: bin/collectd ; @tests/more/scale
+
+service: bin/collectd ; @tests/more/service
 
 install: bin/collectd
 	install -D bin/collectd $(DESTDIR)$(PREFIX)/bin/collectd
