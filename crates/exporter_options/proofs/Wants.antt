@@ -1,10 +1,12 @@
 -- What is told beside records, if nothing of it is wanted, and of the first records of a session.
-use Rattle.std.proofs.Common.{◌≡◌, ℕ, Bool, true, false, ◌||◌, List, [], ◌∷◌, ◌++◌, Option, None, refl, sym, ap, ◌∙◌, append-nil}
+use Rattle.std.proofs.Common.{◌≡◌, ℕ, Bool, true, false, ◌||◌, List, [], ◌∷◌, ◌++◌, length, Option, None, refl, sym, ap, ◌∙◌, append-nil, arith}
 use Rattle.std.specs.Prelude.{if◌then◌else◌}
-use Rattle.std.proofs.lemmas.Bool.{cond-true, cond-false}
+use Rattle.std.proofs.lemmas.Bool.{cond-true, cond-false, ltb-false}
 use Rattle.ipfix_message.specs.Fields.{Field}
 use Rattle.ipfix_message.specs.declared.record.DataRecord.{DataRecord}
-use Rattle.exporter_options.specs.Known.{init_time_beside, noted, sampling_beside}
+use Rattle.exporter_options.specs.Known.{Known, has_samplings, init_time_beside, noted, sampling_beside}
+use Rattle.exporter_options.specs.declared.init_times.InitTime.{InitTime}
+use Rattle.exporter_options.specs.declared.samplings.DomainSampling.{DomainSampling}
 use Rattle.exporter_options.specs.Beside.{Asked, all_told, asked_next, init_time_fields, rate_fields, rate_in, with_told}
 use Rattle.exporter_options.specs.declared.sampling.Rate.{Rate}
 
@@ -43,3 +45,12 @@ told_append s [] ys = (s, refl)
 told_append s (x ∷ xs) ys =
     let rest = told_append (asked_next s x) xs ys in
     (rest.0, ap (λ (l : List DataRecord). with_told s x ∷ l) rest.1)
+
+-- where no sampling was told of, there is no rate beside a record
+none_of : (times : List InitTime) (samplings : List DomainSampling) (r : DataRecord) → has_samplings (record { init_times = times; samplings = samplings }) ≡ false
+    → None ≡ rate_in (sampling_beside (record { init_times = times; samplings = samplings }) r)
+none_of times [] r none = refl
+none_of times (k ∷ samplings) r none = absurd (omega (arith, ltb-false 0 (length (k ∷ samplings)) none))
+
+pub no_rate : (known : Known) (r : DataRecord) → has_samplings known ≡ false → None ≡ rate_in (sampling_beside known r)
+no_rate known r none = none_of known.init_times known.samplings r none

@@ -1,5 +1,5 @@
 -- What is known of an exporter from the options records of a session so far.
-use Rattle.std.specs.Prelude.{ℕ, ◌==◌, ◌&&◌, not, nat_eq, Bool, true, List, [], ◌∷◌, take, filter, find, fold, Option, Some, None}
+use Rattle.std.specs.Prelude.{ℕ, ◌==◌, ◌&&◌, not, nat_eq, nat_lt, Bool, true, List, [], ◌∷◌, length, take, filter, find, fold, Option, Some, None}
 use Rattle.std.specs.Option.{option_eq, option_map, option_or}
 use Rattle.ipfix_message.specs.declared.record.DataRecord.{DataRecord}
 use Rattle.exporter_options.specs.Rates.{selector_in}
@@ -56,6 +56,10 @@ is_asked (Some selector) told = option_eq nat_eq told (Some selector)
 abbrev pub sampling_told : Known → ℕ → Option ℕ → Option Sampling
 sampling_told known domain selector =
     option_map (λ k. k.sampling) (find (λ k. (k.domain == domain) && is_asked selector k.selector) known.samplings)
+
+-- sampling was told of, by whichever selector of whichever domain
+abbrev pub has_samplings : Known → Bool
+has_samplings known = nat_lt 0 (length known.samplings)
 
 -- of a domain that was told of, what was told of it, else what was told of domain 0, which is the whole exporter (RFC 7011, section 3.1)
 abbrev pub of_domain : {X : Type 0} → (ℕ → Option X) → ℕ → Option X

@@ -3,6 +3,7 @@
 ghost use Rattle.std.specs.Prelude.{◌≡◌, ◌||◌, ◌++◌, IfOk, OnOk};
 ghost use Rattle.std.specs.Int.{w32, w64, to_be_bytes};
 ghost use Rattle.exporter_options.specs.Beside as told;
+ghost use Rattle.exporter_options.specs.Known.{sampling_beside};
 
 use crate::exporter_options::ExporterOptions;
 use crate::sampling::{Rate, Sampling, selector_in};
@@ -83,11 +84,21 @@ pub fn known_beside(wanted: Wanted, known: &ExporterOptions, item: &DataRecord) 
         None
     };
     let rate = if wanted.sampling {
-        rate_in(known.sampling(item.domain, selector_in(&item.fields)))
+        rate_beside(known, item)
     } else {
         None
     };
     Beside { init_time, rate }
+}
+
+// The rate of a record's domain and selector. The selector is only looked for if a rate was told.
+fn rate_beside(known: &ExporterOptions, item: &DataRecord) -> Option<Rate>
+    ensures { result ≡ told.rate_in (sampling_beside known.now item.now) }
+{
+    if !known.has_samplings() {
+        return None;
+    }
+    rate_in(known.sampling(item.domain, selector_in(&item.fields)))
 }
 
 // Appends the field of a time.

@@ -1,7 +1,7 @@
 //! What the options records of a session told so far.
 
 ghost use Rattle.std.specs.Prelude.{◌≡◌, OnErr, OnOk};
-ghost use Rattle.exporter_options.specs.Known.{init_time_of, noted, nothing_known, sampling_of, with_told};
+ghost use Rattle.exporter_options.specs.Known.{has_samplings, init_time_of, noted, nothing_known, sampling_of, with_told};
 
 use crate::init_times::{self, InitTime};
 use crate::sampling::Sampling;
@@ -84,6 +84,13 @@ impl ExporterOptions {
             Some(time) => Some(time),
             None => init_times::find_told(&self.init_times, 0),
         }
+    }
+
+    /// Whether the exporter told of any domain how it samples.
+    pub fn has_samplings(&self) -> bool
+        ensures { result ≡ has_samplings self.now }
+    {
+        !self.samplings.is_empty()
     }
 
     /// How packets of a domain are sampled, as the exporter told last of it, or else of domain 0: by a selector if

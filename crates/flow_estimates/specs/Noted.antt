@@ -28,10 +28,20 @@ records_of domain rate counts = unwrap_or (option_map (λ c. c.records) (find (i
 abbrev pub one_more : ℕ → ℕ
 one_more n = min (n + 1) (2 ^ 64 - 1)
 
--- the newest first; only so many are kept: what was counted longest ago is forgotten first
-abbrev pub counted : ℕ → Option Rate → List RateCount → List RateCount
-counted domain rate counts =
+-- a record more of the same domain and rate as the newest
+abbrev pub counted_again : ℕ → Option Rate → List RateCount → Option (List RateCount)
+counted_again domain rate [] = None
+counted_again domain rate (c ∷ rest) =
+    if is_of domain rate c then Some (record { domain = c.domain; rate = c.rate; records = one_more c.records } ∷ rest) else None
+
+-- a record more, whose domain and rate become the newest; only so many are kept: what was counted longest ago is forgotten first
+abbrev pub counted_anew : ℕ → Option Rate → List RateCount → List RateCount
+counted_anew domain rate counts =
     take MOST_RATES (record { domain = domain; rate = rate; records = one_more (records_of domain rate counts) } ∷ filter (λ c. not (is_of domain rate c)) counts)
+
+-- the newest first
+abbrev pub counted : ℕ → Option Rate → List RateCount → List RateCount
+counted domain rate counts = unwrap_or (counted_again domain rate counts) (counted_anew domain rate counts)
 
 -- ---- notes
 

@@ -1,6 +1,6 @@
 //! How many of a session's records have which rate.
 
-ghost use Rattle.std.specs.Prelude.{◌≡◌, ◌<◌, IfOk, Some, find};
+ghost use Rattle.std.specs.Prelude.{◌≡◌, ◌<◌, IfOk, Some, find, is_some, unwrap_or};
 ghost use Rattle.std.specs.Option.{option_map};
 ghost use Rattle.std.specs.VecDeque.{deque_capacity, deque_len};
 ghost use Rattle.flow_estimates.specs.Noted as noted;
@@ -114,6 +114,33 @@ pub fn is_sampled(rate: Option<Rate>) -> bool
 fn count(counts: &mut VecDeque<RateCount>, domain: u32, rate: Option<Rate>)
     requires { deque_capacity counts.old ≡ MOST_RATES }
     ensures counted { counts.new.items ≡ noted.counted domain rate counts.old.items }
+    ensures capacity { deque_capacity counts.new ≡ deque_capacity counts.old }
+{
+    if !count_again(counts, domain, rate) {
+        count_anew(counts, domain, rate);
+    }
+}
+
+// Counts a record of the same domain and rate as the newest, and answers whether it was one.
+fn count_again(counts: &mut VecDeque<RateCount>, domain: u32, rate: Option<Rate>) -> bool
+    ensures is_again { result ≡ is_some (noted.counted_again domain rate counts.old.items) }
+    ensures counted { counts.new.items
+        ≡ unwrap_or (noted.counted_again domain rate counts.old.items) counts.old.items }
+    ensures capacity { deque_capacity counts.new ≡ deque_capacity counts.old }
+{
+    match counts.front_mut() {
+        Some(first) if is_of(first, domain, rate) => {
+            first.records = first.records.saturating_add(1);
+            true
+        }
+        _ => false,
+    }
+}
+
+// Counts a record, whose domain and rate become the newest.
+fn count_anew(counts: &mut VecDeque<RateCount>, domain: u32, rate: Option<Rate>)
+    requires { deque_capacity counts.old ≡ MOST_RATES }
+    ensures counted { counts.new.items ≡ noted.counted_anew domain rate counts.old.items }
     ensures capacity { deque_capacity counts.new ≡ deque_capacity counts.old }
 {
     let records = records_of(counts, domain, rate).saturating_add(1);

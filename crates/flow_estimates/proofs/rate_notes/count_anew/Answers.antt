@@ -3,7 +3,7 @@ use Rattle.std.proofs.lemmas.Fn.{filter_same}
 use Rattle.exporter_options.proofs.Numbers.{kept_front}
 use Rattle.flow_estimates.specs.Noted.{is_of, one_more}
 use Rattle.flow_estimates.specs.declared.rate_notes.RateCount.{RateCount}
-use Rattle.flow_estimates.proofs.rate_notes.count.Goals as goal
+use Rattle.flow_estimates.proofs.rate_notes.count_anew.Goals as goal
 
 pub returns-clause-counted : goal.returns-clause-counted
 returns-clause-counted c =
