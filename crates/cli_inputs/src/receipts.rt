@@ -250,6 +250,7 @@ impl KeptTexts {
             plan,
             elements: self.files(alloc)?,
             maps,
+            left_out: Vec::new(alloc),
         })
     }
 }

@@ -162,7 +162,12 @@ fn discard(receipt: Option<ReceiptTo>) {
 
 // Leaves nothing of a receipt that wasn't put.
 fn settled(ended: Ended<BufWriter<WithReason<Stdout>>, SystemPlace>) -> TableWritten {
-    let Ended { status, out, place } = ended;
+    let Ended {
+        status,
+        out,
+        place,
+        ..
+    } = ended;
     match status {
         Status::Well | Status::SessionFault => {}
         Status::NotOpened | Status::Failed => place.discard(),
@@ -347,7 +352,12 @@ fn merge_settled(ended: MergedEnd<BufWriter<WithReason<Stdout>>, SystemPlace>) -
     let MergedEnd { status, to } = ended;
     let MergedTo { out, place } = to;
     match place {
-        Some(place) => settled(Ended { status, out, place }),
+        Some(place) => settled(Ended {
+            status,
+            hindrance: None,
+            out,
+            place,
+        }),
         None => TableWritten { status, out },
     }
 }

@@ -5,7 +5,7 @@ use Rattle.std.specs.List.{AllZip}
 use Rattle.std.proofs.lemmas.Bool.{lt-ltb, ltb-true}
 use Rattle.std.proofs.lemmas.Grind.{flat_map-append}
 use Rattle.table_receipts.specs.declared.receipt.RecordCounts.{RecordCounts}
-use Rattle.receipt_merging.specs.Parts.{PartValue, add_counts, all_complete, counts_from, inputs_in, no_counts, sum_of}
+use Rattle.receipt_merging.specs.Parts.{PartValue, add_counts, all_complete, counts_from, inputs_in, left_out_in, no_counts, sum_of}
 use Rattle.command_merge_receipts.specs.Steps.{IsMergedOf, SayTheSame, all_parts}
 
 -- ---- sums that stop
@@ -82,6 +82,13 @@ inputs_of_steps (parts ∷ steps) [] all = absurd all
 inputs_of_steps (parts ∷ steps) (one ∷ ones) all =
     ap₂ (λ xs ys. xs ++ ys) all.0.inputs (inputs_of_steps steps ones all.1) ∙ sym (flat_map-append (λ (p : PartValue). p.receipt.inputs) parts (all_parts steps))
 
+left_out_of_steps : (steps : List (List PartValue)) (ones : List PartValue) → AllZip IsMergedOf steps ones → left_out_in ones ≡ left_out_in (all_parts steps)
+left_out_of_steps [] [] all = refl
+left_out_of_steps [] (one ∷ ones) all = absurd all
+left_out_of_steps (parts ∷ steps) [] all = absurd all
+left_out_of_steps (parts ∷ steps) (one ∷ ones) all =
+    ap₂ (λ xs ys. xs ++ ys) all.0.left_out (left_out_of_steps steps ones all.1) ∙ sym (flat_map-append (λ (p : PartValue). p.receipt.left_out) parts (all_parts steps))
+
 complete_steps : (steps : List (List PartValue)) (ones : List PartValue) → AllZip IsMergedOf steps ones → all_complete ones ≡ all_complete (all_parts steps)
 complete_steps [] [] all = refl
 complete_steps [] (one ∷ ones) all = absurd all
@@ -107,4 +114,4 @@ counts_of_steps (parts ∷ steps) (one ∷ ones) all =
     ∙ ap (λ c. counts_from c later) (count_stops parts) ∙ sym (counts_of_all no_counts parts later)
 
 pub all_steps : (steps : List (List PartValue)) (ones : List PartValue) → AllZip IsMergedOf steps ones → SayTheSame ones (all_parts steps)
-all_steps steps ones all = record { inputs = inputs_of_steps steps ones all; records = counts_of_steps steps ones all; complete = complete_steps steps ones all }
+all_steps steps ones all = record { inputs = inputs_of_steps steps ones all; records = counts_of_steps steps ones all; left_out = left_out_of_steps steps ones all; complete = complete_steps steps ones all }

@@ -31,6 +31,7 @@ pub fn make_merged_receipt(
     let MergedParts {
         inputs,
         records,
+        left_out,
         complete,
     } = merged;
     Ok(Receipt {
@@ -41,6 +42,7 @@ pub fn make_merged_receipt(
         inputs,
         records,
         table,
+        left_out,
         complete,
     })
 }

@@ -49,9 +49,9 @@ untouched job origins fulls digests table IsUntouched (Receipt (receipts.InputTw
 
 module _ {S W P : Type 0} (contents : W → Option (List ℕ)) (holds : P → List ℕ → Type 0) (to : Receipted W P) (ended : Ended W P) (seen : S → SourceView) (failure : S → Option ErrorKind) (job : CollectJob) where
   fault_told : (Told AreTold : List ℕ → Type 0) (sources : List S) (origins : List Origin) → ((lines : List ℕ) → Told lines → AreTold lines)
-      → TellsNoReceipt seen sources job origins (ended.out ≡ to.out) Told → TellsNoReceipt seen sources job origins (ended.out ≡ to.out) AreTold
-  fault_told Told AreTold sources origins otherwise (inl f) = inl (f.0, f.1, f.2, otherwise _ f.3)
-  fault_told Told AreTold sources origins otherwise (inr f) = inr (f.0, f.1, otherwise _ f.2)
+      → TellsNoReceipt seen sources job origins (ended.out ≡ to.out) ended.hindrance Told → TellsNoReceipt seen sources job origins (ended.out ≡ to.out) ended.hindrance AreTold
+  fault_told Told AreTold sources origins otherwise (inl f) = inl (f.0, f.1, f.2, f.3, otherwise _ f.4)
+  fault_told Told AreTold sources origins otherwise (inr f) = inr (f.0, f.1, f.2, otherwise _ f.3)
 
   -- a run that told its lines, said otherwise
   retold : (Told AreTold : List ℕ → Type 0) (sources : List S) (origins : List Origin) → ((lines : List ℕ) → Told lines → AreTold lines)

@@ -5,3 +5,5 @@ pub mod Written
 pub mod Sums
 pub mod Lists
 pub mod Refusals
+pub mod Complete
+pub mod Hindered

@@ -1,5 +1,5 @@
 -- How a run ended that puts a receipt.
-use Rattle.std.specs.Prelude.{◌≡◌, ◌⊎◌, ℕ, List, [], Option, is_some, length, map}
+use Rattle.std.specs.Prelude.{◌≡◌, ◌⊎◌, ℕ, List, [], Option, None, Some, is_some, length, map}
 use Rattle.std.specs.Borrow.{Bor}
 use Rattle.std.specs.declared.io.ErrorKind.{ErrorKind}
 use Rattle.std.specs.declared.net.socket_addr.SocketAddr.{SocketAddr}
@@ -14,7 +14,9 @@ use Rattle.flow_estimates.specs.declared.report.SamplingReport.{SamplingReport}
 use Rattle.flow_table.specs.AddedUp.{rows_in}
 use Rattle.flow_table.specs.declared.table.Table.{Table}
 use Rattle.flow_collect.specs.InFull.{FullSerialAnswer, IsGivenInContext, fulls_in}
+use Rattle.flow_collect.specs.Refusals.{AreTooLargeInContext}
 use Rattle.flow_collect.specs.declared.fault.CollectFault.{CollectFault}
+use Rattle.flow_collect.specs.declared.fault.CollectFault.TheVariants.{SumTooLarge}
 use Rattle.input_sources.specs.Had.{AreAccepted, PathsAreOpened}
 use Rattle.input_sources.specs.Origins.{AreFiles, ArePeers}
 use Rattle.output_tables.specs.TableTexts.{IsNotWritten, export_text}
@@ -40,6 +42,8 @@ use Rattle.command_receipt.specs.declared.fault.RunFault.TheVariants.{Export, Re
 use Rattle.command_receipt.specs.declared.hashed_table.TextDigest.{TextDigest}
 use Rattle.command_receipt.specs.declared.making.MadeWith.{MadeWith}
 use Rattle.command_receipt.specs.declared.run.Ended.{Ended}
+use Rattle.command_receipt.specs.declared.run.Hindrance.{Hindrance}
+use Rattle.command_receipt.specs.declared.run.Hindrance.TheVariants.{SumTooLarge as TooLarge, InputTwice as Twice}
 use Rattle.command_receipt.specs.declared.run.Receipted.{Receipted}
 
 -- the receipt of these inputs and of this table, by the digest of the table's text
@@ -71,6 +75,15 @@ IsOfReceipt (Receipt OutOfMemory) = Unit {0}
 IsOfReceipt (Receipt WriteFailed) = Unit {0}
 IsOfReceipt (Receipt (InputTwice first second)) = ⊥
 
+-- what of the inputs a fault of collecting tells, and one of a table or of its receipt
+abbrev pub hindrance_in : CollectFault → Option Hindrance
+hindrance_in SumTooLarge = Some TooLarge
+hindrance_in fault = None
+
+abbrev pub hindrance_of : RunFault → Option Hindrance
+hindrance_of (Receipt (InputTwice first second)) = Some (Twice first second)
+hindrance_of fault = None
+
 module _ {S : Type 0} (seen : S → SourceView) (sources : List S) where
   -- with the digests of what these sources gave
   pub record WithDigests (c : FullSerialAnswer S) (Ends : List (List ℕ) → Type 0) : Type 0 where
@@ -84,11 +97,16 @@ module _ {S : Type 0} (seen : S → SourceView) (sources : List S) where
     pub collects : CollectsBy job.engine (IsGivenInContext seen) (in_noting_context job sources origins) job.plan.now collected
     pub not_put : WithDigests collected (λ digests. IsNotPut job origins (fulls_in collected.sessions.items) digests collected.table IsUntouched fault)
 
-  -- why nothing was collected was told, and then nothing was written; or why there is no receipt
-  abbrev pub TellsNoReceipt : CollectJob → List Origin → Type 0 → (List ℕ → Type 0) → Type 0
-  TellsNoReceipt job origins IsUntouched AreTold =
-      ((fault : CollectFault) × IsFaultBy seen (length sources) job.engine (in_noting_context job sources origins) job.plan.now fault × IsUntouched × AreTold (collect_fault_line fault))
-      ⊎ ((fault : RunFault) × IsNotReceipted job origins IsUntouched fault × AreTold (run_fault_line fault))
+  -- why nothing was collected was told, and then nothing was written; or why there is no receipt; and what of the inputs that is
+  abbrev pub TellsNoReceipt : CollectJob → List Origin → Type 0 → Option Hindrance → (List ℕ → Type 0) → Type 0
+  TellsNoReceipt job origins IsUntouched hindrance AreTold =
+      ((fault : CollectFault) × IsFaultBy seen (length sources) job.engine (in_noting_context job sources origins) job.plan.now fault × IsUntouched × (hindrance ≡ hindrance_in fault) × AreTold (collect_fault_line fault))
+      ⊎ ((fault : RunFault) × IsNotReceipted job origins IsUntouched fault × (hindrance ≡ hindrance_of fault) × AreTold (run_fault_line fault))
+
+  -- a sum of the records that these sources gave is too large; or those at two places are the same, in what was collected
+  abbrev pub Hinders : CollectJob → List Origin → Hindrance → Type 0
+  Hinders job origins TooLarge = AreTooLargeInContext seen job.plan.now (in_noting_context job sources origins)
+  Hinders job origins (Twice first second) = IsNotReceipted job origins (Unit {0}) (Receipt (InputTwice first second))
 
 -- how a run ended that had a table and a receipt to write: as one without a receipt, and its receipt was put after the table was written
 module _ {S W P : Type 0} (contents : W → Option (List ℕ)) (holds : P → List ℕ → Type 0) (to : Receipted W P) (ended : Ended W P) (seen : S → SourceView) (failure : S → Option ErrorKind) (job : CollectJob) where
@@ -102,7 +120,7 @@ module _ {S W P : Type 0} (contents : W → Option (List ℕ)) (holds : P → Li
       let status = number_of ended.status in
       Runs job.engine (length sources) status (ended.out ≡ to.out)
       (WritesTable (texts_in_context seen) (IsGivenInContext seen) (EndedWell job.verbosity.strict (is_some job.estimates)) job.plan.now job.engine status (EndsReceipted AreTold sources origins) (in_noting_context job sources origins))
-      (TellsNoReceipt seen sources job origins (ended.out ≡ to.out) AreTold) AreTold
+      (TellsNoReceipt seen sources job origins (ended.out ≡ to.out) ended.hindrance AreTold) AreTold
 
   -- of sources that were had, of which the first lines and these tell
   abbrev pub CollectsReceipted : (List S → Type 0) → (List S → List Origin → Type 0) → List ℕ → Type 0 → (List ℕ → Type 0) → Type 0
@@ -125,3 +143,12 @@ module _ {S W P : Type 0} (contents : W → Option (List ℕ)) (holds : P → Li
         let first = if_verbose job.verbosity (listening_line to_accept.address.now to_accept.count) in
         let TellsNone = TellsNotAccepted (is_of before) (refuses before) job.verbosity first to_accept.address.now AreTold in
         CollectsReceipted (AreAccepted (gives before to_accept.idle) to_accept.count (coming before) (coming after)) (ArePeers (is_of before)) first TellsNone AreTold
+
+module _ {S O : Type 0} (seen : S → SourceView) (job : CollectJob) (opens : O → List ℕ → S → Type 0) (sizes : O → List ℕ → Option ℕ → Type 0) (coming : O → Option (List S)) (before after : O) (paths : List (Bor (List ℕ))) where
+  -- it is so of the files of these paths, which were opened
+  pub record HinderFiles (hindrance : Hindrance) : Type 0 where
+    pub sources : List S
+    pub origins : List Origin
+    pub opened : PathsAreOpened opens coming before after paths sources
+    pub files : AreFiles (sizes before) paths origins
+    pub hinders : Hinders seen sources job origins hindrance

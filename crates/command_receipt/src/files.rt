@@ -1,7 +1,8 @@
 //! Collecting from files, with a receipt.
 
+ghost use Rattle.std.specs.Prelude.{IfSome};
 ghost use Rattle.report_writing.specs.Told.{AreToldTo};
-ghost use Rattle.command_receipt.specs.Runs.{ReceiptedFiles};
+ghost use Rattle.command_receipt.specs.Runs.{HinderFiles, ReceiptedFiles};
 
 use crate::place::ReceiptPlace;
 use crate::run::{Ended, Receipted, run_receipted};
@@ -39,6 +40,9 @@ pub fn run_files_receipted<
     ensures collects { ReceiptedFiles W.contents Q.holds to result S.seen S.failure job.now
         O.opens O.sizes O.refuses O.coming files.old files.new paths.now
         (AreToldTo E.contents E.failed err.old err.new) }
+    // It says so of its inputs exactly if that is the fault which it tells, and only where it is so.
+    ensures hindered { IfSome result.hindrance (HinderFiles S.seen job.now O.opens O.sizes
+        O.coming files.old files.new paths.now) }
     ensures kept { E.failed err.old → E.failed err.new }
 {
     match open_all(rt, alloc, files, paths, progress, job.verbosity, err) {
@@ -51,6 +55,7 @@ pub fn run_files_receipted<
             let Receipted { out, place, .. } = to;
             Ended {
                 status: Status::NotOpened,
+                hindrance: None,
                 out,
                 place,
             }

@@ -23,7 +23,7 @@ pub use hashed_table::{TextDigest, WrittenTable, export_hashed};
 pub use making::MadeWith;
 pub use place::ReceiptPlace;
 pub use remaking::{Remade, RemakeFault, remake};
-pub use run::{Ended, Receipted, put_text, run_receipted};
+pub use run::{Ended, Hindrance, Receipted, put_text, run_receipted};
 pub use system_place::SystemPlace;
 pub use table_part::table_of;
 pub use tcp::run_tcp_receipted;

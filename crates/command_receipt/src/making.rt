@@ -1,8 +1,9 @@
 //! Making the receipt of a run.
 
-ghost use Rattle.std.specs.Prelude.{◌≡◌, map, IfOk};
+ghost use Rattle.std.specs.Prelude.{◌≡◌, ◌↔◌, [], true, map, IfOk, IsTrue};
 ghost use Rattle.flow_table.specs.Fitting.{FitsPlan};
 ghost use Rattle.table_receipts.specs.Values.{input_value, receipt_value};
+ghost use Rattle.command_collect.specs.Runs.{WentWell};
 ghost use Rattle.command_receipt.specs.Made.{IsReceiptOf};
 
 use crate::hashed_table::TextDigest;
@@ -14,7 +15,7 @@ use ipfix_session::FullReport;
 use std::alloc::{AllocError, Global};
 use table_receipts::{FileReceipt, InputReceipt, Receipt};
 
-/// Who makes a table, and under which plan.
+/// Who makes a table, under which plan, and without which inputs.
 #[derive(Drop)]
 pub struct MadeWith {
     /// The version of collectd, as `1.2.3`.
@@ -25,6 +26,8 @@ pub struct MadeWith {
     pub elements: Vec<FileReceipt>,
     /// The file of each map of the plan, in the plan's order.
     pub maps: Vec<FileReceipt>,
+    /// The names of the inputs that were left out, since their sums were too large, in the order in which they went.
+    pub left_out: Vec<String>,
 }
 
 /// The receipt of the table of these inputs, by the digest of its text.
@@ -48,7 +51,9 @@ pub fn make_receipt(
         plan,
         elements,
         maps,
+        left_out,
     } = made;
+    let complete = is_complete(job.is_scaled(), reports, sampling, table, &left_out);
     Ok(Receipt {
         collectd,
         plan,
@@ -57,6 +62,24 @@ pub fn make_receipt(
         inputs,
         records: counts_of(table.tally()),
         table: table_part,
-        complete: leaves_nothing_out(job.is_scaled(), reports, sampling, table),
+        left_out,
+        complete,
     })
+}
+
+// Whether a strict run of these sessions would end well, and nothing was left out.
+#[tactic(auto, using(crate::proofs::Complete::never_complete, crate::proofs::Complete::complete_if_empty))]
+fn is_complete(
+    is_scaled: bool,
+    reports: &[FullReport],
+    sampling: &[SamplingReport],
+    table: &FlatTable,
+    left_out: &[String],
+) -> bool
+    ensures { IsTrue result ↔ (WentWell true is_scaled reports.now sampling.now table.now × (left_out.now ≡ [])) }
+{
+    if !leaves_nothing_out(is_scaled, reports, sampling, table) {
+        return false;
+    }
+    left_out.is_empty()
 }

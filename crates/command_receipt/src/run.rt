@@ -1,12 +1,12 @@
 //! Collecting, and writing the table and its receipt.
 
-ghost use Rattle.std.specs.Prelude.{◌≡◌, IfErr, OnOk};
+ghost use Rattle.std.specs.Prelude.{◌≡◌, IfErr, IfSome, OnOk};
 ghost use Rattle.flow_table.specs.Fitting.{FitsPlan};
 ghost use Rattle.output_tables.specs.TableTexts.{Writes};
 ghost use Rattle.report_writing.specs.Told.{AreToldTo};
 ghost use Rattle.table_receipts.specs.Texts.{receipt_text};
 ghost use Rattle.table_receipts.specs.Values.{receipt_value};
-ghost use Rattle.command_receipt.specs.Runs.{IsNotPut, IsOfReceipt, IsPut, RunsReceipted};
+ghost use Rattle.command_receipt.specs.Runs.{Hinders, IsNotPut, IsOfReceipt, IsPut, RunsReceipted, hindrance_in, hindrance_of};
 
 use crate::collecting::{HashedRun, collect_hashed};
 use crate::fault::{ReceiptFault, RunFault, write_run_fault};
@@ -14,6 +14,7 @@ use crate::made_run::{MadeRun, make_run};
 use crate::making::MadeWith;
 use crate::place::ReceiptPlace;
 use command_collect::{CollectJob, status_of, tell, write_collect_fault};
+use flow_collect::CollectFault;
 use ipfix_session::Source;
 use report_writing::{Origin, Status, WriteLines};
 use std::alloc::Global;
@@ -30,10 +31,21 @@ pub struct Receipted<W, P> {
     pub place: P,
 }
 
+/// What of its inputs let a run end without a table: without some of them there may be one.
+#[derive(Clone, Copy, Debug, PartialEq, Eq)]
+pub enum Hindrance {
+    /// A sum is too large.
+    SumTooLarge,
+    /// The inputs at these places, counted from 0, are the same, and have data records.
+    InputTwice(usize, usize),
+}
+
 /// How a run ended, and where it wrote.
 #[derive(Drop)]
 pub struct Ended<W, P> {
     pub status: Status,
+    /// If what the line of its fault tells is one of the inputs, this.
+    pub hindrance: Option<Hindrance>,
     pub out: W,
     pub place: P,
 }
@@ -58,6 +70,8 @@ pub fn run_receipted<
 ) -> Ended<W, P>
     ensures runs { RunsReceipted W.contents P.holds to result S.seen S.failure job.now
         (AreToldTo E.contents E.failed err.old err.new) sources.items origins.now }
+    // It says so of its inputs exactly if that is the fault which it tells, and only where it is so.
+    ensures hindered { IfSome result.hindrance (Hinders S.seen sources.items job.now origins.now) }
     ensures kept { E.failed err.old → E.failed err.new }
 {
     let run = match collect_hashed(rt, alloc, sources, origins, job) {
@@ -67,6 +81,7 @@ pub fn run_receipted<
             let Receipted { out, place, .. } = to;
             return Ended {
                 status: Status::Failed,
+                hindrance: hindrance_in(fault),
                 out,
                 place,
             };
@@ -77,13 +92,41 @@ pub fn run_receipted<
         let _ = write_run_fault(fault, err);
         return Ended {
             status: Status::Failed,
+            hindrance: hindrance_of(fault),
             out,
             place,
         };
     }
     let _ = tell(job, origins, &run.gathered, err);
     let status = status_of(job, &run.gathered);
-    Ended { status, out, place }
+    Ended {
+        status,
+        hindrance: None,
+        out,
+        place,
+    }
+}
+
+// What of the inputs a fault of collecting tells.
+fn hindrance_in(fault: CollectFault) -> Option<Hindrance>
+    ensures { result ≡ hindrance_in fault }
+{
+    match fault {
+        CollectFault::SumTooLarge => Some(Hindrance::SumTooLarge),
+        _ => None,
+    }
+}
+
+// What of the inputs a fault of a table or of its receipt tells.
+fn hindrance_of(fault: RunFault) -> Option<Hindrance>
+    ensures { result ≡ hindrance_of fault }
+{
+    match fault {
+        RunFault::Receipt(ReceiptFault::InputTwice(first, second)) => {
+            Some(Hindrance::InputTwice(first, second))
+        }
+        _ => None,
+    }
 }
 
 // Where a run wrote; and why not, if it didn't.

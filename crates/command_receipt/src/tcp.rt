@@ -63,6 +63,7 @@ pub fn run_tcp_receipted<
         let Receipted { out, place, .. } = to;
         return Ended {
             status: Status::Failed,
+            hindrance: None,
             out,
             place,
         };
@@ -121,6 +122,7 @@ fn run_connections<
             let Receipted { out, place, .. } = to;
             Ended {
                 status: Status::NotOpened,
+                hindrance: None,
                 out,
                 place,
             }

@@ -1,2 +1,4 @@
 pub mod ExporterLists
+pub mod PathsKept
+pub mod OwnTablesKept
 pub mod TablesOfRuns

@@ -1,4 +1,6 @@
 -- What public contracts cite.
 pub mod Paths
 pub mod Exporters
+pub mod LeftOutFiles
+pub mod Parting
 pub mod MadeTables

@@ -1,9 +1,9 @@
 -- The table of the files of a period, and its receipt.
-use Rattle.std.specs.Prelude.{◌≡◌, ◌⊎◌, ℕ, Bool, true, false, List, [], Option, None, Some, option_map, map, string_bytes}
+use Rattle.std.specs.Prelude.{◌≡◌, ◌⊎◌, ◌||◌, ℕ, Bool, true, false, List, [], ◌∷◌, ◌++◌, Option, None, Some, IfSome, option_map, map, string_bytes}
+use Rattle.std.specs.List.{flat_map}
 use Rattle.std.specs.Borrow.{Bor}
 use Rattle.std.specs.declared.alloc.Global.{Global}
 use Rattle.std.specs.declared.io.ErrorKind.{ErrorKind}
-use Rattle.std.specs.declared.net.ip_addr.IpAddr.{IpAddr}
 use Rattle.std.specs.declared.string.String.{String}
 use Rattle.std.specs.declared.vec.Vec.{Vec}
 use Rattle.ipfix_session.specs.Sources.{SourceView}
@@ -13,11 +13,15 @@ use Rattle.report_writing.specs.declared.status.Status.{Status}
 use Rattle.report_writing.specs.declared.status.Status.TheVariants.{Well, SessionFault, NotOpened, Failed}
 use Rattle.table_receipts.specs.Values.{file_value}
 use Rattle.command_collect.specs.declared.job.CollectJob.{CollectJob}
-use Rattle.command_receipt.specs.Runs.{ReceiptedFiles}
+use Rattle.command_receipt.specs.Runs.{HinderFiles, ReceiptedFiles}
 use Rattle.command_receipt.specs.declared.making.MadeWith.{MadeWith}
 use Rattle.command_receipt.specs.declared.run.Ended.{Ended}
+use Rattle.command_receipt.specs.declared.run.Hindrance.{Hindrance}
+use Rattle.command_receipt.specs.declared.run.Hindrance.TheVariants.{SumTooLarge, InputTwice}
 use Rattle.command_receipt.specs.declared.run.Receipted.{Receipted}
-use Rattle.period_collect.specs.Exporters.{AreExportersOf}
+use Rattle.period_collect.specs.Exporters.{IsJobWith}
+use Rattle.period_collect.specs.LeftOutFiles.{has_any, kept_of, paths_at}
+use Rattle.period_collect.specs.Parting.{IsParted, IsSameLeftOut}
 use Rattle.period_collect.specs.Paths.{AreFilePaths}
 use Rattle.period_collect.specs.declared.kept_receipt.KeptReceipt.{KeptReceipt}
 use Rattle.period_collect.specs.declared.maker.TableMaker.{TableMaker}
@@ -28,12 +32,6 @@ pub record IsSameMade (one other : MadeWith) : Type 0 where
   pub plan : string_bytes one.plan ≡ string_bytes other.plan
   pub elements : map file_value one.elements.items ≡ map file_value other.elements.items
   pub maps : map file_value one.maps.items ≡ map file_value other.maps.items
-
--- the same job, with the exporters that the names of these files say
-pub record IsJobWith (job : CollectJob) (paths : List (Bor (List ℕ))) (with_exporters : CollectJob) : Type 0 where
-  pub exporters : Bor (List (Option IpAddr))
-  pub are_exporters : AreExportersOf paths exporters.now
-  pub same : with_exporters ≡ record job { exporters = exporters }
 
 -- a receipt of this text is kept
 abbrev pub Holds : KeptReceipt → List ℕ → Type 0
@@ -50,43 +48,100 @@ pub record EndsWith (ended : Ended (Vec ℕ Global) KeptReceipt) (text receipt :
   pub text_is : ended.out.items ≡ text
   pub receipt_is : Holds ended.place receipt
 
+-- the same of a run without some files, which count as a fault
+abbrev pub EndsWithoutSome : Ended (Vec ℕ Global) KeptReceipt → List ℕ → List ℕ → List ℕ → Bool → Type 0
+EndsWithoutSome ended out text receipt fault = (had_fault : Bool) × EndsWith ended text receipt had_fault × (fault ≡ (had_fault || has_any out))
+
 -- a run ended without a table: a file could not be opened; or the run failed, or it kept no receipt
 abbrev pub EndsWithout : Ended (Vec ℕ Global) KeptReceipt → Status → Type 0
 EndsWithout ended NotOpened = ended.status ≡ NotOpened
 EndsWithout ended Failed = (ended.status ≡ Failed) ⊎ (ended.place.text ≡ None)
 EndsWithout ended status = ⊥
 
+-- there is no table of the rest: a file could not be opened again, or all files are left out, or memory ran out
+abbrev pub HasNoRest : Status → Type 0
+HasNoRest status = (status ≡ NotOpened) ⊎ (status ≡ Failed)
+
+-- all that is left out, one lot after another
+abbrev pub all_out : List (List ℕ) → List ℕ
+all_out lots = flat_map (λ (lot : List ℕ). lot) lots
+
 module _ {S O E : Type 0} (seen : S → SourceView) (failure : S → Option ErrorKind)
     (opens : O → List ℕ → S → Type 0) (sizes : O → List ℕ → Option ℕ → Type 0) (refuses : O → List ℕ → Reason → Type 0) (coming : O → Option (List S)) (contents : E → Option (List ℕ)) (failed : E → Type 0) where
-  -- the files of exactly these paths, in their order, were collected with a receipt, into an empty text, and the run ended so; the
-  -- maker opened them, and its lines are those of this run
-  pub record IsRun (before after : TableMaker S O E) (begins : ℕ) (files : List (String Global)) (ended : Ended (Vec ℕ Global) KeptReceipt) : Type 0 where
+  -- the files of exactly these paths but those at some places, in their order, were collected with a receipt, into an empty text, and
+  -- the run ended so; the maker opened them, its lines are those of this run, and the receipt names what was left out. It says that its
+  -- files hinder a table only where they do
+  pub record IsRun (before after : TableMaker S O E) (begins : ℕ) (files : List (String Global)) (out : List ℕ) (ended : Ended (Vec ℕ Global) KeptReceipt) : Type 0 where
     pub paths : List (String Global)
     pub words : List (Bor (List ℕ))
     pub with_exporters : CollectJob
     pub to : Receipted (Vec ℕ Global) KeptReceipt
     pub are_paths : AreFilePaths before.job.recordings.now begins files paths
-    pub are_words : map (λ (w : Bor (List ℕ)). w.now) words ≡ map string_bytes paths
+    pub are_words : map (λ (w : Bor (List ℕ)). w.now) words ≡ kept_of out (map string_bytes paths)
     pub is_job : IsJobWith before.job.collect words with_exporters
     pub empty : to.out.items ≡ []
     pub same_made : IsSameMade to.made before.job.made.now
+    pub left_out : map string_bytes to.made.left_out.items ≡ paths_at out (map string_bytes paths)
     pub runs : ReceiptedFiles (λ v. Some v.items) Holds to ended seen failure with_exporters opens sizes refuses coming before.opening after.opening words (AreToldTo contents failed before.err after.err)
+    pub hindered : IfSome ended.hindrance (HinderFiles seen with_exporters opens sizes coming before.opening after.opening words)
 
-  -- the table and the receipt of such a run, and whether a session had a fault
+  -- ---- what is left out, run by run
+
+  -- a run of all but those at some places ended without a table, since its files are so
+  pub record IsHindered (before tried : TableMaker S O E) (begins : ℕ) (files : List (String Global)) (out : List ℕ) (hindrance : Hindrance) : Type 0 where
+    pub ended : Ended (Vec ℕ Global) KeptReceipt
+    pub run : IsRun before tried begins files out ended
+    pub is : ended.hindrance ≡ Some hindrance
+
+  -- so these go, too: if a sum is too large, those that have most of it, of all files; if two have the same octets, the later
+  abbrev pub LeavesOutMore : TableMaker S O E → TableMaker S O E → ℕ → List (String Global) → List ℕ → List ℕ → Hindrance → Type 0
+  LeavesOutMore tried after begins files out lot SumTooLarge = (out ≡ []) × IsParted seen opens sizes coming contents failed tried after begins files lot
+  LeavesOutMore tried after begins files out lot (InputTwice first second) = IsSameLeftOut contents failed tried after begins files out lot first second
+
+  -- after such a run a lot more is left out
+  pub record LeavesLot (before after : TableMaker S O E) (begins : ℕ) (files : List (String Global)) (out lot : List ℕ) : Type 0 where
+    pub tried : TableMaker S O E
+    pub hindrance : Hindrance
+    pub hindered : IsHindered before tried begins files out hindrance
+    pub leaves_out : LeavesOutMore tried after begins files out lot hindrance
+
+  -- one lot after another, beside those at some places
+  abbrev pub LeaveLots : TableMaker S O E → TableMaker S O E → ℕ → List (String Global) → List ℕ → List (List ℕ) → Type 0
+  LeaveLots before after begins files out [] = after ≡ before
+  LeaveLots before after begins files out (lot ∷ lots) =
+      (between : TableMaker S O E) × LeavesLot before between begins files out lot × LeaveLots between after begins files (out ++ lot) lots
+
+  -- ---- the table
+
+  -- the table and the receipt of the run of all but what was left out before, and whether a session had a fault
   pub record IsTableOf (before after : TableMaker S O E) (begins : ℕ) (files : List (String Global)) (text receipt : List ℕ) (fault : Bool) : Type 0 where
+    pub lots : List (List ℕ)
+    pub between : TableMaker S O E
     pub ended : Ended (Vec ℕ Global) KeptReceipt
-    pub run : IsRun before after begins files ended
-    pub ends : EndsWith ended text receipt fault
+    pub left_out : LeaveLots before between begins files [] lots
+    pub run : IsRun between after begins files (all_out lots) ended
+    pub ends : EndsWithoutSome ended (all_out lots) text receipt fault
 
-  -- such a run, which ended without a table
-  pub record IsWithoutTable (before after : TableMaker S O E) (begins : ℕ) (files : List (String Global)) (status : Status) : Type 0 where
+  -- a run ended without a table, and its files did not hinder one
+  pub record IsWithoutTable (before after : TableMaker S O E) (begins : ℕ) (files : List (String Global)) (out : List ℕ) (status : Status) : Type 0 where
     pub ended : Ended (Vec ℕ Global) KeptReceipt
-    pub run : IsRun before after begins files ended
+    pub run : IsRun before after begins files out ended
+    pub free : ended.hindrance ≡ None
     pub ends : EndsWithout ended status
 
-  -- no table was made: a run ended without one; or, for want of memory, there was no run, and nothing changed
-  abbrev pub IsNotMade : TableMaker S O E → TableMaker S O E → ℕ → List (String Global) → Status → Type 0
-  IsNotMade before after begins files status = IsWithoutTable before after begins files status ⊎ ((status ≡ Failed) × (after ≡ before))
+  -- why there is no table after some were left out: their run ended without one; or its files hinder one, and there is no table of the
+  -- rest; or all are left out, or memory ran out, and there was no run
+  abbrev pub HasNoTable : TableMaker S O E → TableMaker S O E → ℕ → List (String Global) → List ℕ → Status → Type 0
+  HasNoTable between after begins files out status =
+      IsWithoutTable between after begins files out status
+      ⊎ ((tried : TableMaker S O E) × (hindrance : Hindrance) × IsHindered between tried begins files out hindrance × HasNoRest status)
+      ⊎ ((status ≡ Failed) × (after ≡ between))
+
+  pub record IsNotMade (before after : TableMaker S O E) (begins : ℕ) (files : List (String Global)) (status : Status) : Type 0 where
+    pub lots : List (List ℕ)
+    pub between : TableMaker S O E
+    pub left_out : LeaveLots before between begins files [] lots
+    pub ends : HasNoTable between after begins files (all_out lots) status
 
 -- what contracts see of what makes tables: the state before a table was made, and after
 pub record Makes (M : Type 0) : Type 1 where

@@ -4,9 +4,12 @@
 mod exporters;
 mod kept_receipt;
 mod maker;
+mod parting;
 mod paths;
 mod period_job;
+mod places;
 mod table_maker;
+mod telling;
 
 pub use kept_receipt::KeptReceipt;
 pub use maker::{MadeTable, TableMaker};

@@ -1,15 +1,20 @@
 //! Making the table of files, as `files --direct --receipt` does.
 
-ghost use Rattle.std.specs.Prelude.{◌≡◌, map, IfErr, IfOk, OnErr};
+ghost use Rattle.std.specs.Prelude.{◌≡◌, ◌<◌, length, map, string_bytes, IfErr, IfOk, OnErr};
 ghost use Rattle.table_receipts.specs.Values.{file_value};
-ghost use Rattle.period_collect.specs.MadeTables.{EndsWith, EndsWithout, IsNotMade, IsRun, IsSameMade, IsTableOf};
+ghost use Rattle.period_collect.specs.LeftOutFiles.{paths_at};
+ghost use Rattle.period_collect.specs.MadeTables.{EndsWith, EndsWithout, EndsWithoutSome, HasNoRest, IsNotMade, IsRun, IsSameMade, IsTableOf, LeavesOutMore};
+ghost use Rattle.period_collect.specs.Parting.{IsParted, IsSameLeftOut};
 
 use crate::exporters::exporters_of;
 use crate::kept_receipt::KeptReceipt;
 use crate::maker::{MadeTable, TableMaker};
+use crate::parting::files_left_out;
 use crate::paths::{paths_of, words_of};
+use crate::places::{kept_of, kept_places, names_at, path_at, place_at};
+use crate::telling::{tell_left_out, write_same};
 use command_collect::CollectJob;
-use command_receipt::{Ended, MadeWith, Receipted, run_files_receipted};
+use command_receipt::{Ended, Hindrance, MadeWith, Receipted, run_files_receipted};
 use input_sources::OpenSource;
 use ipfix_session::Source;
 use recording_names::Period;
@@ -23,8 +28,11 @@ use std::thread::Threads;
 use table_receipts::FileReceipt;
 
 /// The table of these files of a period, and its receipt, as [`run_files_receipted`] makes them, where the exporters are
-/// those that the names of the files say. An `Err` is the status with which that ended; then `err` has the lines that say
-/// why, unless memory ran out before.
+/// those that the names of the files say. If the files hinder a table, it is that of the rest: those that have most of a
+/// sum which is too large are left out, and the later of two with the same octets. Lines and the receipt name them, and
+/// the table has a fault, since it isn't complete. The files are in the order of their names.
+///
+/// An `Err` is the status with which that ended; then `err` has the lines that say why, unless memory ran out before.
 pub fn make_table<
     S: Source + Send + Drop,
     O: OpenSource<S>,
@@ -44,13 +52,130 @@ pub fn make_table<
         period.begins files.now) }
     ensures job { maker.new.job ≡ maker.old.job }
 {
-    match run_period(threads, maker, period, files) {
-        Ok(ended) => made_table(ended),
-        Err(AllocError) => Err(Status::Failed),
+    let mut out = Vec::new(maker.alloc);
+    while out.is_empty() || out.len() < files.len() {
+        let Ok(ended) = run_period(threads, maker, period, files, &out) else {
+            return Err(Status::Failed);
+        };
+        let Some(hindrance) = ended.hindrance else {
+            return table_without(ended, &out);
+        };
+        let mut lot = leave_out(threads, maker, period, files, &out, hindrance)?;
+        let Ok(()) = out.append(&mut lot) else {
+            return Err(Status::Failed);
+        };
+    }
+    Err(Status::Failed)
+}
+
+// The places of the files that are left out beside those of some places, of which lines tell: at least one.
+fn leave_out<
+    S: Source + Send + Drop,
+    O: OpenSource<S>,
+    E: WriteLines,
+    R: Clock + Threads + Wait + Sync,
+>(
+    threads: &R,
+    maker: &mut TableMaker<'_, S, O, E>,
+    period: Period,
+    files: &[String],
+    out: &[usize],
+    hindrance: Hindrance,
+) -> Result<Vec<usize>, Status>
+    ensures lot { IfOk result (λ lot. LeavesOutMore S.seen S.failure
+        O.opens O.sizes O.refuses O.coming E.contents E.failed maker.old maker.new
+        period.begins files.now out.now lot.items hindrance) }
+    ensures some { IfOk result (λ lot. 0 < length lot.items) }
+    ensures err { IfErr result HasNoRest }
+    ensures job { maker.new.job ≡ maker.old.job }
+{
+    match hindrance {
+        Hindrance::SumTooLarge if out.is_empty() => {
+            leave_out_largest(threads, maker, period, files)
+        }
+        Hindrance::SumTooLarge => Err(Status::Failed),
+        Hindrance::InputTwice(first, second) => {
+            match leave_out_same(maker, period, files, out, first, second) {
+                Ok(lot) => Ok(lot),
+                Err(AllocError) => Err(Status::Failed),
+            }
+        }
     }
 }
 
-// The run of these files of a period.
+// Those that have most of a sum which is too large.
+fn leave_out_largest<
+    S: Source + Send + Drop,
+    O: OpenSource<S>,
+    E: WriteLines,
+    R: Clock + Threads + Wait + Sync,
+>(
+    threads: &R,
+    maker: &mut TableMaker<'_, S, O, E>,
+    period: Period,
+    files: &[String],
+) -> Result<Vec<usize>, Status>
+    ensures out { IfOk result (λ out. IsParted S.seen O.opens O.sizes O.coming E.contents E.failed
+        maker.old maker.new period.begins files.now out.items) }
+    ensures some { IfOk result (λ out. 0 < length out.items) }
+    ensures err { IfErr result HasNoRest }
+    ensures job { maker.new.job ≡ maker.old.job }
+{
+    let alloc = maker.alloc;
+    let Ok(paths) = paths_of(alloc, maker.job.recordings, period, files) else {
+        return Err(Status::Failed);
+    };
+    let Ok(words) = words_of(alloc, &paths) else {
+        return Err(Status::Failed);
+    };
+    let out = files_left_out(threads, maker, &words)?;
+    tell_left_out(&words, &out, &mut maker.err);
+    if out.is_empty() {
+        return Err(Status::Failed);
+    }
+    Ok(out)
+}
+
+// The later of two that have the same octets, by their numbers among those that aren't left out.
+fn leave_out_same<S: Source, O: OpenSource<S>, E: WriteLines>(
+    maker: &mut TableMaker<'_, S, O, E>,
+    period: Period,
+    files: &[String],
+    out: &[usize],
+    first: usize,
+    second: usize,
+) -> Result<Vec<usize>, AllocError>
+    ensures lot { IfOk result (λ lot. IsSameLeftOut E.contents E.failed maker.old maker.new
+        period.begins files.now out.now lot.items first second) }
+    ensures some { IfOk result (λ lot. 0 < length lot.items) }
+    ensures job { maker.new.job ≡ maker.old.job }
+{
+    let alloc = maker.alloc;
+    let paths = paths_of(alloc, maker.job.recordings, period, files)?;
+    let words = words_of(alloc, &paths)?;
+    let kept = kept_places(alloc, words.len(), out)?;
+    let (first, second) = (place_at(&kept, first), place_at(&kept, second));
+    let mut lot = Vec::new(alloc);
+    lot.push(second)?;
+    let (other, path) = (path_at(&words, first), path_at(&words, second));
+    let _ = write_same(other, path, &mut maker.err);
+    Ok(lot)
+}
+
+// The table of a run without the files of some places, if it ended with one.
+fn table_without(ended: Ended<Vec<u8>, KeptReceipt>, out: &[usize]) -> Result<MadeTable, Status>
+    ensures table { IfOk result (λ table. EndsWithoutSome ended out.now
+        table.text.items table.receipt.items table.had_fault) }
+    ensures err { IfErr result (EndsWithout ended) }
+{
+    let table = made_table(ended)?;
+    Ok(MadeTable {
+        had_fault: table.had_fault || !out.is_empty(),
+        ..table
+    })
+}
+
+// The run of these files of a period, but for those of some places.
 fn run_period<
     S: Source + Send + Drop,
     O: OpenSource<S>,
@@ -61,18 +186,20 @@ fn run_period<
     maker: &mut TableMaker<'_, S, O, E>,
     period: Period,
     files: &[String],
+    out: &[usize],
 ) -> Result<Ended<Vec<u8>, KeptReceipt>, AllocError>
     ensures run { IfOk result (IsRun S.seen S.failure
         O.opens O.sizes O.refuses O.coming E.contents E.failed maker.old maker.new
-        period.begins files.now) }
+        period.begins files.now out.now) }
     ensures err { OnErr result (maker.new ≡ maker.old) }
     ensures job { maker.new.job ≡ maker.old.job }
 {
     let alloc = maker.alloc;
     let paths = paths_of(alloc, maker.job.recordings, period, files)?;
     let words = words_of(alloc, &paths)?;
-    let exporters = exporters_of(alloc, &words)?;
-    let made = same_made(alloc, maker.job.made)?;
+    let kept = kept_of(alloc, &words, out)?;
+    let exporters = exporters_of(alloc, &kept)?;
+    let made = same_made(alloc, maker.job.made, &words, out)?;
     let to = Receipted {
         out: Vec::new(alloc),
         made,
@@ -81,12 +208,12 @@ fn run_period<
     let job = job_with(&maker.job.collect, &exporters);
     let progress: Option<Stderr> = None;
     let (opening, err) = (&mut maker.opening, &mut maker.err);
-    let ended = run_files_receipted(threads, alloc, opening, &words, &job, progress, to, err);
+    let ended = run_files_receipted(threads, alloc, opening, &kept, &job, progress, to, err);
     Ok(ended)
 }
 
 // The same job with these exporters.
-fn job_with<'a>(job: &CollectJob<'a>, exporters: &'a [Option<IpAddr>]) -> CollectJob<'a>
+pub(crate) fn job_with<'a>(job: &CollectJob<'a>, exporters: &'a [Option<IpAddr>]) -> CollectJob<'a>
     ensures { result ≡ record job.now { exporters = exporters.entry } }
 {
     CollectJob { exporters, ..*job }
@@ -98,7 +225,12 @@ fn made_table(ended: Ended<Vec<u8>, KeptReceipt>) -> Result<MadeTable, Status>
         EndsWith ended made.text.items made.receipt.items made.had_fault) }
     ensures err { IfErr result (EndsWithout ended) }
 {
-    let Ended { status, out, place } = ended;
+    let Ended {
+        status,
+        out,
+        place,
+        ..
+    } = ended;
     match (status, place.text) {
         (Status::Well, Some(receipt)) => Ok(MadeTable {
             text: out,
@@ -115,15 +247,23 @@ fn made_table(ended: Ended<Vec<u8>, KeptReceipt>) -> Result<MadeTable, Status>
     }
 }
 
-// The same again.
-fn same_made(alloc: Global, made: &MadeWith) -> Result<MadeWith, AllocError>
-    ensures { IfOk result (λ same. IsSameMade same made.now) }
+// The same again, without the inputs of these places.
+fn same_made(
+    alloc: Global,
+    made: &MadeWith,
+    paths: &[&str],
+    out: &[usize],
+) -> Result<MadeWith, AllocError>
+    ensures same { IfOk result (λ same. IsSameMade same made.now) }
+    ensures left_out { IfOk result (λ same. map string_bytes same.left_out.items
+        ≡ paths_at out.now (map (λ path. path.now) paths.now)) }
 {
     Ok(MadeWith {
         collectd: made.collectd.clone()?,
         plan: made.plan.clone()?,
         elements: same_files(alloc, &made.elements)?,
         maps: same_files(alloc, &made.maps)?,
+        left_out: names_at(alloc, paths, out)?,
     })
 }
 

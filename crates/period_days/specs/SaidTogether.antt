@@ -1,20 +1,24 @@
 -- What the receipts of parts say together, beside that of a day.
 use Rattle.std.specs.Prelude.{◌≡◌, ◌≢◌, ◌⊎◌, ℕ, List, Option, None, Some, string_bytes}
 use Rattle.receipt_merging.specs.Judging.{IsFirstNot}
-use Rattle.receipt_merging.specs.Parts.{PartValue, all_complete, counts_from, inputs_in, no_counts}
+use Rattle.receipt_merging.specs.Parts.{PartValue, all_complete, counts_from, inputs_in, left_out_in, no_counts}
 use Rattle.report_writing.specs.declared.reason.Reason.{Reason}
 use Rattle.table_parts.specs.Parts.{AreParts, IsFirstUnread}
 use Rattle.table_parts.specs.declared.files.PartFiles.{PartFiles}
 use Rattle.table_parts.specs.declared.plan.PlanAtHand.{PlanAtHand}
 use Rattle.table_receipts.specs.Texts.{receipt_text}
 use Rattle.table_receipts.specs.Values.{FitsReceipt, InputValue, ReceiptValue}
-use Rattle.period_days.specs.GoneInputs.{first_gone}
+use Rattle.period_days.specs.GoneInputs.{first_gone, not_left_out}
 use Rattle.period_days.specs.declared.standing.Standing.{Standing}
 use Rattle.period_days.specs.declared.standing.Standing.TheVariants.{Theirs, Others, Lacking}
 
--- a receipt with the inputs of all parts, how many of their records are of each class, and whether all are complete
+-- a receipt with the inputs of all parts, how many of their records are of each class, what was left out, and whether all are complete
 abbrev pub said_together : List PartValue → ReceiptValue → ReceiptValue
-said_together parts own = record own { inputs = inputs_in parts; records = counts_from no_counts parts; complete = all_complete parts }
+said_together parts own = record own { inputs = inputs_in parts; records = counts_from no_counts parts; left_out = left_out_in parts; complete = all_complete parts }
+
+-- the first of its inputs that isn't among those of the parts, nor left out of them
+abbrev pub gone_from : List PartValue → ReceiptValue → Option InputValue
+gone_from parts own = first_gone (not_left_out (left_out_in parts) own.inputs) (inputs_in parts)
 
 -- a text is that of a receipt that says so
 pub record SaysTogether (own : List ℕ) (parts : List PartValue) : Type 0 where
@@ -22,17 +26,17 @@ pub record SaysTogether (own : List ℕ) (parts : List PartValue) : Type 0 where
   pub is : receipt_text receipt ≡ own
   pub same : receipt_text (said_together parts receipt) ≡ own
 
--- no text of a receipt that says so; of one, all inputs are among theirs
+-- no text of a receipt that says so; of one, all inputs are among theirs, or left out of them
 pub record SaysOther (own : List ℕ) (parts : List PartValue) : Type 0 where
   pub differs : (receipt : ReceiptValue) → FitsReceipt receipt → receipt_text receipt ≡ own → receipt_text (said_together parts receipt) ≢ own
-  pub lacks_none : (receipt : ReceiptValue) → FitsReceipt receipt → receipt_text receipt ≡ own → first_gone receipt.inputs (inputs_in parts) ≡ None
+  pub lacks_none : (receipt : ReceiptValue) → FitsReceipt receipt → receipt_text receipt ≡ own → gone_from parts receipt ≡ None
 
--- the text of a receipt of which an input, of this name, isn't among theirs
+-- the text of a receipt of which an input, of this name, is neither among theirs nor left out of them
 pub record LacksInput (own : List ℕ) (parts : List PartValue) (name : List ℕ) : Type 0 where
   pub receipt : ReceiptValue
   pub is : receipt_text receipt ≡ own
   pub input : InputValue
-  pub gone : first_gone receipt.inputs (inputs_in parts) ≡ Some input
+  pub gone : gone_from parts receipt ≡ Some input
   pub named : input.file.name ≡ name
 
 -- it lacks an input of this name

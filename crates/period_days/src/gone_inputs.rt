@@ -1,23 +1,29 @@
 //! The inputs of a day's receipt that the receipts of its parts don't have any more.
 
-ghost use Rattle.std.specs.Prelude.{◌≡◌, map};
+ghost use Rattle.std.specs.Prelude.{◌≡◌, map, string_bytes};
 ghost use Rattle.std.specs.Option.{option_map};
 ghost use Rattle.table_receipts.specs.Values.{file_value, input_value};
 ghost use Rattle.period_days.specs.GoneInputs as gone;
 
 use table_receipts::{FileReceipt, InputReceipt};
 
-/// The first of some inputs that isn't among others, where both are in the same order.
+/// The first of some inputs that is neither among others, where both are in the same order, nor has one of these names.
 pub(crate) fn first_gone<'a>(
     own: &'a [InputReceipt],
     others: &[InputReceipt],
+    names: &[String],
 ) -> Option<&'a InputReceipt>
     ensures { option_map (λ input. input_value input.now) result
-        ≡ gone.first_gone (map input_value own.now) (map input_value others.now) }
+        ≡ gone.first_gone (gone.not_left_out (map string_bytes names.now) (map input_value own.now))
+        (map input_value others.now) }
 {
     let mut left = own;
     let mut rest = others;
     while let Some((input, later)) = left.split_first() {
+        if has_one_of(names, input) {
+            left = later;
+            continue;
+        }
         let Some((other, after)) = rest.split_first() else {
             return Some(input);
         };
@@ -27,6 +33,20 @@ pub(crate) fn first_gone<'a>(
         rest = after;
     }
     None
+}
+
+// Whether an input has one of these names.
+fn has_one_of(names: &[String], input: &InputReceipt) -> bool
+    ensures { result ≡ gone.has_one_of (map string_bytes names.now) (input_value input.now) }
+{
+    let mut left = names;
+    while let Some((name, rest)) = left.split_first() {
+        if name.as_str() == input.file.name.as_str() {
+            return true;
+        }
+        left = rest;
+    }
+    false
 }
 
 fn is_same(file: &FileReceipt, other: &FileReceipt) -> bool

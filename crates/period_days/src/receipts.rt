@@ -23,7 +23,7 @@ pub(crate) fn settle(alloc: Global, own: &[u8], merged: MergedParts) -> Result<S
     ensures reason { IfErr result (IsNoReceiptFor own.now) }
 {
     let receipt = receipt_in(alloc, own)?;
-    if let Some(gone) = first_gone(&receipt.inputs, &merged.inputs) {
+    if let Some(gone) = first_gone(&receipt.inputs, &merged.inputs, &merged.left_out) {
         return lacking(alloc, gone);
     }
     match write_together(alloc, receipt, merged) {
@@ -52,6 +52,7 @@ fn write_together(alloc: Global, own: Receipt, merged: MergedParts) -> Result<Ve
     let MergedParts {
         inputs,
         records,
+        left_out,
         complete,
     } = merged;
     write_receipt(
@@ -59,6 +60,7 @@ fn write_together(alloc: Global, own: Receipt, merged: MergedParts) -> Result<Ve
         &Receipt {
             inputs,
             records,
+            left_out,
             complete,
             ..own
         },

@@ -134,6 +134,7 @@ fn made_of(alloc: Global) -> Result<MadeWith, AllocError> {
         plan: String::from_str(alloc, BY_SOURCE)?,
         elements: Vec::new(alloc),
         maps: Vec::new(alloc),
+        left_out: Vec::new(alloc),
     })
 }
 

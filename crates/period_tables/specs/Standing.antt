@@ -1,5 +1,5 @@
 -- The tables and receipts at a place.
-use Rattle.std.specs.Prelude.{◌≡◌, ◌≢◌, ◌↔◌, ◌||◌, ℕ, Bool, false, List, Option, None, Some, bytes_eq, codes, filter, map, not, string_bytes}
+use Rattle.std.specs.Prelude.{◌≡◌, ◌≢◌, ◌↔◌, ◌||◌, ◌++◌, ℕ, Bool, false, List, Option, None, Some, bytes_eq, codes, filter, map, not, string_bytes}
 use Rattle.std.specs.declared.alloc.Global.{Global}
 use Rattle.std.specs.declared.string.String.{String}
 use Rattle.std.specs.declared.vec.Vec.{Vec}
@@ -28,7 +28,11 @@ is_of_the_run (Some fault) = bytes_eq fault (codes "ReadFailed") || bytes_eq fau
 abbrev pub was_read : InputValue → Bool
 was_read input = not (is_of_the_run input.fault)
 
--- these are the paths of the inputs of the receipt that is there, but for those that were not read; or there is none
+-- the names of the inputs that were read, and of those that were left out: files of these names make no table again
+abbrev pub names_in : ReceiptValue → List (List ℕ)
+names_in r = map (λ (i : InputValue). i.file.name) (filter was_read r.inputs) ++ r.left_out
+
+-- these are the paths that the receipt which is there names so; or there is none
 abbrev pub NamesFiles : (Option (List ℕ) → Type 0) → Option (Vec (String Global) Global) → Type 0
 NamesFiles Stands None = Stands None
-NamesFiles Stands (Some paths) = (r : ReceiptValue) × Stands (Some (receipt_text r)) × (map string_bytes paths.items ≡ map (λ (i : InputValue). i.file.name) (filter was_read r.inputs))
+NamesFiles Stands (Some paths) = (r : ReceiptValue) × Stands (Some (receipt_text r)) × (map string_bytes paths.items ≡ names_in r)

@@ -27,8 +27,8 @@ pub trait TablePlace {
     fn table_path(&self, period: Period) -> Result<String, AllocError>
         ensures { IfOk result (λ text. path self.now period.begins (string_bytes text)) };
 
-    /// The paths of the files that the receipt of a period names, if it has a receipt, but for those that were not read: a read
-    /// failed, or memory ran out. If what is there is no receipt, it is an `Err`.
+    /// The paths of the files that the receipt of a period names, if it has a receipt, also as left out, but for those that were
+    /// not read: a read failed, or memory ran out. If what is there is no receipt, it is an `Err`.
     fn receipt_files(&mut self, period: Period) -> Result<Option<Vec<String>>, Reason>
         ensures ok { IfOk result (NamesFiles (receipt self.old period.begins)) }
         ensures kept { self.new ≡ self.old }

@@ -4,7 +4,6 @@ use Rattle.std.specs.Prelude.{IfErr, IfOk}
 use Rattle.std.specs.Result.{IsErrAnd}
 use Rattle.ipfix_session.specs.Sources.{SourceView, unread}
 use Rattle.ipfix_session.specs.declared.driver.TheConstants.{READ_LIMIT}
-use Rattle.flow_export.specs.declared.intervals.Intervals.{Intervals}
 use Rattle.flow_export.specs.declared.intervals.Intervals.TheVariants.{OfPlan}
 use Rattle.flow_table.specs.AddedUp.{rows_in, AreAddedUp}
 use Rattle.flow_table.specs.Plans.{PlanValue}

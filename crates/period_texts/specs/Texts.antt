@@ -1,9 +1,8 @@
 -- The text of a table, made of its export.
-use Rattle.std.specs.Prelude.{◌≡◌, ◌⊎◌, ◌↔◌, ℕ, ◌++◌, List, [], Some, length}
+use Rattle.std.specs.Prelude.{◌≡◌, ℕ, ◌++◌, List, [], Some, length}
 use Rattle.sha2.specs.Sha256.{sha256}
 use Rattle.ipfix_session.specs.Sources.{SourceView, unread}
 use Rattle.ipfix_session.specs.declared.driver.TheConstants.{READ_LIMIT}
-use Rattle.flow_export.specs.declared.fault.ExportFault.{ExportFault}
 use Rattle.flow_export.specs.declared.intervals.Intervals.TheVariants.{OfPlan}
 use Rattle.flow_table.specs.AddedUp.{rows_in, AreAddedUp}
 use Rattle.flow_table.specs.Plans.{PlanValue}

@@ -3,3 +3,4 @@ pub mod Counts
 pub mod Ordered
 pub mod Silent
 pub mod Steps
+pub mod LeftOut

@@ -9,13 +9,18 @@ abbrev pub bool_same : Bool → Bool → Bool
 bool_same true said = said
 bool_same false said = not said
 
+-- a table that inputs were left out of isn't complete, whatever the others gave
+abbrev pub complete_with : Bool → List (List ℕ) → Bool
+complete_with complete [] = complete
+complete_with complete (name ∷ names) = false
+
 -- by its receipt: its inputs, its records, its rows, and whether it is complete
 abbrev pub remade_differs : ReceiptValue → ReceiptValue → List ℕ
 remade_differs found said =
     inputs_differ said.inputs found.inputs
     ++ (counts_differ found.records said.records
     ++ (rows_differ found.table said.table
-    ++ other_unless (bool_same found.complete said.complete) (codes "complete")))
+    ++ other_unless (bool_same (complete_with found.complete said.left_out) said.complete) (codes "complete")))
 
 abbrev pub again_line : List ℕ
 again_line = codes "collectd: verify: table: made again, it is another\n"

@@ -1,10 +1,10 @@
 //! A table that was made again, and what it was made of, compared with a receipt.
 
-ghost use Rattle.std.specs.Prelude.{◌≡◌, map};
+ghost use Rattle.std.specs.Prelude.{◌≡◌, map, string_bytes};
 ghost use Rattle.report_writing.specs.Writing.{Tells};
 ghost use Rattle.table_receipts.specs.Values.{file_value, receipt_value};
 ghost use Rattle.receipt_differences.specs.Orders.{IsOrderOf};
-ghost use Rattle.receipt_differences.specs.Remade.{again_line, bool_same, elements_differ, file_same, files_same, remade_differs, text_differs};
+ghost use Rattle.receipt_differences.specs.Remade.{again_line, bool_same, complete_with, elements_differ, file_same, files_same, remade_differs, text_differs};
 
 use crate::inputs::write_input_differences;
 use crate::numbers::{write_count_differences, write_other_unless};
@@ -15,7 +15,8 @@ use table_receipts::{FileReceipt, InputReceipt, Receipt};
 
 /// Writes a line for each thing that the receipt of a table which was made again doesn't tell as another receipt does: its
 /// inputs, matched by their octets and exporters, how many records are of each class, its rows and what they add up to, and whether
-/// it is complete. `own` and `others` are the inputs of the other receipt and its own in the order of their digests.
+/// it is complete, as no table is from which inputs were left out. `own` and `others` are the inputs of the other receipt and its
+/// own in the order of their digests.
 pub fn write_remade_differences<E: WriteLines>(
     found: &Receipt,
     said: &Receipt,
@@ -37,7 +38,16 @@ pub fn write_remade_differences<E: WriteLines>(
     )?;
     write_count_differences(&found.records, &said.records, err)?;
     write_row_differences(&found.table, &said.table, err)?;
-    write_other_unless(is_same(found.complete, said.complete), "complete", err)
+    let complete = is_complete(found.complete, &said.left_out);
+    write_other_unless(is_same(complete, said.complete), "complete", err)
+}
+
+// Whether a table is complete from which what has these names was left out, by whether the rest is.
+#[tactic(auto, using(crate::proofs::LeftOut::complete_without, crate::proofs::LeftOut::incomplete_with))]
+fn is_complete(complete: bool, left_out: &[String]) -> bool
+    ensures { result ≡ complete_with complete (map string_bytes left_out.now) }
+{
+    if left_out.is_empty() { complete } else { false }
 }
 
 fn is_same(found: bool, said: bool) -> bool

@@ -1,8 +1,8 @@
 -- Whether parts may be merged.
-use Rattle.std.specs.Prelude.{◌≡◌, ◌<◌, ◌⊎◌, ℕ, Bool, true, false, All, List, get_or, length, map, take}
+use Rattle.std.specs.Prelude.{◌≡◌, ◌<◌, ◌⊎◌, ℕ, Bool, true, false, All, List, get_or, length, map, string_bytes, take}
 use Rattle.table_receipts.specs.Values.{input_value}
 use Rattle.receipt_merging.specs.Once.{AreSame, EachOnce}
-use Rattle.receipt_merging.specs.Parts.{PartValue, all_complete, counts_from, inputs_in, no_counts}
+use Rattle.receipt_merging.specs.Parts.{PartValue, all_complete, counts_from, inputs_in, left_out_in, no_counts}
 use Rattle.receipt_merging.specs.declared.merging.Judgement.{Judgement}
 use Rattle.receipt_merging.specs.declared.merging.Judgement.TheVariants.{Merged, OtherPlan, Incomplete, InputTwice, OutOfMemory}
 use Rattle.receipt_merging.specs.declared.merging.MergedParts.{MergedParts}
@@ -25,6 +25,7 @@ MayBeMerged incomplete parts = HavePlan parts × ((incomplete ≡ true) ⊎ (All
 pub record AreMerged (parts : List PartValue) (merged : MergedParts) : Type 0 where
   pub inputs : map input_value merged.inputs.items ≡ inputs_in parts
   pub records : merged.records ≡ counts_from no_counts parts
+  pub left_out : map string_bytes merged.left_out.items ≡ left_out_in parts
   pub complete : merged.complete ≡ all_complete parts
 
 -- a part of another plan comes first, then one that isn't complete and has to be, then an input that comes twice, in one part or two

@@ -17,6 +17,10 @@ part_value p = record { receipt = receipt_value p.receipt; has_plan = p.has_plan
 abbrev pub inputs_in : List PartValue → List InputValue
 inputs_in parts = flat_map (λ (p : PartValue). p.receipt.inputs) parts
 
+-- the names of all inputs that were left out of parts, in their order
+abbrev pub left_out_in : List PartValue → List (List ℕ)
+left_out_in parts = flat_map (λ (p : PartValue). p.receipt.left_out) parts
+
 -- a sum that stops at 2^64 - 1
 abbrev pub sum_of : ℕ → ℕ → ℕ
 sum_of m n = if nat_lt (m + n) (2 ^ 64) then m + n else 2 ^ 64 - 1

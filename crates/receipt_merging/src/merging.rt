@@ -1,6 +1,6 @@
 //! Receipts of parts, judged and merged.
 
-ghost use Rattle.std.specs.Prelude.{◌≡◌, ◌++◌, ◌&&◌, IfOk, map};
+ghost use Rattle.std.specs.Prelude.{◌≡◌, ◌++◌, ◌&&◌, IfOk, map, string_bytes};
 ghost use Rattle.table_receipts.specs.Values.{input_value};
 ghost use Rattle.receipt_merging.specs.Judging.{AreMerged, IsJudgementOf};
 ghost use Rattle.receipt_merging.specs.Parts.{add_counts as sum_counts, part_value};
@@ -19,6 +19,8 @@ pub struct MergedParts {
     pub inputs: Vec<InputReceipt>,
     /// How many of their records are of each class; a count stops at 2^64 - 1.
     pub records: RecordCounts,
+    /// The names of the inputs that were left out of a part, in the order of the parts.
+    pub left_out: Vec<String>,
     /// Whether all are complete.
     pub complete: bool,
 }
@@ -64,6 +66,7 @@ fn merge_parts(alloc: Global, parts: Vec<Part>) -> Result<MergedParts, AllocErro
     let mut merged = MergedParts {
         inputs: Vec::new(alloc),
         records: no_records(),
+        left_out: Vec::new(alloc),
         complete: true,
     };
     while let Some(part) = waiting.pop_front() {
@@ -79,23 +82,29 @@ fn add_part(merged: MergedParts, receipt: Receipt) -> Result<MergedParts, AllocE
         ≡ map input_value merged.inputs.items ++ map input_value receipt.inputs.items) }
     ensures records { IfOk result (λ more. more.records
         ≡ sum_counts merged.records receipt.records) }
+    ensures left_out { IfOk result (λ more. map string_bytes more.left_out.items
+        ≡ map string_bytes merged.left_out.items ++ map string_bytes receipt.left_out.items) }
     ensures complete { IfOk result (λ more. more.complete ≡ (receipt.complete && merged.complete)) }
 {
     let MergedParts {
         mut inputs,
         records,
+        mut left_out,
         complete,
     } = merged;
     let Receipt {
         inputs: mut others,
         records: more,
+        left_out: mut more_left_out,
         complete: is_complete,
         ..
     } = receipt;
     inputs.append(&mut others)?;
+    left_out.append(&mut more_left_out)?;
     Ok(MergedParts {
         inputs,
         records: add_counts(records, more),
+        left_out,
         complete: is_complete && complete,
     })
 }

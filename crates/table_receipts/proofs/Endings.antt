@@ -12,9 +12,10 @@ use Rattle.json.proofs.Printed.Tokens.{print_from-append, ends_push}
 use Rattle.json.proofs.Printed.Trees.{document-print}
 use Rattle.sha2.specs.Sha256.{sha256}
 use Rattle.table_receipts.specs.Values.{ReceiptValue}
-use Rattle.table_receipts.specs.Objects.{members_of, member_tokens, origin_members, first_members, digest_json, list_json, input_json, counts_json, table_json}
+use Rattle.table_receipts.specs.Objects.{members_of, member_tokens, origin_members, first_members, left_out_members, digest_json, list_json, input_json, counts_json, table_json}
 use Rattle.table_receipts.specs.Texts.{receipt_json, receipt_text, text_before}
 use Rattle.table_receipts.proofs.Forms.{receipt_good}
+use Rattle.table_receipts.proofs.MemberTokens.{tokens_append}
 use Rattle.std.specs.Prelude.{Some, None}
 use Rattle.std.proofs.lemmas.Option.{none-some, same_Some}
 
@@ -24,18 +25,12 @@ members-append (x ∷ xs) ys =
     ap (λ (ts : List Token). token.key x.0 ∷ (json_tokens x.1 ++ ts)) (members-append xs ys)
     ∙ ap (λ (ts : List Token). token.key x.0 ∷ ts) (sym (append_assoc (json_tokens x.1) (member_tokens xs) (members_tokens (members_of ys))))
 
-tokens-append : (xs ys : List (List ℕ × Json)) → member_tokens (xs ++ ys) ≡ member_tokens xs ++ member_tokens ys
-tokens-append [] ys = refl
-tokens-append (x ∷ xs) ys =
-    ap (λ (ts : List Token). token.key x.0 ∷ (json_tokens x.1 ++ ts)) (tokens-append xs ys)
-    ∙ ap (λ (ts : List Token). token.key x.0 ∷ ts) (sym (append_assoc (json_tokens x.1) (member_tokens xs) (member_tokens ys)))
-
 abbrev ends_so : List Token → Bool
 ends_so = fold (λ _ t. ends t) false
 
 -- the last of the first members is a flag
 inner : ReceiptValue → List (List ℕ × Json)
-inner r = origin_members r ++ ((codes "inputs", list_json input_json r.inputs) ∷ (codes "records", counts_json r.records) ∷ (codes "table", table_json r.table) ∷ [])
+inner r = origin_members r ++ ((codes "inputs", list_json input_json r.inputs) ∷ (codes "records", counts_json r.records) ∷ (codes "table", table_json r.table) ∷ left_out_members r.left_out)
 
 split : (r : ReceiptValue) → first_members r ≡ inner r ++ (codes "complete", boolean r.complete) ∷ []
 unfolding inner
@@ -46,7 +41,7 @@ ended r =
     let flag : List Token = token.key (codes "complete") ∷ [] in
     let tokens : begin_object ∷ member_tokens (first_members r) ≡ (begin_object ∷ (member_tokens (inner r) ++ flag)) ++ token.boolean r.complete ∷ [] =
     ap (λ ms. begin_object ∷ member_tokens ms) (split r)
-    ∙ ap (λ (ts : List Token). begin_object ∷ ts) (tokens-append (inner r) ((codes "complete", boolean r.complete) ∷ []) ∙ sym (append_assoc (member_tokens (inner r)) flag (token.boolean r.complete ∷ []))) in
+    ∙ ap (λ (ts : List Token). begin_object ∷ ts) (tokens_append (inner r) ((codes "complete", boolean r.complete) ∷ []) ∙ sym (append_assoc (member_tokens (inner r)) flag (token.boolean r.complete ∷ []))) in
     ap ends_so tokens ∙ ends_push false (begin_object ∷ (member_tokens (inner r) ++ flag)) (token.boolean r.complete)
 
 -- the tokens of the last member, and of the end

@@ -1,16 +1,17 @@
 -- The JSON of a receipt is shallow, and its numbers are numbers.
 use Rattle.std.proofs.Common.{◌≡◌, ℕ, ◌≤◌, List, [], ◌∷◌, refl, arith}
-use Rattle.std.specs.Prelude.{◌^◌, Bool, true, false, nat_lt, if◌then◌else◌, map, Option, Some, None, decimal}
+use Rattle.std.specs.Prelude.{◌^◌, ◌++◌, codes, Bool, true, false, nat_lt, if◌then◌else◌, map, Option, Some, None, decimal}
 use Rattle.std.proofs.lemmas.Bool.{ltb-true}
-use Rattle.json.specs.Json.{Json, number, string}
+use Rattle.json.specs.Json.{Json, boolean, number, string}
 use Rattle.json.specs.Tree.{depth, items_depth, members_depth, HasNumbers, ItemsHaveNumbers, MembersHaveNumbers}
 use Rattle.json.specs.Value.{items_of}
 use Rattle.json.proofs.Printed.Decimals.{IsNumber-decimal}
 use Rattle.table_receipts.specs.declared.receipt.DomainReceipt.{DomainReceipt}
 use Rattle.table_receipts.specs.declared.receipt.RecordCounts.{RecordCounts}
 use Rattle.table_receipts.specs.Values.{ExporterValue, not_asked, unknown, address, FileValue, InputValue, SumValue, TableValue, ReceiptValue}
-use Rattle.table_receipts.specs.Objects.{number_json, file_json, domain_json, exporter_members, fault_json, input_json, members_of, counts_json, sum_json, table_json, plan_json}
-use Rattle.table_receipts.specs.Texts.{receipt_json}
+use Rattle.table_receipts.specs.Objects.{number_json, file_json, domain_json, exporter_members, fault_json, input_json, members_of, left_out_members, digest_json, counts_json, sum_json, table_json, plan_json}
+use Rattle.sha2.specs.Sha256.{sha256}
+use Rattle.table_receipts.specs.Texts.{receipt_json, text_before}
 
 -- a value whose numbers are numbers, and that nests no deeper
 pub record IsGood (k : ℕ) (j : Json) : Type 0 where
@@ -112,6 +113,23 @@ plan_good : (text : List ℕ) → IsGood 1 (plan_json text)
 unfolding plan_json
 plan_good text = record { numbers = (tt, (tt, tt)); nests = omega arith }
 
+string_good : (name : List ℕ) → IsGood 0 (string name)
+string_good name = record { numbers = tt; nests = omega arith }
+
+-- the last members
+abbrev last_members : List (List ℕ) → Bool → List ℕ → List (List ℕ × Json)
+last_members names complete digest = (left_out_members names ++ (codes "complete", boolean complete) ∷ []) ++ (codes "sha256", digest_json digest) ∷ []
+
+record AreLast (names : List (List ℕ)) (complete : Bool) (digest : List ℕ) : Type 0 where
+  pub numbers : MembersHaveNumbers (members_of (last_members names complete digest))
+  pub nests : members_depth (members_of (last_members names complete digest)) ≤ 1
+
+last_good : (names : List (List ℕ)) (complete : Bool) (digest : List ℕ) → AreLast names complete digest
+last_good [] complete digest = record { numbers = (tt, (tt, tt)); nests = omega arith }
+last_good (name ∷ names) complete digest =
+    let texts = list_good 0 string string_good (name ∷ names) in
+    record { numbers = (texts.numbers, (tt, (tt, tt))); nests = omega (arith, texts.nests) }
+
 pub receipt_good : (r : ReceiptValue) → IsGood 5 (receipt_json r)
 unfolding receipt_json
 receipt_good r =
@@ -122,7 +140,8 @@ receipt_good r =
     let inputs = list_good 3 input_json input_good r.inputs in
     let records = counts_good r.records in
     let table = table_good r.table in
+    let last = last_good r.left_out r.complete (sha256 (text_before r)) in
     record {
-      numbers = (version.numbers, (tt, (plan.numbers, (elements.numbers, (maps.numbers, (inputs.numbers, (records.numbers, (table.numbers, (tt, (tt, tt))))))))));
-      nests = omega (arith, version.nests, plan.nests, elements.nests, maps.nests, inputs.nests, records.nests, table.nests);
+      numbers = (version.numbers, (tt, (plan.numbers, (elements.numbers, (maps.numbers, (inputs.numbers, (records.numbers, (table.numbers, last.numbers))))))));
+      nests = omega (arith, version.nests, plan.nests, elements.nests, maps.nests, inputs.nests, records.nests, table.nests, last.nests);
     }

@@ -1,3 +1,4 @@
+pub mod MemberTokens
 pub mod Listing
 pub mod ListReads
 pub mod Same

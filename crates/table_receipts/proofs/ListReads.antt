@@ -2,6 +2,7 @@
 use Rattle.std.proofs.Common.{◌≡◌, ℕ, zero, suc, ◌+◌, ◌<◌, ◌≤◌, List, [], ◌∷◌, ◌++◌, length, take, get_or, refl, sym, ap, subst, ◌∙◌, arith}
 use Rattle.std.specs.Prelude.{All, map}
 use Rattle.std.proofs.lemmas.List.{take_all, map-append, length-map}
+use Rattle.std.proofs.lemmas.List.Elements.{All-nil, All-cons}
 use Rattle.json.specs.Json.{Json}
 
 -- what stands at a place of two lists that are alike
@@ -59,3 +60,8 @@ reads_all view value json Fits objects i out vs r all fit alike =
 pub map_same : {Val : Type 0} (xs : List Val) → map (λ x. x) xs ≡ xs
 map_same [] = refl
 map_same (x ∷ xs) = ap (λ ys. x ∷ ys) (map_same xs)
+
+-- what holds of all values holds of each of a list
+pub every : {Val : Type 0} (xs : List Val) → All (λ x. Unit {0}) xs
+every [] = All-nil (λ x. Unit {0})
+every (x ∷ xs) = All-cons (λ y. Unit {0}) x xs tt (every xs)

@@ -28,6 +28,6 @@ pub table_same : (f g : TableValue) → f.format ≡ g.format → f.time ≡ g.t
 table_same f g a b c d e h k =
     let whole : record { format = f.format; time = f.time; octets = f.octets; digest = f.digest; rows = f.rows; sums = f.sums; flows = f.flows } ≡ g = rw (a, b, c, d, e, h, k) refl in whole
 
-pub receipt_same : (f g : ReceiptValue) → f.collectd ≡ g.collectd → f.plan ≡ g.plan → f.elements ≡ g.elements → f.maps ≡ g.maps → f.inputs ≡ g.inputs → f.records ≡ g.records → f.table ≡ g.table → f.complete ≡ g.complete → f ≡ g
-receipt_same f g a b c m d e h k =
-    let whole : record { collectd = f.collectd; plan = f.plan; elements = f.elements; maps = f.maps; inputs = f.inputs; records = f.records; table = f.table; complete = f.complete } ≡ g = rw (a, b, c, m, d, e, h, k) refl in whole
+pub receipt_same : (f g : ReceiptValue) → f.collectd ≡ g.collectd → f.plan ≡ g.plan → f.elements ≡ g.elements → f.maps ≡ g.maps → f.inputs ≡ g.inputs → f.records ≡ g.records → f.table ≡ g.table → f.left_out ≡ g.left_out → f.complete ≡ g.complete → f ≡ g
+receipt_same f g a b c m d e h k l =
+    let whole : record { collectd = f.collectd; plan = f.plan; elements = f.elements; maps = f.maps; inputs = f.inputs; records = f.records; table = f.table; left_out = f.left_out; complete = f.complete } ≡ g = rw (a, b, c, m, d, e, h, k, l) refl in whole

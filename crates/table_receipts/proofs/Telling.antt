@@ -1,11 +1,16 @@
 -- The objects of a file and of an input tell them.
-use Rattle.std.proofs.Common.{◌≡◌, refl, ap, subst, sym}
-use Rattle.std.specs.Prelude.{codes}
+use Rattle.std.proofs.Common.{◌≡◌, refl, ap, subst, sym, ◌∙◌, length, map, arith}
+use Rattle.std.specs.Prelude.{ℕ, List, [], ◌∷◌, ◌++◌, codes, None, Some}
+use Rattle.std.proofs.lemmas.Option.{none-some, same_Some}
 use Rattle.json.specs.Find.{get}
-use Rattle.json.specs.Json.{Json}
-use Rattle.table_receipts.specs.Objects.{file_json, input_json}
-use Rattle.table_receipts.specs.Told.{TellsFile, TellsInput}
-use Rattle.table_receipts.specs.Values.{ExporterValue, not_asked, unknown, address, FileValue, InputValue}
+use Rattle.json.specs.Json.{Json, array, boolean, string}
+use Rattle.json.specs.Value.{items_of}
+use Rattle.sha2.specs.Sha256.{sha256}
+use Rattle.table_receipts.specs.Objects.{counts_json, digest_json, file_json, input_json, left_out_members, list_json, object_of, origin_members, plan_json, table_json}
+use Rattle.table_receipts.specs.Texts.{receipt_json, text_before}
+use Rattle.table_receipts.proofs.Items.{arrays_same}
+use Rattle.table_receipts.specs.Told.{TellsFile, TellsInput, left_out_json}
+use Rattle.table_receipts.specs.Values.{ExporterValue, not_asked, unknown, address, FileValue, InputValue, ReceiptValue}
 
 pub file_tells : (j : Json) (f : FileValue) → j ≡ file_json f → TellsFile j f
 unfolding file_json
@@ -23,3 +28,53 @@ tells_so i (address text) = record { file = record { name = refl; octets = refl;
 pub input_tells : (j : Json) (i : InputValue) → j ≡ input_json i → TellsInput j i
 unfolding with_exporter
 input_tells j i is = subst (λ (x : Json). TellsInput x i) (sym is) (tells_so i i.exporter)
+
+-- a receipt that names these inputs as left out
+abbrev pub with_names : ReceiptValue → List (List ℕ) → Json → Json
+with_names r names digest = object_of (
+    (origin_members r
+    ++ ((codes "inputs", list_json input_json r.inputs)
+    ∷ (codes "records", counts_json r.records)
+    ∷ (codes "table", table_json r.table)
+    ∷ (left_out_members names ++ (codes "complete", boolean r.complete) ∷ [])))
+    ++ (codes "sha256", digest) ∷ [])
+
+-- its members, whatever these names are
+pub record TellsReceipt (r : ReceiptValue) (names : List (List ℕ)) (j : Json) : Type 0 where
+  pub collectd : get (codes "collectd") j ≡ Some (string r.collectd)
+  pub plan : get (codes "plan") j ≡ Some (plan_json r.plan)
+  pub elements : get (codes "elements") j ≡ Some (list_json file_json r.elements)
+  pub maps : get (codes "maps") j ≡ Some (list_json file_json r.maps)
+  pub inputs : get (codes "inputs") j ≡ Some (list_json input_json r.inputs)
+  pub records : get (codes "records") j ≡ Some (counts_json r.records)
+  pub table : get (codes "table") j ≡ Some (table_json r.table)
+  pub left_out : get (codes "left_out") j ≡ left_out_json names
+  pub complete : get (codes "complete") j ≡ Some (boolean r.complete)
+
+tells_with : (r : ReceiptValue) (names : List (List ℕ)) (digest : Json) → TellsReceipt r names (with_names r names digest)
+tells_with r [] digest = record { collectd = refl; plan = refl; elements = refl; maps = refl; inputs = refl; records = refl; table = refl; left_out = refl; complete = refl }
+tells_with r (name ∷ names) digest = record { collectd = refl; plan = refl; elements = refl; maps = refl; inputs = refl; records = refl; table = refl; left_out = refl; complete = refl }
+
+pub receipt_tells : (j : Json) (r : ReceiptValue) → j ≡ receipt_json r → TellsReceipt r r.left_out j
+unfolding receipt_json
+receipt_tells j r is = subst (TellsReceipt r r.left_out) (sym is) (tells_with r r.left_out (digest_json (sha256 (text_before r))))
+
+-- a member of that name has them, by the list that it is
+pub names_told : (j : Json) (items : List Json) (names : List (List ℕ)) → Some j ≡ left_out_json names → j ≡ array (items_of items) → items ≡ map string names
+names_told j items [] is all = absurd (none-some j (sym is))
+names_told j items (name ∷ names) is all = arrays_same items (map string (name ∷ names)) (sym all ∙ same_Some _ _ is)
+
+-- and without one there are none
+pub none_told : (names : List (List ℕ)) → None ≡ left_out_json names → [] ≡ names
+none_told [] is = refl
+none_told (name ∷ names) is = absurd (none-some _ is)
+
+-- ---- the last members
+
+pub none_named : (names : List (List ℕ)) → length names ≡ 0 → left_out_members names ≡ []
+none_named [] none = refl
+none_named (name ∷ names) none = absurd (omega arith)
+
+pub some_named : (names : List (List ℕ)) → (length names ≡ 0 → ⊥) → left_out_members names ≡ (codes "left_out", list_json string names) ∷ []
+some_named [] some = absurd (some refl)
+some_named (name ∷ names) some = refl

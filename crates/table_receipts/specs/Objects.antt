@@ -126,14 +126,18 @@ origin_members r =
     ∷ (codes "maps", list_json file_json r.maps)
     ∷ [])
 
+-- the names of the inputs that were left out, if some were
+abbrev pub left_out_members : List (List ℕ) → List (List ℕ × Json)
+left_out_members [] = []
+left_out_members (name ∷ names) = (codes "left_out", list_json string (name ∷ names)) ∷ []
+
 -- what it was made of, and what it is
 abbrev pub content_members : ReceiptValue → List (List ℕ × Json)
 content_members r =
     (codes "inputs", list_json input_json r.inputs)
     ∷ (codes "records", counts_json r.records)
     ∷ (codes "table", table_json r.table)
-    ∷ (codes "complete", boolean r.complete)
-    ∷ []
+    ∷ (left_out_members r.left_out ++ (codes "complete", boolean r.complete) ∷ [])
 
 -- all members of a receipt but the last
 abbrev pub first_members : ReceiptValue → List (List ℕ × Json)

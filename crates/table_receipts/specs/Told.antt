@@ -1,5 +1,5 @@
 -- What the members of an object tell.
-use Rattle.std.specs.Prelude.{◌≡◌, codes, Option, Some, None}
+use Rattle.std.specs.Prelude.{◌≡◌, ℕ, List, [], ◌∷◌, codes, Option, Some, None}
 use Rattle.json.specs.Find.{get}
 use Rattle.json.specs.Json.{Json, null, string}
 use Rattle.table_receipts.specs.Values.{ExporterValue, not_asked, unknown, address, FileValue, InputValue}
@@ -16,6 +16,11 @@ abbrev pub exporter_json : ExporterValue → Option Json
 exporter_json not_asked = None
 exporter_json unknown = Some null
 exporter_json (address text) = Some (string text)
+
+-- the member that names the inputs that were left out
+abbrev pub left_out_json : List (List ℕ) → Option Json
+left_out_json [] = None
+left_out_json (name ∷ names) = Some (list_json string (name ∷ names))
 
 -- members tell an input
 pub record TellsInput (j : Json) (i : InputValue) : Type 0 where

@@ -52,6 +52,7 @@ pub record ReceiptValue : Type 0 where
   pub inputs : List InputValue
   pub records : RecordCounts
   pub table : TableValue
+  pub left_out : List (List ℕ)
   pub complete : Bool
 
 -- ---- the values of Rust's types
@@ -90,6 +91,7 @@ receipt_value r = record {
   inputs = map input_value r.inputs.items;
   records = r.records;
   table = table_value r.table;
+  left_out = map string_bytes r.left_out.items;
   complete = r.complete;
 }
 

@@ -63,6 +63,17 @@ pub fn text_of<'a>(object: &Value<'a>, name: &str) -> &'a str
     }
 }
 
+/// The text that a value is.
+pub fn text_in<'a>(value: &Value<'a>) -> &'a str
+    ensures { (s : List ℕ) → value_view value.now ≡ string s → result.now ≡ s }
+{
+    if let Value::String(text) = value {
+        text
+    } else {
+        ""
+    }
+}
+
 pub fn flag_of(object: &Value<'_>, name: &str) -> bool
     ensures { (b : Bool) → get name.now (value_view object.now) ≡ Some (boolean b)
         → result ≡ b }

@@ -3,9 +3,10 @@
 
 ghost use Rattle.std.specs.Prelude.{◌≡◌, ℕ, List, Option, Some, All, IfOk, codes, map, option_map, string_bytes};
 ghost use Rattle.json.specs.Find.{get};
+ghost use Rattle.json.specs.Json.{string};
 ghost use Rattle.json.specs.Value.{value_view};
 ghost use Rattle.table_receipts.specs.Objects.{counts_json, domain_json, fault_json, file_json, format_name, input_json, list_json, sum_json, table_json};
-ghost use Rattle.table_receipts.specs.Told.{TellsFile, exporter_json};
+ghost use Rattle.table_receipts.specs.Told.{TellsFile, exporter_json, left_out_json};
 ghost use Rattle.table_receipts.specs.Texts.{receipt_json};
 ghost use Rattle.table_receipts.specs.Values.{ExporterValue, FileValue, FitsCounts, FitsDomain, FitsFile, FitsInput, FitsReceipt, FitsSum, FitsTable, InputValue, ReceiptValue, SumValue, TableValue, exporter_value, file_value, input_value, receipt_value, sum_value, table_value};
 ghost use Rattle.table_receipts.specs.declared.receipt.DomainReceipt.{DomainReceipt as Domain};
@@ -13,7 +14,7 @@ ghost use Rattle.table_receipts.specs.declared.receipt.RecordCounts.{RecordCount
 ghost use Rattle.table_receipts.specs.declared.receipt.TableFormat.{TableFormat as Format};
 
 use crate::looking_up::{
-    count_of, digest_of, flag_of, list_of, member_of, number_of, small_of, text_of,
+    count_of, digest_of, flag_of, list_of, member_of, number_of, small_of, text_in, text_of,
 };
 use crate::receipt::{
     CounterSum, DomainReceipt, ExporterReceipt, FileReceipt, InputReceipt, Receipt, RecordCounts,
@@ -195,6 +196,30 @@ fn table_of(alloc: Global, object: &Value<'_>) -> Result<TableReceipt, AllocErro
     })
 }
 
+// Texts.
+fn texts_of(alloc: Global, items: &[Value<'_>]) -> Result<Vec<String>, AllocError>
+    ensures { (texts : List (List ℕ)) → map value_view items.now ≡ map string texts
+        → IfOk result (λ found. map string_bytes found.items ≡ texts) }
+{
+    let mut texts = Vec::new(alloc);
+    for item in items {
+        texts.push(String::from_str(alloc, text_in(item))?)?;
+    }
+    Ok(texts)
+}
+
+// The names of the inputs that were left out.
+fn left_out_of(alloc: Global, object: &Value<'_>) -> Result<Vec<String>, AllocError>
+    ensures { (names : List (List ℕ))
+        → get (codes "left_out") (value_view object.now) ≡ left_out_json names
+        → IfOk result (λ found. map string_bytes found.items ≡ names) }
+{
+    match object.get("left_out") {
+        Some(Value::Array(items)) => texts_of(alloc, items.as_slice()),
+        _ => Ok(Vec::new(alloc)),
+    }
+}
+
 pub fn receipt_of(alloc: Global, object: &Value<'_>) -> Result<Receipt, AllocError>
     ensures { (r : ReceiptValue) → FitsReceipt r → value_view object.now ≡ receipt_json r
         → IfOk result (λ receipt. receipt_value receipt ≡ r) }
@@ -207,6 +232,7 @@ pub fn receipt_of(alloc: Global, object: &Value<'_>) -> Result<Receipt, AllocErr
         inputs: inputs_of(alloc, object)?,
         records: counts_of(member_of(object, "records")),
         table: table_of(alloc, member_of(object, "table"))?,
+        left_out: left_out_of(alloc, object)?,
         complete: flag_of(object, "complete"),
     })
 }

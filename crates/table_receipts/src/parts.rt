@@ -1,12 +1,12 @@
 //! Writing the parts of a receipt.
 
-ghost use Rattle.std.specs.Prelude.{◌≡◌, ◌∷◌, codes, map, string_bytes, option_map};
+ghost use Rattle.std.specs.Prelude.{◌≡◌, ◌++◌, ◌∷◌, [], codes, map, string_bytes, option_map};
 ghost use Rattle.json.specs.Json.{boolean, string};
 ghost use Rattle.json.specs.Token.{key};
 ghost use Rattle.json.specs.Tree.{json_tokens};
 ghost use Rattle.table_receipts.specs.Appending.{Appends};
 ghost use Rattle.table_receipts.specs.Values.{exporter_value, file_value, input_value, sum_value, table_value};
-ghost use Rattle.table_receipts.specs.Objects.{counts_json, digest_json, domain_json, exporter_members, fault_json, file_json, file_members, format_name, input_json, list_json, member_tokens, number_json, report_members, row_members, sum_json, table_json, text_members};
+ghost use Rattle.table_receipts.specs.Objects.{counts_json, digest_json, domain_json, exporter_members, fault_json, file_json, file_members, format_name, input_json, left_out_members, list_json, member_tokens, number_json, report_members, row_members, sum_json, table_json, text_members};
 
 use crate::receipt::{
     CounterSum, DomainReceipt, ExporterReceipt, FileReceipt, InputReceipt, RecordCounts,
@@ -186,6 +186,38 @@ pub fn write_inputs(
         write_input(alloc, writer, input)?;
     }
     writer.end_array()
+}
+
+fn write_names(writer: &mut Writer, names: &[String]) -> Result<(), AllocError>
+    ensures { Appends result writer.old writer.new
+        (json_tokens (list_json string (map string_bytes names.now))) }
+{
+    writer.begin_array()?;
+    for name in names {
+        writer.string(name.as_str())?;
+    }
+    writer.end_array()
+}
+
+fn write_complete(writer: &mut Writer, complete: bool) -> Result<(), AllocError>
+    ensures { Appends result writer.old writer.new
+        (member_tokens ((codes "complete", boolean complete) ∷ [])) }
+{
+    writer.key("complete")?;
+    writer.boolean(complete)
+}
+
+/// Writes the names of the inputs that were left out, if some were, and whether the table is complete.
+pub fn write_ending(writer: &mut Writer, names: &[String], complete: bool) -> Result<(), AllocError>
+    ensures { Appends result writer.old writer.new
+        (member_tokens (left_out_members (map string_bytes names.now) ++ (codes "complete", boolean complete) ∷ [])) }
+{
+    if names.is_empty() {
+        return write_complete(writer, complete);
+    }
+    writer.key("left_out")?;
+    write_names(writer, names)?;
+    write_complete(writer, complete)
 }
 
 #[tactic(auto, unfolding(crate::specs::Objects::counts_json))]

@@ -116,6 +116,8 @@ pub struct Receipt {
     pub inputs: Vec<InputReceipt>,
     pub records: RecordCounts,
     pub table: TableReceipt,
-    /// Whether nothing was lost or passed over: `--strict` would have ended with status 0.
+    /// The names of the inputs that were left out, since their sums were too large, in the order in which they went.
+    pub left_out: Vec<String>,
+    /// Whether nothing was lost or passed over, and nothing left out: `--strict` would have ended with status 0.
     pub complete: bool,
 }

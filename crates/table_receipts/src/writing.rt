@@ -10,8 +10,8 @@ ghost use Rattle.table_receipts.specs.Objects.{content_members, digest_json, mem
 ghost use Rattle.table_receipts.specs.Texts.{receipt_text, text_before};
 
 use crate::parts::{
-    write_counts, write_digest_member, write_files, write_inputs, write_number_member, write_table,
-    write_text_member,
+    write_counts, write_digest_member, write_ending, write_files, write_inputs,
+    write_number_member, write_table, write_text_member,
 };
 use crate::receipt::Receipt;
 use json::Writer;
@@ -76,8 +76,7 @@ fn write_contents(alloc: Global, writer: &mut Writer, receipt: &Receipt) -> Resu
     write_inputs(alloc, writer, &receipt.inputs)?;
     write_counts(writer, &receipt.records)?;
     write_table(alloc, writer, &receipt.table)?;
-    writer.key("complete")?;
-    writer.boolean(receipt.complete)
+    write_ending(writer, &receipt.left_out, receipt.complete)
 }
 
 // The text before the last member.

@@ -1,6 +1,6 @@
 //! A receipt is written as its text, and that reads back; a text that is changed anywhere is refused.
 
-use crate::example::{TEXT, receipt};
+use crate::example::{TEXT, TEXT_OF_THE_REST, receipt, receipt_of_the_rest};
 use std::alloc::{AllocError, Global};
 use std::str;
 use std::test::*;
@@ -58,6 +58,22 @@ fn reads_back(rt: HostRuntime) -> Result<(), Fail> {
     assert!(rt; !receipt.complete);
     let text = write_receipt(alloc, &receipt)?;
     assert!(rt; text.as_slice() == TEXT.as_bytes());
+    Ok(())
+}
+
+#[test]
+fn names_what_was_left_out(rt: HostRuntime) -> Result<(), Fail> {
+    let alloc: Global = rt.alloc();
+    let text = write_receipt(alloc, &receipt_of_the_rest(alloc)?)?;
+    assert!(rt; text.as_slice() == TEXT_OF_THE_REST.as_bytes());
+    let Ok(receipt) = read_receipt(alloc, TEXT_OF_THE_REST) else {
+        return Err("the text was not read".into());
+    };
+    let mut names = Vec::new(alloc);
+    for name in &receipt.left_out {
+        names.push(name.as_str())?;
+    }
+    assert_eq!(rt; names.as_slice(), ["second \"one\"", "first"].as_slice());
     Ok(())
 }
 

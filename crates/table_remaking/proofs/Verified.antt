@@ -8,7 +8,7 @@ use Rattle.flow_collect.specs.InFull.{fulls_in}
 use Rattle.receipt_differences.specs.Differences.{counts_differ, rows_differ, table_differs}
 use Rattle.receipt_differences.specs.DifferenceLines.{other_unless}
 use Rattle.receipt_differences.specs.Inputs.{HaveSameInputs, inputs_differ}
-use Rattle.receipt_differences.specs.Remade.{bool_same, remade_differs, text_differs}
+use Rattle.receipt_differences.specs.Remade.{bool_same, complete_with, remade_differs, text_differs}
 use Rattle.receipt_differences.proofs.Silent.{both_empty, its_table, same_inputs, same_text}
 use Rattle.command_collect.specs.declared.job.CollectJob.{CollectJob}
 use Rattle.command_receipt.specs.Inputs.{inputs_of}
@@ -24,7 +24,7 @@ verified_of seen job made said table sources origins remade is silent =
     let found = receipt_value remade.receipt in
     let one = both_empty (table_differs said.table table) (remade_differs found said ++ text_differs remade.text.items table) silent in
     let two = both_empty (remade_differs found said) (text_differs remade.text.items table) one.1 in
-    let three = both_empty (inputs_differ said.inputs found.inputs) (counts_differ found.records said.records ++ (rows_differ found.table said.table ++ other_unless (bool_same found.complete said.complete) (codes "complete"))) two.0 in
+    let three = both_empty (inputs_differ said.inputs found.inputs) (counts_differ found.records said.records ++ (rows_differ found.table said.table ++ other_unless (bool_same (complete_with found.complete said.left_out) said.complete) (codes "complete"))) two.0 in
     let inputs : found.inputs ≡ inputs_of job origins (fulls_in is.collected.sessions.items) is.digests = ap (λ (r : ReceiptValue). r.inputs) is.is_made.is.value in
     record {
       table_is = (its_table said.table table).0 one.0;

@@ -86,6 +86,7 @@ fn made_with_nothing(alloc: Global) -> MadeWith {
         plan: String::new(alloc),
         elements: Vec::new(alloc),
         maps: Vec::new(alloc),
+        left_out: Vec::new(alloc),
     }
 }
 

@@ -1,20 +1,20 @@
 -- The files that a receipt names.
-use Rattle.std.specs.Prelude.{◌≡◌, ◌≢◌, ℕ, Bool, true, false, List, bytes_eq, filter, length, map, string_bytes, ◌==◌, ◌&&◌}
+use Rattle.std.specs.Prelude.{◌≡◌, ◌≢◌, ℕ, Bool, true, false, List, bytes_eq, length, map, string_bytes, ◌==◌, ◌&&◌}
 use Rattle.std.specs.declared.alloc.Global.{Global}
 use Rattle.std.specs.declared.string.String.{String}
 use Rattle.table_receipts.specs.Texts.{receipt_text}
-use Rattle.period_tables.specs.Standing.{was_read}
+use Rattle.period_tables.specs.Standing.{names_in}
 use Rattle.report_writing.specs.declared.reason.Reason.{Reason}
 use Rattle.report_writing.specs.declared.reason.Reason.TheVariants.{NotValid, OutOfMemory}
 use Rattle.sha2.specs.Sha256.{sha256}
-use Rattle.table_receipts.specs.Values.{FitsReceipt, InputValue, ReceiptValue, TableValue}
+use Rattle.table_receipts.specs.Values.{FitsReceipt, ReceiptValue, TableValue}
 
--- the text is that of a receipt, of a table under a plan of this text, and these are the paths of its inputs that were read
+-- the text is that of a receipt, of a table under a plan of this text, and these are the paths of its inputs that were read, and of those that were left out
 pub record IsFilesOf (text plan : List ℕ) (paths : List (String Global)) : Type 0 where
   pub receipt : ReceiptValue
   pub text_is : receipt_text receipt ≡ text
   pub plan_is : receipt.plan ≡ plan
-  pub names : map string_bytes paths ≡ map (λ (i : InputValue). i.file.name) (filter was_read receipt.inputs)
+  pub names : map string_bytes paths ≡ names_in receipt
 
 -- memory ran out; or the text is that of no receipt of such a table
 abbrev pub IsNotOf : List ℕ → List ℕ → Reason → Type 0

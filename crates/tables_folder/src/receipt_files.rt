@@ -1,17 +1,17 @@
 //! The files that a receipt names.
 
 ghost use Rattle.std.specs.Prelude.{◌≡◌, filter, map, string_bytes, IfErr, IfOk, MatchBool};
-ghost use Rattle.table_receipts.specs.Values.{input_value, table_value};
-ghost use Rattle.period_tables.specs.Standing.{was_read as was_input_read};
+ghost use Rattle.table_receipts.specs.Values.{input_value, receipt_value, table_value};
+ghost use Rattle.period_tables.specs.Standing.{names_in, was_read as was_input_read};
 ghost use Rattle.tables_folder.specs.ReceiptFiles.{IsFilesOf, IsNotOf, IsNoReceiptOf, IsReceiptOf, tells_table};
 
 use report_writing::Reason;
 use sha2::{Digest, Sha256};
 use std::alloc::{AllocError, Global};
-use table_receipts::{InputReceipt, ReceiptFault, TableReceipt, read_receipt};
+use table_receipts::{InputReceipt, Receipt, ReceiptFault, TableReceipt, read_receipt};
 
 /// The paths of the inputs of the receipt with this text, of a table under a plan with that text, but for those whose session
-/// ended since a read failed or memory ran out. If the text is no receipt, or one of another plan, it isn't valid.
+/// ended since a read failed or memory ran out; and then those of what was left out. If the text is no receipt, or one of another plan, it isn't valid.
 pub fn files_in_receipt(alloc: Global, text: &str, plan: &str) -> Result<Vec<String>, Reason>
     ensures files { IfOk result (λ paths. IsFilesOf text.now plan.now paths.items) }
     ensures reason { IfErr result (IsNotOf text.now plan.now) }
@@ -24,10 +24,24 @@ pub fn files_in_receipt(alloc: Global, text: &str, plan: &str) -> Result<Vec<Str
     if receipt.plan.as_str() != plan {
         return Err(Reason::NotValid);
     }
-    match names_of(alloc, &receipt.inputs) {
+    match all_names_of(alloc, receipt) {
         Ok(names) => Ok(names),
         Err(AllocError) => Err(Reason::OutOfMemory),
     }
+}
+
+// The names of inputs that were read, and of those that were left out.
+fn all_names_of(alloc: Global, receipt: Receipt) -> Result<Vec<String>, AllocError>
+    ensures { IfOk result (λ names. map string_bytes names.items ≡ names_in (receipt_value receipt)) }
+{
+    let Receipt {
+        inputs,
+        mut left_out,
+        ..
+    } = receipt;
+    let mut names = names_of(alloc, &inputs)?;
+    names.append(&mut left_out)?;
+    Ok(names)
 }
 
 // The names of inputs that were read.

@@ -1,4 +1,4 @@
-use Rattle.std.proofs.Common.{◌≡◌, inl, inr, length, refl, rules}
+use Rattle.std.proofs.Common.{◌≡◌, Err, ap, inl, inr, length, refl, rules}
 use Rattle.std.specs.Prelude.{◌↔◌, is_some, vec_len}
 use Rattle.report_writing.specs.Statuses.{number_of}
 use Rattle.report_writing.proofs.Ended.{never_three, one_of_three, zero_if_well}
@@ -9,6 +9,7 @@ use Rattle.command_collect.proofs.Ran.{of_gathered, tells_gathered, writes_table
 use Rattle.command_collect.proofs.Refused.{job_fault, not_refused, refusal_told}
 use Rattle.command_receipt.specs.Digests.{AreDigestsOf}
 use Rattle.command_receipt.proofs.Collected.{not_put_of, put_of}
+use Rattle.command_receipt.proofs.Hindered.{hindered_in, hindered_of}
 use Rattle.command_receipt.proofs.run.run_receipted.Goals as goal
 
 pub returns-in-Err-clause-runs : goal.returns-in-Err-clause-runs
@@ -19,9 +20,13 @@ returns-in-Err-clause-runs g c =
     record {
       statuses = inr (inr refl);
       table = λ ran. absurd (ran refl);
-      failed = λ failed. inl (c.in-Err.fault, fault, refl, told);
+      failed = λ failed. inl (c.in-Err.fault, fault, refl, c.hindrance_in.ensures, told);
       refused = refusal_told _ c.in-Err.fault _ _ _ fault.arguments refl refl told;
     }
+
+pub returns-in-Err-clause-hindered : goal.returns-in-Err-clause-hindered
+returns-in-Err-clause-hindered g c =
+    hindered_in g.S.Source.seen c.args.sources.items c.args.job.now c.args.origins.now c.in-Err.fault c.hindrance_in.result c.hindrance_in.ensures (λ is. c.in-Err.ensures.faults.too_large (ap Err is))
 
 pub returns-in-Err-answer-clause-runs : goal.returns-in-Err-answer-clause-runs
 returns-in-Err-answer-clause-runs g c =
@@ -43,6 +48,7 @@ returns-in-Err-answer-clause-runs g c =
             ends = not_put_of c.args.job.now c.args.origins.now digests (c.write_run-out.result.out ≡ c.args.to.out) c.in-Err-answer.fault by.collected c.in-Ok.run'.gathered by.gathered (search rules);
           };
         },
+        c.hindrance_of.ensures,
         told,
       );
       refused = not_refused _ _ _ _ c.args.job.now.engine c.in-Ok.run' _ same c.in-Ok.ensures.faults;
@@ -76,3 +82,17 @@ returns-clause-runs g c =
       failed = never_three c.status_of-status.result status refl c.status_of-status.ensures.ends;
       refused = not_refused _ _ _ _ job.engine c.in-Ok.run' _ same c.in-Ok.ensures.faults;
     }
+
+pub returns-in-Err-answer-clause-hindered : goal.returns-in-Err-answer-clause-hindered
+returns-in-Err-answer-clause-hindered g c =
+    let by = c.in-Ok.ensures.ok in
+    let digests = c.in-Ok.run'.digests.items in
+    hindered_of g.S.Source.seen c.args.sources.items c.args.job.now c.args.origins.now (c.write_run-out.result.out ≡ c.args.to.out) c.in-Err-answer.fault c.hindrance_of.result c.hindrance_of.ensures (record {
+      collected = by.collected;
+      collects = by.collects;
+      not_put = record {
+        digests = digests;
+        are_digests = of_gathered (λ sources fulls samplings times table n. AreDigestsOf g.S.Source.seen c.args.sources.items fulls digests) by.collected c.in-Ok.run'.gathered by.gathered c.in-Ok.ensures.digests;
+        ends = not_put_of c.args.job.now c.args.origins.now digests (c.write_run-out.result.out ≡ c.args.to.out) c.in-Err-answer.fault by.collected c.in-Ok.run'.gathered by.gathered (search rules);
+      };
+    })

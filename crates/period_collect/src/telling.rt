@@ -1,0 +1,43 @@
+//! The lines about files that are left out of a table.
+
+ghost use Rattle.std.specs.Prelude.{◌≡◌, map};
+ghost use Rattle.report_writing.specs.Told.{AreToldTo};
+ghost use Rattle.report_writing.specs.Writing.{Tells};
+ghost use Rattle.period_collect.specs.LeftOutFiles.{left_out_line, left_out_lines, paths_at, same_line};
+
+use crate::places::path_at;
+use report_writing::WriteLines;
+use std::io;
+
+/// Writes that the files at these places of the paths are left out of a table, in the order of the places.
+pub(crate) fn tell_left_out<E: WriteLines>(paths: &[&str], out: &[usize], err: &mut E)
+    ensures told { AreToldTo E.contents E.failed err.old err.new
+        (left_out_lines (paths_at out.now (map (λ path. path.now) paths.now))) }
+    ensures kept { E.failed err.old → E.failed err.new }
+{
+    for place in out {
+        let _ = write_left_out(path_at(paths, *place), err);
+    }
+}
+
+// Writes that the file of a path is left out of a table.
+#[tactic(auto, unfolding(crate::specs::LeftOutFiles::left_out_line))]
+fn write_left_out<E: WriteLines>(path: &str, err: &mut E) -> io::Result<()>
+    ensures { Tells E.contents E.failed err.old err.new result (left_out_line path.now) }
+{
+    writeln!(
+        err,
+        "collectd: tables: left out, since a sum was 2^64 or more: {path}"
+    )
+}
+
+/// Writes that the file of a path is left out of a table, since it has the same octets as that of another.
+#[tactic(auto, unfolding(crate::specs::LeftOutFiles::same_line))]
+pub(crate) fn write_same<E: WriteLines>(other: &str, path: &str, err: &mut E) -> io::Result<()>
+    ensures { Tells E.contents E.failed err.old err.new result (same_line other.now path.now) }
+{
+    writeln!(
+        err,
+        "collectd: tables: left out, since its octets are those of {other}: {path}"
+    )
+}
