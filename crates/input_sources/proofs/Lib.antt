@@ -1,3 +1,4 @@
 pub mod Had
 pub mod InputsTold
 mod MapsRead
+mod Room

@@ -4,6 +4,7 @@
 
 mod accepting;
 mod files_in_turn;
+pub mod laws;
 mod loaded_plan;
 mod map_places;
 mod maps;

@@ -1,6 +1,6 @@
 //! What opens sources.
 
-ghost use Rattle.std.specs.Prelude.{⊤, None};
+ghost use Rattle.std.specs.Prelude.{◌≡◌, ◌≢◌, ⊤, None, codes};
 
 use ipfix_session::{FromReader, Source};
 use report_writing::Reason;
@@ -94,7 +94,10 @@ impl<'r, F: Read + OpenFile + Drop, R: Files<File = F>> OpenSource<FromReader<F>
 }
 
 /// The name that the system has for the file of a path.
-pub fn name_of_file(path: &str) -> &str {
+pub fn name_of_file(path: &str) -> &str
+    ensures standard_input { path.now ≡ codes "-" → result.now ≡ codes "/dev/stdin" }
+    ensures other { path.now ≢ codes "-" → result.now ≡ path.now }
+{
     if path == STANDARD_INPUT.0 {
         STANDARD_INPUT.1
     } else {

@@ -3,10 +3,12 @@
 ghost use Rattle.std.specs.Prelude.{◌≡◌, ◌≤◌, ◌<◌, ◌+◌, [], IsTrue, ◌↔◌, OnOk, IfSome, IfNone, option_map};
 ghost use Rattle.std.specs.Int.NonZero.{non_zero_u64_get};
 ghost use Rattle.std.specs.Time.{instant_nanos};
+ghost use Rattle.std.specs.Io.Buffered.{writer_capacity, writer_contents};
 ghost use Rattle.std.specs.Io.KnownBytes.{Appends};
 ghost use Rattle.ipfix_session.specs.MessageCounts.{HasRead};
 ghost use Rattle.input_sources.specs.ProgressLines.{percent_of, progress_line, read_line, share_line};
 ghost use Rattle.input_sources.specs.Progressing.{second, CountsOctets, IsDue, IsSilent, TellsLine};
+ghost use Rattle.input_sources.specs.declared.progress.TheConstants.{LINE};
 
 use ipfix_session::MessageCounter;
 use std::alloc::Global;
@@ -68,7 +70,7 @@ impl<'a, C: Clock, P: Write + Drop> Progress<'a, C, P> {
         ensures written { IfSome result (λ p. p.written ≡ P.contents out) }
     {
         let last = Instant::now(clock).ok()?;
-        let out = BufWriter::with_capacity(alloc, LINE, out).ok()?;
+        let out = line_writer(alloc, out)?;
         Some(Progress {
             clock,
             last,
@@ -116,6 +118,14 @@ impl<'a, C: Clock, P: Write + Drop> Progress<'a, C, P> {
         )?;
         self.out.flush()
     }
+}
+
+// Gives a writer each line in one piece. `None` if there is no memory for a line.
+fn line_writer<P: Write + Drop>(alloc: Global, out: P) -> Option<BufWriter<P>>
+    ensures room { IfSome result (λ lines. writer_capacity lines ≡ LINE) }
+    ensures written { IfSome result (λ lines. writer_contents P.contents lines ≡ P.contents out) }
+{
+    BufWriter::with_capacity(alloc, LINE, out).ok()
 }
 
 // Whether a second has gone by.

@@ -2,7 +2,6 @@
 use Rattle.std.specs.Prelude.{ℕ, ◌+◌, ◌-◌, nat_eq, nat_le, nat_lt, Bool, true, false, ◌&&◌, if◌then◌else◌, List, [], ◌++◌, length, take, drop, codes, decimal, Option, Some, None}
 use Rattle.std.specs.List.{position_from, starts_with}
 use Rattle.ipfix_session.specs.Sources.{one_more}
-use Rattle.recording_log.specs.declared.held_lines.TheConstants.{MOST_HELD}
 
 pub record HeldView : Type 0 where
   -- whether one was told in this second
@@ -31,9 +30,9 @@ peer_not_written text = is_not_written_from text (space_in text)
 abbrev pub session_not_written : List ℕ → Bool
 session_not_written line = starts_with nat_eq line (codes "collectd: session ") && peer_not_written (drop 18 line)
 
--- the line of a session whose file could not be written, maybe with the reason
+-- the line of a session whose file could not be written, maybe with the reason; a longer one is none of those that are held
 abbrev pub is_not_written : List ℕ → Bool
-is_not_written line = nat_le (length line) MOST_HELD && session_not_written line
+is_not_written line = nat_le (length line) 256 && session_not_written line
 
 -- it is held if one was told in this second
 abbrev pub is_held : HeldView → List ℕ → Bool

@@ -1,7 +1,6 @@
 -- Lines that wait to be written, and lines that had no room.
 use Rattle.std.specs.Prelude.{ℕ, zero, suc, ◌+◌, nat_lt, nat_le, ◌==◌, Bool, ◌&&◌, if◌then◌else◌, List, [], ◌++◌, length, codes, decimal}
 use Rattle.ipfix_session.specs.Sources.{one_more}
-use Rattle.recording_log.specs.declared.waiting_lines.TheConstants.{MOST_LINES, MOST_OCTETS}
 
 pub record LogView : Type 0 where
   -- the lines that wait, the oldest first
@@ -14,10 +13,10 @@ pub record LogView : Type 0 where
 abbrev pub nothing_waits : LogView
 nothing_waits = record { text = []; lines = 0; dropped = 0 }
 
--- a line has room if none before it was dropped, and the lines are within both limits with it
+-- a line has room if none before it was dropped, and with it at most 1024 lines wait, of a mebibyte together
 abbrev pub has_room : LogView → List ℕ → Bool
 has_room log line =
-    (log.dropped == 0) && (nat_lt log.lines MOST_LINES && nat_le (length log.text + length line) MOST_OCTETS)
+    (log.dropped == 0) && (nat_lt log.lines 1024 && nat_le (length log.text + length line) 1_048_576)
 
 abbrev pub with_line : LogView → List ℕ → LogView
 with_line log line = record log { text = log.text ++ line; lines = log.lines + 1 }

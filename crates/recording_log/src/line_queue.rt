@@ -1,8 +1,8 @@
 //! The queue between those who write lines and the thread that writes them out.
 
-ghost use Rattle.std.specs.Prelude.{◌≡◌, if◌then◌else◌};
-ghost use Rattle.recording_log.specs.Held.{is_held, with_line};
-ghost use Rattle.recording_log.specs.Logs.{pushed};
+ghost use Rattle.std.specs.Prelude.{◌≡◌, IfOk, if◌then◌else◌};
+ghost use Rattle.recording_log.specs.Held.{is_held, nothing_held, with_line};
+ghost use Rattle.recording_log.specs.Logs.{nothing_waits, pushed};
 
 use crate::held_lines::HeldLines;
 use crate::waiting_lines::WaitingLines;
@@ -25,7 +25,10 @@ pub struct QueuedLines {
 
 impl QueuedLines {
     /// Nothing.
-    pub fn new(alloc: Global) -> Result<Self, AllocError> {
+    pub fn new(alloc: Global) -> Result<Self, AllocError>
+        ensures waiting { IfOk result (λ lines. lines.waiting ≡ nothing_waits) }
+        ensures held { IfOk result (λ lines. lines.held ≡ nothing_held) }
+    {
         Ok(QueuedLines {
             waiting: WaitingLines::new(alloc)?,
             held: HeldLines::new(alloc)?,

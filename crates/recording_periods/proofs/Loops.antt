@@ -1,7 +1,10 @@
 -- Going over a list: what is known of all of it by what is left.
-use Rattle.std.proofs.Common.{◌≡◌, List, ◌∷◌, length, suc, refl, sym, subst, arith}
-use Rattle.std.specs.Prelude.{All, Any}
+use Rattle.std.proofs.Common.{◌≡◌, ℕ, List, [], ◌∷◌, length, suc, inl, inr, refl, sym, subst, arith}
+use Rattle.std.specs.Prelude.{All, Any, string_bytes}
+use Rattle.std.specs.declared.alloc.Global.{Global}
+use Rattle.std.specs.declared.string.String.{String}
 use Rattle.std.proofs.lemmas.List.Elements.{All-cons, All-head, All-tail}
+use Rattle.recording_periods.specs.Firsts.{IsFirst}
 
 module _ {X : Type 0} (P : X → Type 0) where
   any_here : (x : X) (xs : List X) → P x → Any P (x ∷ xs)
@@ -33,3 +36,18 @@ module _ {X : Type 0} (P : X → Type 0) where
 -- what is so of some is not otherwise of all
 pub some_or_all : {X : Type 0} (P Q : X → Type 0) (xs : List X) → ((x : X) → P x → Q x → ⊥) → Any P xs → All Q xs → ⊥
 some_or_all P Q xs apart (k, x, within, at, some) every = apart x some (subst Q at (every k x within))
+
+module _ (Other Is : String Global → Type 0) where
+  -- the first of which something is so
+  module _ (all left rest : List (String Global)) (one : String Global) (text : List ℕ) (split : left ≡ one ∷ rest) (so_far : IsFirst Other Is left text → IsFirst Other Is all text) where
+    pub first_here : Is one → string_bytes one ≡ text → IsFirst Other Is all text
+    first_here is names = so_far (subst (λ (l : List (String Global)). IsFirst Other Is l text) (sym split) (inl (is, names)))
+
+    pub first_later : Other one → IsFirst Other Is rest text → IsFirst Other Is all text
+    first_later other later = so_far (subst (λ (l : List (String Global)). IsFirst Other Is l text) (sym split) (inr (other, later)))
+
+  -- there is none if the other is so of all
+  pub no_first : (ones : List (String Global)) (text : List ℕ) → ((one : String Global) → Is one → Other one → ⊥) → IsFirst Other Is ones text → All Other ones → ⊥
+  no_first [] text apart first every = first
+  no_first (one ∷ rest) text apart (inl (is, names)) every = apart one is (All-head Other one rest every)
+  no_first (one ∷ rest) text apart (inr (other, later)) every = no_first rest text apart later (All-tail Other one rest every)

@@ -1,9 +1,10 @@
 -- When a period is finished.
-use Rattle.std.specs.Prelude.{◌≡◌, ◌<◌, ◌≤◌, ◌+◌, ℕ, List, All, Any, string_bytes}
+use Rattle.std.specs.Prelude.{◌≡◌, ◌<◌, ◌≤◌, ◌+◌, ℕ, List, All, string_bytes}
 use Rattle.std.specs.declared.alloc.Global.{Global}
 use Rattle.std.specs.declared.string.String.{String}
 use Rattle.recording_names.specs.PeriodNames.{calendar_end}
 use Rattle.recording_names.specs.UnfinishedNames.{name_of_unfinished}
+use Rattle.recording_periods.specs.Firsts.{IsFirst}
 use Rattle.recording_periods.specs.declared.finished_period.PeriodRule.{PeriodRule}
 use Rattle.recording_periods.specs.declared.finished_period.PeriodState.{PeriodState}
 use Rattle.recording_periods.specs.declared.finished_period.PeriodState.TheVariants.{NotOver, HeldUp, Finished}
@@ -25,9 +26,12 @@ pub record IsFinished (rule : PeriodRule) (now : ℕ) (unfinished : List (String
   pub over : IsOver rule now begins
   pub free : All (λ name. ¬ HoldsUp begins (string_bytes name)) unfinished
 
--- why a period isn't finished, or that it is; at most one of the three is so
+-- the first of these names that holds it up
+abbrev pub IsFirstToHold : ℕ → List (String Global) → List ℕ → Type 0
+IsFirstToHold begins = IsFirst (λ name. ¬ HoldsUp begins (string_bytes name)) (λ name. HoldsUp begins (string_bytes name))
+
+-- why a period isn't finished, or that it is; exactly one of the three is so
 abbrev pub IsPeriodState : PeriodRule → ℕ → List (String Global) → ℕ → PeriodState → Type 0
 IsPeriodState rule now unfinished begins NotOver = now < begins + rule.every + rule.grace
-IsPeriodState rule now unfinished begins (HeldUp name) =
-    IsOver rule now begins × HoldsUp begins name.now × Any (λ held. string_bytes held ≡ name.now) unfinished
+IsPeriodState rule now unfinished begins (HeldUp name) = IsOver rule now begins × IsFirstToHold begins unfinished name.now
 IsPeriodState rule now unfinished begins Finished = IsFinished rule now unfinished begins

@@ -1,4 +1,5 @@
 -- What public contracts cite.
+pub mod Firsts
 pub mod PeriodFolders
 pub mod FinishedPeriods
 pub mod PeriodFiles

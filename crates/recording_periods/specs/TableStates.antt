@@ -2,6 +2,7 @@
 use Rattle.std.specs.Prelude.{◌≡◌, ◌≢◌, ℕ, List, [], ◌++◌, codes, All, Any, Option, None, Some, string_bytes}
 use Rattle.std.specs.declared.alloc.Global.{Global}
 use Rattle.std.specs.declared.string.String.{String}
+use Rattle.recording_periods.specs.Firsts.{IsFirst}
 use Rattle.recording_periods.specs.declared.due_tables.TableState.{TableState}
 use Rattle.recording_periods.specs.declared.due_tables.TableState.TheVariants.{Due, UpToDate, Gone}
 
@@ -15,6 +16,10 @@ IsListed files path = Any (λ name. IsPathTo (string_bytes name) path) files
 
 abbrev pub IsGone : List (String Global) → List ℕ → Type 0
 IsGone files path = All (λ name. ¬ IsPathTo (string_bytes name) path) files
+
+-- the first of these paths whose file is gone
+abbrev pub IsFirstGone : List (String Global) → List (String Global) → List ℕ → Type 0
+IsFirstGone files = IsFirst (λ path. IsListed files (string_bytes path)) (λ path. IsGone files (string_bytes path))
 
 -- a file is one of those that a receipt names, or it came later
 abbrev pub IsNamed : List (String Global) → String Global → Type 0
@@ -31,4 +36,4 @@ IsTableState files None UpToDate = files ≡ []
 IsTableState files None (Gone path) = ⊥
 IsTableState files (Some paths) Due = All (λ path. IsListed files (string_bytes path)) paths × Any (IsLate paths) files
 IsTableState files (Some paths) UpToDate = All (λ path. IsListed files (string_bytes path)) paths × All (IsNamed paths) files
-IsTableState files (Some paths) (Gone path) = Any (λ named. string_bytes named ≡ path.now) paths × IsGone files path.now
+IsTableState files (Some paths) (Gone path) = IsFirstGone files paths path.now

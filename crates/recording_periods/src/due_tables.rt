@@ -2,7 +2,7 @@
 
 ghost use Rattle.std.specs.Prelude.{◌≡◌, ◌≢◌, ◌++◌, ℕ, List, All, Any, MatchBool, MatchOption, codes, string_bytes};
 ghost use Rattle.std.specs.Option.{option_map};
-ghost use Rattle.recording_periods.specs.TableStates.{IsGone, IsLate, IsListed, IsNamed, IsPathTo, IsTableState};
+ghost use Rattle.recording_periods.specs.TableStates.{IsFirstGone, IsGone, IsLate, IsListed, IsNamed, IsPathTo, IsTableState};
 
 /// Whether a table is to be made.
 #[derive(Clone, Copy, Debug)]
@@ -11,7 +11,7 @@ pub enum TableState<'p> {
     Due,
     /// It is of exactly the files that there are, or there is none.
     UpToDate,
-    /// The file of this path of the receipt is gone: the table stays as it is.
+    /// The file of this path is gone, the first such path of the receipt: the table stays as it is.
     Gone(&'p str),
 }
 
@@ -40,7 +40,7 @@ pub fn table_state<'p>(files: &[String], receipt: Option<&'p [String]>) -> Table
 // The first path whose file is gone.
 fn first_gone<'p>(files: &[String], paths: &'p [String]) -> Option<&'p str>
     ensures { MatchOption result (All (λ path. IsListed files.now (string_bytes path)) paths.now)
-        (λ path. Any (λ named. string_bytes named ≡ path.now) paths.now × IsGone files.now path.now) }
+        (λ path. IsFirstGone files.now paths.now path.now) }
 {
     let mut left = paths;
     while let Some((path, rest)) = left.split_first() {

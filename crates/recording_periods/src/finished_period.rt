@@ -1,7 +1,7 @@
 //! When a period is finished.
 
-ghost use Rattle.std.specs.Prelude.{◌≡◌, All, Any, MatchBool, MatchOption, string_bytes};
-ghost use Rattle.recording_periods.specs.FinishedPeriods.{HoldsUp, IsPeriodState};
+ghost use Rattle.std.specs.Prelude.{All, MatchBool, MatchOption, string_bytes};
+ghost use Rattle.recording_periods.specs.FinishedPeriods.{HoldsUp, IsFirstToHold, IsPeriodState};
 
 use recording_names::{Period, read_unfinished_name};
 
@@ -17,7 +17,7 @@ pub struct PeriodRule {
 pub enum PeriodState<'n> {
     /// By the clock it isn't over yet, or its grace isn't.
     NotOver,
-    /// A file of this name isn't finished.
+    /// The file of this name isn't finished: the first of those that hold it up.
     HeldUp(&'n str),
     Finished,
 }
@@ -45,13 +45,13 @@ pub fn period_state<'n>(
 fn first_holding<'n>(unfinished: &'n [String], period: Period) -> Option<&'n str>
     ensures { MatchOption result
         (All (λ name. ¬ HoldsUp period.begins (string_bytes name)) unfinished.now)
-        (λ name. HoldsUp period.begins name.now
-        × Any (λ held. string_bytes held ≡ name.now) unfinished.now) }
+        (λ name. IsFirstToHold period.begins unfinished.now name.now) }
 {
     let mut left = unfinished;
     while let Some((name, rest)) = left.split_first() {
-        if holds_up(name.as_str(), period) {
-            return Some(name.as_str());
+        let name = name.as_str();
+        if holds_up(name, period) {
+            return Some(name);
         }
         left = rest;
     }

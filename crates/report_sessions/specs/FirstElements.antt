@@ -2,7 +2,6 @@
 use Rattle.std.specs.Prelude.{◌≡◌, ◌<◌, ◌≤◌, nat_lt, Bool, true, false, List, [], ◌∷◌, ◌++◌, length, take, if◌then◌else◌}
 use Rattle.std.specs.List.{list_any}
 use Rattle.ipfix_wire.specs.declared.specifier.ElementId.{ElementId}
-use Rattle.report_sessions.specs.declared.first_elements.TheConstants.{MOST_NAMED}
 use Rattle.report_sessions.specs.UnnamedElements.{each_once, is_element}
 
 -- what contracts see of them: the first ones, and whether there were more
@@ -14,7 +13,7 @@ pub record ElementsView : Type 0 where
 abbrev pub with_element : ElementsView → ElementId → ElementsView
 with_element v e =
     if list_any (is_element e) v.first then v
-    else if nat_lt (length v.first) MOST_NAMED then record { first = v.first ++ e ∷ []; more = v.more }
+    else if nat_lt (length v.first) 64 then record { first = v.first ++ e ∷ []; more = v.more }
     else record { first = v.first; more = true }
 
 -- each once, where it first appears, if it isn't one of those that appeared before
@@ -25,6 +24,6 @@ once_after before (e ∷ es) = if list_any (is_element e) before then once_after
 -- of all elements, of which these are still to come, the first different ones are kept
 pub record KeepsFirst (v : ElementsView) (all coming : List ElementId) : Type 0 where
   -- those that came, as long as there are no more than are kept
-  pub few : v.more ≡ false → (length v.first ≤ MOST_NAMED) × (each_once all ≡ v.first ++ once_after v.first coming)
+  pub few : v.more ≡ false → (length v.first ≤ 64) × (each_once all ≡ v.first ++ once_after v.first coming)
   -- and otherwise the first of them
-  pub many : v.more ≡ true → (MOST_NAMED < length (each_once all)) × (v.first ≡ take MOST_NAMED (each_once all))
+  pub many : v.more ≡ true → (64 < length (each_once all)) × (v.first ≡ take 64 (each_once all))

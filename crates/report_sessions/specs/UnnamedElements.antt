@@ -10,7 +10,6 @@ use Rattle.ipfix_message.specs.declared.record.Template.{Template}
 use Rattle.ipfix_session.specs.declared.report.DomainReport.{DomainReport}
 use Rattle.ipfix_session.specs.declared.report.FullReport.{FullReport}
 use Rattle.report_writing.specs.Origins.{session_start}
-use Rattle.report_sessions.specs.declared.first_elements.TheConstants.{MOST_NAMED}
 use Rattle.report_writing.specs.declared.origin.Origin.{Origin}
 use Rattle.report_writing.specs.declared.verbosity.Verbosity.{Verbosity}
 
@@ -73,7 +72,7 @@ elements_line session origin first more =
 abbrev pub unnamed_line : List Known → ℕ → Origin → FullReport → List ℕ
 unnamed_line known session origin full =
     let all = unnamed_elements known full in
-    elements_line session origin (take MOST_NAMED all) (nat_lt MOST_NAMED (length all))
+    elements_line session origin (take 64 all) (nat_lt 64 (length all))
 
 -- the same, if verbose lines are asked for
 abbrev pub unnamed_told : Verbosity → List Known → ℕ → Origin → FullReport → List ℕ

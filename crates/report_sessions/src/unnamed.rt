@@ -6,7 +6,6 @@ ghost use Rattle.std.specs.List.{flat_map};
 ghost use Rattle.ipfix_wire.specs.declared.specifier.ElementId.{ElementId as Id};
 ghost use Rattle.report_sessions.specs.FirstElements.{KeepsFirst, with_element};
 ghost use Rattle.report_sessions.specs.UnnamedElements.{count_text, element_text, elements_line, is_unnamed, number_shown, over_text, templates_at, templates_of, unnamed_elements, unnamed_in, unnamed_told};
-ghost use Rattle.report_sessions.specs.declared.first_elements.TheConstants.{MOST_NAMED};
 ghost use Rattle.report_writing.specs.Writing.{Tells};
 
 use crate::first_elements::FirstElements;
@@ -40,9 +39,9 @@ pub fn write_unnamed<W: WriteLines>(
 
 // The first elements that nothing names.
 fn first_unnamed(elements: &Elements, full: &FullReport) -> FirstElements
-    ensures first { result.first ≡ take MOST_NAMED (unnamed_elements elements.now full.now) }
+    ensures first { result.first ≡ take 64 (unnamed_elements elements.now full.now) }
     ensures more { result.more
-        ≡ nat_lt MOST_NAMED (length (unnamed_elements elements.now full.now)) }
+        ≡ nat_lt 64 (length (unnamed_elements elements.now full.now)) }
 {
     let mut unnamed = FirstElements::new();
     let Some(domains) = &full.domains else {

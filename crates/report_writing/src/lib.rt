@@ -3,6 +3,7 @@
 #![tactic(auto)]
 
 mod faults;
+pub mod laws;
 mod opening;
 mod origin;
 mod quoting;

@@ -1,20 +1,22 @@
 use Rattle.std.proofs.Common.{◌≡◌, ℕ, List, ◌∷◌, length, arith, rules}
 use Rattle.std.specs.Prelude.{string_bytes}
 use Rattle.recording_periods.specs.FinishedPeriods.{HoldsUp}
-use Rattle.recording_periods.proofs.Loops.{all_at_end, more_all, more_some, some_here}
+use Rattle.recording_periods.proofs.Loops.{all_at_end, first_here, first_later, more_all}
 use Rattle.recording_periods.proofs.finished_period.first_holding.Goals as goal
 
 pub returns-then-holds_up : goal.returns-then-holds_up
 returns-then-holds_up c =
     let split : c.loop-name.left.now ≡ c.in-Some.name.now ∷ c.in-Some.rest.now = search rules in
-    (search rules, some_here (λ one. string_bytes one ≡ c.as_str-then-holds_up.result.now) c.args.unfinished.now c.loop-name.left.now c.in-Some.rest.now c.in-Some.name.now split (c.loop-name.invariant.among c.as_str-then-holds_up.result.now) (search rules))
+    first_here (λ name. ¬ HoldsUp c.args.period.begins (string_bytes name)) (λ name. HoldsUp c.args.period.begins (string_bytes name)) c.args.unfinished.now c.loop-name.left.now c.in-Some.rest.now c.in-Some.name.now c.as_str-name.result.now split
+    (c.loop-name.invariant.first c.as_str-name.result.now) (search rules) (search rules)
 
 pub loop-name-preserved : goal.loop-name-preserved
 loop-name-preserved c =
     let split : c.loop-name.left.now ≡ c.in-Some.name.now ∷ c.in-Some.rest.now = search rules in
     record {
       all = more_all (λ name. ¬ HoldsUp c.args.period.begins (string_bytes name)) c.args.unfinished.now c.loop-name.left.now c.in-Some.rest.now c.in-Some.name.now split c.loop-name.invariant.all (search rules);
-      among = λ (text : List ℕ). more_some (λ one. string_bytes one ≡ text) c.args.unfinished.now c.loop-name.left.now c.in-Some.rest.now c.in-Some.name.now split (c.loop-name.invariant.among text);
+      first = λ (text : List ℕ). first_later (λ name. ¬ HoldsUp c.args.period.begins (string_bytes name)) (λ name. HoldsUp c.args.period.begins (string_bytes name)) c.args.unfinished.now c.loop-name.left.now c.in-Some.rest.now c.in-Some.name.now text split
+          (c.loop-name.invariant.first text) (search rules);
     }
 
 pub returns : goal.returns
