@@ -11,6 +11,10 @@ use Rattle.recording_connections.specs.declared.shared_counts.RefusedPeers.{Refu
 use Rattle.recording_connections.specs.declared.shared_counts.SessionNumber.{SessionNumber}
 use Rattle.recording_connections.specs.declared.shared_counts.SharedCounts.{SharedCounts}
 
+-- no session has begun, and nobody was refused
+abbrev pub none_unserved : SharedCounts
+none_unserved = record { sessions = 0; refused = None; not_accepted = 0 }
+
 abbrev pub refused_count : Option RefusedPeers → ℕ
 refused_count None = 0
 refused_count (Some refused) = refused.count

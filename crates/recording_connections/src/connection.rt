@@ -27,8 +27,15 @@ pub struct NotAccepted;
 
 /// What gives one connection after another, to several threads.
 pub trait ConnectionSource<S: Source> {
+    ghost use Rattle.std.specs.Prelude.{IfOk};
+    ghost use Rattle.recording_connections.specs.declared.connection.Connection.{Connection};
+
+    /// Whether it may give this connection.
+    ghost gives: { Self → Connection S → Type 0 };
+
     /// The next connection, of which nothing was read.
-    fn next_connection(&self) -> Result<Connection<S>, NotAccepted>;
+    fn next_connection(&self) -> Result<Connection<S>, NotAccepted>
+        ensures { IfOk result (gives self.now) };
 }
 
 /// A listener of the system. A read of its connections that waits for a second is a tick, and the session
@@ -41,6 +48,13 @@ pub struct PatientListener<'a, C: Clock> {
 }
 
 impl<'a, C: Clock> ConnectionSource<PatientReader<'a, TcpStream, C>> for PatientListener<'a, C> {
+    ghost use Rattle.std.specs.Prelude.{◌≡◌, []};
+    ghost use Rattle.ipfix_session.specs.MessageCounts.{HasRead};
+
+    // Nothing of it was read, and it may be silent for as long as the listener says.
+    ghost gives = { λ listener connection. (connection.source.silence ≡ listener.silence)
+        × (connection.source.reads ≡ 0) × HasRead connection.source.messages [] };
+
     fn next_connection(&self) -> Result<Connection<PatientReader<'a, TcpStream, C>>, NotAccepted> {
         let Ok((stream, peer)) = self.listener.accept() else {
             return Err(NotAccepted);

@@ -1,12 +1,33 @@
 //! A connection as a source: a read that waits too long is a tick, and not the end.
 
-ghost use Rattle.std.specs.Prelude.{◌≡◌, ◌≢◌, ◌⊎◌, ◌≤◌, ◌-◌, ◌↔◌, ⊤, [], true, Err, IfSome, IsSome, IsTrue, None, OnErr, OnOk, Some};
+ghost use Rattle.std.specs.Prelude.{
+  ◌≡◌,
+  ◌≢◌,
+  ◌⊎◌,
+  ◌≤◌,
+  ◌-◌,
+  ◌↔◌,
+  ⊤,
+  [],
+  false,
+  take,
+  true,
+  Err,
+  IfOk,
+  IfSome,
+  IsTrue,
+  None,
+  OnErr,
+  OnOk,
+  Some,
+};
 ghost use Rattle.std.specs.Option.{ForSome};
 ghost use Rattle.std.specs.Duration.{as_nanos};
 ghost use Rattle.std.specs.IoError.{error_kind};
 ghost use Rattle.std.specs.Time.{instant_nanos};
+ghost use Rattle.ipfix_session.specs.MessageCounts.{HasRead};
 ghost use Rattle.ipfix_session.specs.Sources.{unread};
-ghost use Rattle.recording_connections.specs.Silences.{IsOverdue, IsTick, IsTooLong, WasRead};
+ghost use Rattle.recording_connections.specs.Silences.{FailsBy, IsOverdue, IsTick, IsTooLong, LookedFor, WasRead};
 
 use ipfix_session::{MessageCounter, ReadError, Source};
 use std::io::{self, ErrorKind, Read};
@@ -74,6 +95,7 @@ impl<'a, R: Read, C: Moments> PatientReader<'a, R, C> {
         ensures begun { C.tells clock.now result.begun }
         ensures heard { result.heard ≡ result.begun }
         ensures unfailed { result.failure ≡ None }
+        ensures messages { HasRead result.messages [] }
     {
         let now = clock.moment();
         PatientReader {
@@ -120,8 +142,13 @@ impl<'a, R: Read, C: Moments> Source for PatientReader<'a, R, C> {
         ensures unheard { OnErr result (self.new.heard ≡ self.old.heard) }
         ensures begun { self.new.begun ≡ self.old.begun }
         ensures silence { self.new.silence ≡ self.old.silence }
-        ensures failure { result ≡ Err ReadError.Failed → IsSome self.new.failure }
+        ensures failure { result ≡ Err ReadError.Failed
+            → FailsBy (C.tells self.old.clock.now) self.old.silence.first_message self.old.silence.idle
+            self.old.messages.messages self.old.begun self.old.heard self.new.failure }
         ensures same { result ≢ Err ReadError.Failed → self.new.failure ≡ self.old.failure }
+        ensures looked { IfOk result (λ count. (self.old.ended ≡ false)
+            → LookedFor self.old.messages (take count buffer.new) self.new.messages) }
+        ensures unlooked { OnErr result (self.new.messages ≡ self.old.messages) }
     {
         self.reads = self.reads.saturating_add(1);
         if self.ended {
@@ -161,7 +188,9 @@ impl<'a, R: Read, C: Moments> Source for PatientReader<'a, R, C> {
 }
 
 // Reads on in what came, until a message is whole.
-fn look_for_message(messages: &mut MessageCounter, piece: &[u8]) {
+fn look_for_message(messages: &mut MessageCounter, piece: &[u8])
+    ensures { LookedFor messages.old piece.now messages.new }
+{
     if messages.count() == 0 {
         messages.read(piece);
     }

@@ -1,7 +1,7 @@
 //! Threads that record one session after another. One of them at a time accepts connections: it then records the session, and
 //! another goes on accepting. There is one more than sessions, so that a peer that comes while all are at work is turned away.
 
-ghost use Rattle.std.specs.Prelude.{◌≡◌, IfSome, IsSome, None};
+ghost use Rattle.std.specs.Prelude.{◌≡◌, ◌==◌, ◌+◌, min, if◌then◌else◌, IfSome, IsSome, None};
 ghost use Rattle.ipfix_session.specs.Sources.{one_more};
 ghost use Rattle.recording_connections.specs.Refusals.{MaySend};
 ghost use Rattle.recording_connections.specs.ConnectionLines.{TellsEnds};
@@ -10,15 +10,15 @@ ghost use Rattle.recording_connections.specs.Serving.{IsServed};
 use crate::connection::{Connection, ConnectionSource};
 use crate::connection_lines::write_event;
 use crate::place::{RecordingFiles, SessionPlace};
+use crate::recorder_run::RecordOrder;
 use crate::serving::record_connection;
 use crate::session_room::SessionRoom;
 use crate::shared_counts::{SessionNumber, SharedCounts};
 use crate::unserved::write_unserved;
 use ipfix_session::Source;
-use network_prefixes::PeerFilter;
 use recording_files::PeriodClock;
 use recording_lines::{WholeLines, write_threads};
-use report_writing::{Status, Verbosity, WriteLines};
+use report_writing::{Status, WriteLines};
 use std::alloc::Global;
 use std::io::{self, Write};
 use std::net::SocketAddr;
@@ -41,12 +41,8 @@ pub struct ConnectionRecorder<'a, L, P> {
     pub listener: L,
     /// Where their sessions are recorded.
     pub place: P,
-    /// Which peers may send.
-    pub filter: &'a PeerFilter,
-    /// How many sessions are recorded at once, each in a thread.
-    pub sessions: usize,
-    /// Whether the beginning and the end of each session are told, too.
-    pub verbosity: Verbosity,
+    /// Which peers may send, how many sessions are recorded at once, each in a thread, and what is told.
+    pub order: &'a RecordOrder,
     /// What the threads share.
     pub shared: &'a Mutex<SharedCounts>,
 }
@@ -75,7 +71,7 @@ pub fn record_connections<
 {
     let entrance = Entrance {
         turn: Mutex::new(()),
-        room: Mutex::new(SessionRoom::new(recorder.sessions)),
+        room: Mutex::new(SessionRoom::new(recorder.order.sessions)),
     };
     thread::scope(
         thread::scope_env(),
@@ -86,8 +82,10 @@ pub fn record_connections<
     )
 }
 
-// As many threads as sessions, and one more.
-fn threads_of(sessions: usize) -> usize {
+// As many threads as sessions, and one more, if there is room for any.
+fn threads_of(sessions: usize) -> usize
+    ensures { result ≡ (if sessions == 0 then 0 else min (sessions + 1) 18446744073709551615) }
+{
     match sessions {
         0 => 0,
         _ => sessions.saturating_add(1),
@@ -115,7 +113,7 @@ fn run_all<
     ensures { result ≡ Status.Failed }
 {
     let mut out = WholeLines::new(err);
-    let threads = threads_of(recorder.sessions);
+    let threads = threads_of(recorder.order.sessions);
     let mut started: usize = 0;
     for _ in 0..threads {
         let run = move || accept_forever(rt, recorder, entrance, err);
@@ -162,7 +160,9 @@ fn accept<S: Source, L: ConnectionSource<S>, P, R: Clock + Wait>(
     rt: &R,
     recorder: &ConnectionRecorder<L, P>,
     turn: &Mutex<()>,
-) -> Option<Connection<S>> {
+) -> Option<Connection<S>>
+    ensures { IfSome result (L.gives recorder.now.listener) }
+{
     let _turn = turn.lock(rt);
     match recorder.listener.next_connection() {
         Ok(connection) => Some(connection),
@@ -182,15 +182,15 @@ fn admit<L, P, R: Wait>(
     room: &Mutex<SessionRoom>,
     peer: SocketAddr,
 ) -> Option<SessionNumber>
-    ensures may_send { IsSome result → MaySend recorder.now.filter.now peer }
+    ensures may_send { IsSome result → MaySend recorder.now.order.now.filter peer }
     ensures next { IfSome result (λ session. (counts : SharedCounts)
         × (session.number ≡ one_more counts.sessions)) }
 {
-    let may_send = recorder.filter.lets_in(peer.ip());
+    let may_send = recorder.order.filter.lets_in(peer.ip());
     if may_send && !room.lock(rt).begin(peer) {
         return None;
     }
-    recorder.shared.lock(rt).admit(recorder.filter, peer)
+    recorder.shared.lock(rt).admit(&recorder.order.filter, peer)
 }
 
 // Records the session of a connection that has this number, with a line at its beginning and its end if more is asked for; of
@@ -211,8 +211,8 @@ fn serve<
     ensures unread { session ≡ None → connection.new ≡ connection.old }
     ensures untold { session ≡ None → out.new ≡ out.old }
     ensures served { IfSome session (λ s. IsServed S.seen S.failure F.seen C.asked F.finishes
-        (P.makes recorder.now.place) connection.old connection.new s.number recorder.now.verbosity
-        (TellsEnds W.contents W.failed out.old out.new result recorder.now.verbosity connection.old.peer)) }
+        (P.makes recorder.now.place) connection.old connection.new s.number recorder.now.order.now.verbosity
+        (TellsEnds W.contents W.failed out.old out.new result recorder.now.order.now.verbosity connection.old.peer)) }
 {
     match session {
         Some(number) => serve_session(recorder, connection, number, out),
@@ -234,21 +234,21 @@ fn serve_session<
     out: &mut W,
 ) -> io::Result<()>
     ensures { IsServed S.seen S.failure F.seen C.asked F.finishes (P.makes recorder.now.place)
-        connection.old connection.new number.number recorder.now.verbosity
-        (TellsEnds W.contents W.failed out.old out.new result recorder.now.verbosity
+        connection.old connection.new number.number recorder.now.order.now.verbosity
+        (TellsEnds W.contents W.failed out.old out.new result recorder.now.order.now.verbosity
         connection.old.peer) }
 {
     let peer = connection.peer;
-    let told = write_event(recorder.verbosity, peer, "connected", out);
+    let told = write_event(recorder.order.verbosity, peer, "connected", out);
     let told = told.and(record_connection(
         recorder.alloc,
         connection,
         number,
         &recorder.place,
-        recorder.verbosity,
+        recorder.order.verbosity,
         out,
     ));
-    told.and(write_event(recorder.verbosity, peer, "ended", out))
+    told.and(write_event(recorder.order.verbosity, peer, "ended", out))
 }
 
 // Tells once a second which peers have no session, and how often none could be accepted, if that was so.

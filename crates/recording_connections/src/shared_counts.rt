@@ -2,7 +2,7 @@
 
 ghost use Rattle.std.specs.Prelude.{◌≡◌, IfSome, Some, None};
 ghost use Rattle.ipfix_session.specs.Sources.{one_more};
-ghost use Rattle.recording_connections.specs.Refusals.{IsAdmitted, IsTurnedAway, MaySend, one_more_refused, refused_count};
+ghost use Rattle.recording_connections.specs.Refusals.{IsAdmitted, IsTurnedAway, MaySend, none_unserved, one_more_refused, refused_count};
 
 use network_prefixes::PeerFilter;
 use std::mem;
@@ -44,9 +44,7 @@ pub struct SharedCounts {
 impl SharedCounts {
     /// No session has begun, and nobody was refused.
     pub fn new() -> Self
-        ensures sessions { result.sessions ≡ 0 }
-        ensures refused { result.refused ≡ None }
-        ensures not_accepted { result.not_accepted ≡ 0 }
+        ensures { result ≡ none_unserved }
     {
         SharedCounts {
             sessions: 0,

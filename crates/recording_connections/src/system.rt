@@ -6,7 +6,7 @@ ghost use Rattle.std.specs.Duration.{as_nanos};
 ghost use Rattle.std.specs.Int.NonZero.{non_zero_u64_get};
 ghost use Rattle.recording_connections.specs.LeftFiles.{AreLookedAfter, AreLookedIn};
 ghost use Rattle.recording_folder.specs.EndedFiles.{EndsLast};
-ghost use Rattle.recording_folder.specs.FiledSessions.{IsNamed};
+ghost use Rattle.recording_folder.specs.FiledSessions.{BeginsWith, IsNamed};
 ghost use Rattle.recording_names.specs.declared.transport.Transport.TheVariants.{Connection};
 
 use crate::connection::PatientListener;
@@ -57,9 +57,10 @@ impl<'a, R: Files + Clock, E: Write + Copy + Drop> SessionPlace<
     ConnectionFiles<'a, R, E>,
     SystemPeriods<'a, R>,
 > for ConnectionFolder<'a, R, E> {
-    // (the name of its files is that of this session)
-    ghost makes = { λ _ peer number made. IfOk made (λ recording.
-        IsNamed (arc_value recording.files.session) peer Connection number) };
+    // (the name of its files is that of this session, and its clock has the folder's periods)
+    ghost makes = { λ folder peer number made. IfOk made (λ recording.
+        IsNamed (arc_value recording.files.session) peer Connection number
+        × BeginsWith folder.place.every recording.clock) };
 
     fn session(
         &self,
@@ -157,9 +158,7 @@ fn recorder_of<'a, E: Write + Copy + Drop, R>(
     ensures idle { result.listener.silence.idle ≡ run.entry.order.now.idle }
     ensures first_message { as_nanos result.listener.silence.first_message ≡ 60000000000 }
     ensures every { result.place.place.every ≡ non_zero_u64_get run.entry.order.now.every }
-    ensures filter { result.filter.now ≡ run.entry.order.now.filter }
-    ensures sessions { result.sessions ≡ run.entry.order.now.sessions }
-    ensures verbosity { result.verbosity ≡ run.entry.order.now.verbosity }
+    ensures order { result.order.now ≡ run.entry.order.now }
 {
     ConnectionRecorder {
         alloc: run.alloc,
@@ -175,9 +174,7 @@ fn recorder_of<'a, E: Write + Copy + Drop, R>(
             place: SystemPlace::new(run.rt, run.folder, run.order.every.get()),
             err,
         },
-        filter: &run.order.filter,
-        sessions: run.order.sessions,
-        verbosity: run.order.verbosity,
+        order: run.order,
         shared: run.shared,
     }
 }

@@ -95,6 +95,8 @@ impl SessionPlace<SmallFiles, ScriptClock> for SmallPlace {
 pub struct NoConnections;
 
 impl ConnectionSource<ScriptSource> for NoConnections {
+    ghost gives = { λ _ _. ⊥ };
+
     fn next_connection(&self) -> Result<Connection<ScriptSource>, NotAccepted> {
         Err(NotAccepted)
     }

@@ -4,12 +4,14 @@ use super::places::{NoConnections, SmallPlace};
 use ipfix_session::ScriptSource;
 use network_prefixes::PeerFilter;
 use recording_connections::{
-    Connection, ConnectionRecorder, SharedCounts, record_connection, record_connections,
+    Connection, ConnectionRecorder, RecordOrder, SharedCounts, record_connection,
+    record_connections,
 };
 use report_writing::{NOTHING_MORE, Status};
 use std::alloc::Global;
 use std::io;
 use std::net::{IpAddr, Ipv4Addr, SocketAddr};
+use std::num::NonZeroU64;
 use std::sync::Mutex;
 use std::test::*;
 use worked_examples::faults::VERSION_9;
@@ -117,16 +119,20 @@ fn no_memory_for_files(rt: HostRuntime) -> Result<(), Fail> {
 #[test]
 fn no_threads(rt: HostRuntime) -> Result<(), Fail> {
     let alloc: Global = rt.alloc();
-    let filter = PeerFilter {
-        prefixes: Vec::new(alloc),
+    let order = RecordOrder {
+        every: NonZeroU64::MIN,
+        sessions: 0,
+        idle: None,
+        verbosity: NOTHING_MORE,
+        filter: PeerFilter {
+            prefixes: Vec::new(alloc),
+        },
     };
     let recorder = ConnectionRecorder {
         alloc,
         listener: NoConnections,
         place: PLACE,
-        filter: &filter,
-        sessions: 0,
-        verbosity: NOTHING_MORE,
+        order: &order,
         shared: &Mutex::new(SharedCounts::new()),
     };
     let status = record_connections(&rt, &recorder, rt.stderr());

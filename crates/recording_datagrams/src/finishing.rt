@@ -1,5 +1,7 @@
 //! Threads that finish the files of peers, beside the one that takes datagrams.
 
+ghost use Rattle.std.specs.Prelude.{IfErr};
+ghost use Rattle.recording_folder.specs.EndedFiles.{IsGivenBack};
 ghost use Rattle.recording_datagrams.specs.Queues.{IsFinishedOrQueued};
 
 use crossbeam_channel::{Receiver, Sender};
@@ -39,17 +41,19 @@ impl<'a, R: Files + Clock, W: Wait, E: Write + Drop> FileFinisher<R::File>
         before.at_once ended result after.at_once };
 
     fn finish(&mut self, ended: EndedFile<R::File>) -> Result<(), FailedFile<R::File>>
-        ensures { IsFinishedOrQueued
+        ensures finishes { IsFinishedOrQueued
             ⟦<FolderFinisher<'a, R, WholeLines<E>> as FileFinisher<R::File>>⟧.finishes
             self.old.at_once ended result self.new.at_once }
+        ensures back { IfErr result (IsGivenBack ended) }
     {
         self.at_once.finish(ended)
     }
 
     fn finish_or_queue(&mut self, ended: EndedFile<R::File>) -> Result<(), FailedFile<R::File>>
-        ensures { IsFinishedOrQueued
+        ensures finishes { IsFinishedOrQueued
             ⟦<FolderFinisher<'a, R, WholeLines<E>> as FileFinisher<R::File>>⟧.finishes
             self.old.at_once ended result self.new.at_once }
+        ensures back { IfErr result (IsGivenBack ended) }
     {
         let Some(queue) = self.queue else {
             return self.at_once.finish(ended);

@@ -2,8 +2,8 @@
 
 use crate::finishing::{FileQueue, QueueFinisher};
 use crate::socket_drops::SocketDrops;
-use recording_connections::SharedCounts;
-use recording_files::PeriodClock;
+use recording_connections::{SessionNumber, SharedCounts};
+use recording_files::{FileSeries, PeriodClock};
 use recording_folder::{EarlierPeers, SessionFiles, SystemPeriods, SystemPlace};
 use recording_lines::WholeLines;
 use recording_names::Transport;
@@ -45,11 +45,42 @@ pub struct PeerFolder<'a, R: Files + Clock, W: Wait, E: Write + Copy + Drop> {
 }
 
 impl<'a, R: Files + Clock, W: Wait, E: Write + Copy + Drop> PeerFolder<'a, R, W, E> {
-    ghost use Rattle.std.specs.Prelude.{◌≡◌};
+    ghost use Rattle.std.specs.Prelude.{◌≡◌, IfOk};
+    ghost use Rattle.std.specs.Arc.{arc_value};
+    ghost use Rattle.recording_files.specs.Files.{IsEmpty};
+    ghost use Rattle.recording_folder.specs.FiledSessions.{IsNamed};
+    ghost use Rattle.recording_names.specs.declared.transport.Transport.TheVariants.{Datagrams};
 
     /// From now on each file is finished by the thread that it comes from.
     pub(crate) fn finish_at_once(&mut self) {
         self.queue = None;
+    }
+
+    // The files of a session of a peer, which has this number.
+    fn files_of(
+        &self,
+        alloc: Global,
+        peer: SocketAddr,
+        number: &SessionNumber,
+    ) -> Result<PeerFiles<'a, R, W, E>, AllocError>
+        ensures empty { IfOk result (λ files.
+            IsEmpty (⟦<PeerFiles<'a, R, W, E> as FileSeries>⟧.seen files).contents) }
+        ensures named { IfOk result (λ files.
+            IsNamed (arc_value files.session) peer Datagrams number.now.number) }
+    {
+        let finisher = QueueFinisher {
+            at_once: self.place.finisher(alloc, WholeLines::new(self.err)),
+            queue: self.queue,
+            waiting: self.waiting,
+        };
+        self.place.files(
+            alloc,
+            peer,
+            Transport::Datagrams,
+            number.get(),
+            &self.periods,
+            finisher,
+        )
     }
 
     // Whether what an earlier run left is no longer kept. If a time isn't known it is.
@@ -91,19 +122,7 @@ impl<'a, R: Files + Clock, W: Wait, E: Write + Copy + Drop> PeerPlace<PeerFiles<
         peer: SocketAddr,
     ) -> Result<PeerFiles<'a, R, W, E>, AllocError> {
         let number = self.shared.lock(self.waiting).next_session();
-        let finisher = QueueFinisher {
-            at_once: self.place.finisher(alloc, WholeLines::new(self.err)),
-            queue: self.queue,
-            waiting: self.waiting,
-        };
-        self.place.files(
-            alloc,
-            peer,
-            Transport::Datagrams,
-            number.get(),
-            &self.periods,
-            finisher,
-        )
+        self.files_of(alloc, peer, &number)
     }
 
     fn earlier(&mut self, alloc: Global, peer: SocketAddr) -> EarlierDomains {

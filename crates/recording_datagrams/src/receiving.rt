@@ -3,6 +3,8 @@
 ghost use Rattle.std.specs.Prelude.{◌≡◌, [], length, IfOk};
 ghost use Rattle.std.specs.Int.NonZero.{non_zero_u64_get, non_zero_usize_get};
 ghost use Rattle.lru.specs.LruCache.{lru_cache};
+ghost use Rattle.recording_connections.specs.Refusals.{none_unserved};
+ghost use Rattle.recording_folder.specs.FiledSessions.{BeginsWith};
 
 use crate::datagram_taker::DatagramTaker;
 use crate::finishing::{FileQueue, start_finishers};
@@ -111,6 +113,8 @@ fn taker_of<'x, E: Write + Copy + Drop, R: Wait>(
     ensures filter { IfOk result (λ taker. taker.filter.now ≡ run.entry.order.now.filter) }
     ensures every { IfOk result (λ taker.
         taker.place.place.every ≡ non_zero_u64_get run.entry.order.now.every) }
+    ensures periods { IfOk result (λ taker.
+        BeginsWith (non_zero_u64_get run.entry.order.now.every) taker.place.periods) }
     ensures most { IfOk result (λ taker.
         taker.peers.kept ≡ lru_cache [] (non_zero_usize_get limits.most)) }
     ensures idle { IfOk result (λ taker. taker.idle ≡ limits.idle) }
@@ -118,6 +122,7 @@ fn taker_of<'x, E: Write + Copy + Drop, R: Wait>(
     ensures session { IfOk result (λ taker. taker.peers.limits
         ≡ record { reorder = limits.reorder; templates = limits.templates }) }
     ensures second { IfOk result (λ taker. taker.second ≡ 0) }
+    ensures unserved { IfOk result (λ taker. taker.unserved ≡ none_unserved) }
 {
     let place = SystemPlace::new(run.rt, run.folder, run.order.every.get());
     let periods = place.periods(run.alloc)?;

@@ -1,3 +1,4 @@
 pub mod FullReports
 pub mod FileReadings
 pub mod PeerFiles
+mod Settled

@@ -10,6 +10,7 @@ use Rattle.recording_files.specs.declared.file_series.NotWritten.{NotWritten}
 use Rattle.recording_folder.specs.declared.ended_file.EndedFile.{EndedFile}
 use Rattle.recording_folder.specs.declared.ended_file.FailedFile.{FailedFile}
 use Rattle.recording_folder.specs.declared.session_files.FilesEnd.{FilesEnd}
+use Rattle.recording_folder.specs.declared.filed_session.FiledSession.{FiledSession}
 use Rattle.recording_folder.specs.declared.unfinished_file.UnfinishedFile.{UnfinishedFile}
 use Rattle.recording_folder.specs.Paths.{IsFinalPath}
 use Rattle.report_writing.specs.declared.reason.Reason.{Reason}
@@ -21,6 +22,14 @@ hidden failed = record { contents = None; failed = failed }
 -- a file that isn't finished keeps its path, its period, its session and what was written
 abbrev pub StaysInPlace : {F : Type 0} → UnfinishedFile F → UnfinishedFile F → Type 0
 StaysInPlace before after = after ≡ record before { file = after.file; is_torn = after.is_torn }
+
+-- a file that can't be finished is given back with its report
+abbrev pub IsGivenBack : {F : Type 0} → EndedFile F → FailedFile F → Type 0
+IsGivenBack ended back = (back.ended.report ≡ ended.report) × StaysInPlace ended.unfinished back.ended.unfinished
+
+-- it is of the session of this name
+abbrev pub IsOfSession : {F : Type 0} → UnfinishedFile F → FiledSession → Type 0
+IsOfSession file session = string_bytes (arc_value file.session).name ≡ string_bytes session.name
 
 -- it has octets, and this is a path that it can have once it is finished, in a folder of recordings: by its period and its session
 abbrev pub IsFinalPathOf : {F : Type 0} → List ℕ → UnfinishedFile F → List ℕ → Type 0
@@ -35,10 +44,10 @@ module _ {F L : Type 0} (folder : List ℕ) (tells : L → FileNotice → Result
       ⊎ ((path : List ℕ) × IsFinalPathOf folder ended.unfinished path × (told : Result (Unit {0}) Error)
       × tells before (Finished path ended.report) told after)
 
-  -- or it is given back with its report, and nothing is told
+  -- or nothing is told
   abbrev pub IsFinishedOrBack : EndedFile F → Result (Unit {0}) (FailedFile F) → L → L → Type 0
   IsFinishedOrBack ended (Ok x) before after = IsFinished ended before after
-  IsFinishedOrBack ended (Err back) before after = (back.ended.report ≡ ended.report) × (after ≡ before)
+  IsFinishedOrBack ended (Err back) before after = after ≡ before
 
   -- apart from its session: where it can't be finished its path is told
   abbrev pub IsFinishedApart : EndedFile F → L → L → Type 0
@@ -47,23 +56,25 @@ module _ {F L : Type 0} (folder : List ℕ) (tells : L → FileNotice → Result
       ⊎ ((told : Result (Unit {0}) Error) × tells before (NotFinished (string_bytes ended.unfinished.path)) told after)
 
 module _ {F K : Type 0} (finishes : K → EndedFile F → Result (Unit {0}) (FailedFile F) → K → Type 0) where
-  -- the file that isn't finished is given to what finishes files, with this report; if there is none nothing is done
-  abbrev pub EndsFile : Option (UnfinishedFile F) → FileReport → Result (Unit {0}) NotWritten → K → K → Type 0
-  EndsFile None report result before after = IsOk result × (after ≡ before)
-  EndsFile (Some file) report (Ok x) before after = finishes before (record { unfinished = file; report = report }) (Ok tt) after
-  EndsFile (Some file) report (Err e) before after =
-      (back : FailedFile F) × finishes before (record { unfinished = file; report = report }) (Err back) after
+  -- the file that isn't finished is given to what finishes files, with this report; if there is none nothing is done. Where it comes
+  -- back, why it does is the reason of the call that failed last; otherwise that stays
+  abbrev pub EndsFile : Option (UnfinishedFile F) → FileReport → Result (Unit {0}) NotWritten → Option Reason → Option Reason → K → K → Type 0
+  EndsFile None report result failed fails before after = IsOk result × (fails ≡ failed) × (after ≡ before)
+  EndsFile (Some file) report (Ok x) failed fails before after =
+      finishes before (record { unfinished = file; report = report }) (Ok tt) after × (fails ≡ failed)
+  EndsFile (Some file) report (Err e) failed fails before after =
+      (back : FailedFile F) × finishes before (record { unfinished = file; report = report }) (Err back) after × (fails ≡ Some back.reason)
 
   -- so is a file that another one follows, unless an earlier one was not finished
-  abbrev pub TurnsFile : Option (UnfinishedFile F) → FileReport → Result (Unit {0}) NotWritten → K → K → Type 0
-  TurnsFile file report result before after = EndsFile file report result before after ⊎ (IsErr result × (after ≡ before))
+  abbrev pub TurnsFile : Option (UnfinishedFile F) → FileReport → Result (Unit {0}) NotWritten → Option Reason → Option Reason → K → K → Type 0
+  TurnsFile file report result failed fails before after =
+      EndsFile file report result failed fails before after ⊎ (IsErr result × IsSome fails × (after ≡ before))
 
   -- so is the last one of a session, where a call failed for this reason before, or none did. That an earlier one was not finished is an
-  -- error, too; and where a call failed it is known why
+  -- error, too, and told with its own reason
   pub record EndsLast (file : Option (UnfinishedFile F)) (failed : Option Reason) (report : FileReport) (end : FilesEnd) (before : K) : Type 0 where
     pub ended : Result (Unit {0}) NotWritten
+    pub fails : Option Reason
     pub after : K
-    pub ends : EndsFile file report ended before after
-    pub finished : (end.finished ≡ ended) ⊎ IsErr end.finished
-    pub reason : OnErr end.finished (IsSome end.reason)
-    pub kept : IsSome failed → IsSome end.reason
+    pub ends : EndsFile file report ended failed fails before after
+    pub told : (end ≡ record { finished = ended; reason = fails }) ⊎ (IsErr end.finished × IsSome end.reason)

@@ -1,8 +1,8 @@
 //! Files that have ended, and who finishes them.
 
-ghost use Rattle.std.specs.Prelude.{◌≡◌, IfOk, MatchOption, OnErr, OnOk};
+ghost use Rattle.std.specs.Prelude.{◌≡◌, IfErr, IfOk, MatchOption, OnErr, OnOk};
 ghost use Rattle.std.specs.String.{string_bytes};
-ghost use Rattle.recording_folder.specs.EndedFiles.{IsFinalPathOf, IsFinished, IsFinishedApart, IsFinishedOrBack, StaysInPlace};
+ghost use Rattle.recording_folder.specs.EndedFiles.{IsFinalPathOf, IsFinished, IsFinishedApart, IsFinishedOrBack, IsGivenBack, StaysInPlace};
 
 use crate::folder::Folder;
 use crate::lack::lacks_descriptors;
@@ -39,7 +39,8 @@ pub struct FailedFile<F> {
 
 /// Finishes the files of sessions.
 pub trait FileFinisher<F>: Drop {
-    ghost use Rattle.std.specs.Prelude.{Result};
+    ghost use Rattle.std.specs.Prelude.{IfErr, Result};
+    ghost use Rattle.recording_folder.specs.EndedFiles.{IsGivenBack};
     ghost use Rattle.recording_folder.specs.declared.ended_file.EndedFile.{EndedFile};
     ghost use Rattle.recording_folder.specs.declared.ended_file.FailedFile.{FailedFile};
 
@@ -49,11 +50,13 @@ pub trait FileFinisher<F>: Drop {
     /// Finishes a file before it returns; if it is empty it goes away. An `Err` gives the file back, which stays
     /// among those that aren't finished.
     fn finish(&mut self, ended: EndedFile<F>) -> Result<(), FailedFile<F>>
-        ensures { finishes self.old ended result self.new };
+        ensures finishes { finishes self.old ended result self.new }
+        ensures back { IfErr result (IsGivenBack ended) };
 
     /// Does the same, or has it done. Where that fails later, the session of the file fails at its next call.
     fn finish_or_queue(&mut self, ended: EndedFile<F>) -> Result<(), FailedFile<F>>
-        ensures { finishes self.old ended result self.new };
+        ensures finishes { finishes self.old ended result self.new }
+        ensures back { IfErr result (IsGivenBack ended) };
 
     /// Finishes one of the files that wait for it, and answers whether there was one.
     fn finish_queued(&mut self) -> bool;
@@ -150,8 +153,9 @@ impl<'a, R: Files, L: FinishedFiles> FileFinisher<R::File> for FolderFinisher<'a
         (string_bytes before.folder.now.path) L.tells ended result before.log after.log };
 
     fn finish(&mut self, ended: EndedFile<R::File>) -> Result<(), FailedFile<R::File>>
-        ensures { IsFinishedOrBack (string_bytes self.old.folder.now.path) L.tells ended result
-            self.old.log self.new.log }
+        ensures finishes { IsFinishedOrBack (string_bytes self.old.folder.now.path) L.tells ended
+            result self.old.log self.new.log }
+        ensures back { IfErr result (IsGivenBack ended) }
     {
         let mut ended = ended;
         match self.try_to_finish(&mut ended) {
@@ -164,8 +168,9 @@ impl<'a, R: Files, L: FinishedFiles> FileFinisher<R::File> for FolderFinisher<'a
     }
 
     fn finish_or_queue(&mut self, ended: EndedFile<R::File>) -> Result<(), FailedFile<R::File>>
-        ensures { IsFinishedOrBack (string_bytes self.old.folder.now.path) L.tells ended result
-            self.old.log self.new.log }
+        ensures finishes { IsFinishedOrBack (string_bytes self.old.folder.now.path) L.tells ended
+            result self.old.log self.new.log }
+        ensures back { IfErr result (IsGivenBack ended) }
     {
         self.finish(ended)
     }

@@ -1,6 +1,6 @@
 //! What is known of a session wherever its files are.
 
-ghost use Rattle.std.specs.Prelude.{◌≡◌, IfSome, Some, slice_get};
+ghost use Rattle.std.specs.Prelude.{◌≡◌, Some, slice_get};
 ghost use Rattle.std.specs.String.{string_bytes};
 ghost use Rattle.recording_folder.specs.Failures.{reasons};
 
@@ -66,9 +66,9 @@ fn number_of(reason: Reason) -> u64
     }
 }
 
-// The reason of a number.
+// The reason of a number, if it is that of one.
 fn reason_of(number: u64) -> Option<Reason>
-    ensures { IfSome result (λ reason. slice_get reasons number ≡ Some reason) }
+    ensures { result ≡ slice_get reasons number }
 {
     match number {
         0 => Some(Reason::NoSuchFile),

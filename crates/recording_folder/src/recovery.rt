@@ -4,7 +4,7 @@ ghost use Rattle.std.specs.Prelude.{◌≡◌, if◌then◌else◌, IfOk, OnErr}
 ghost use Rattle.ipfix_session.specs.Sources.{one_more};
 ghost use Rattle.std.specs.String.{string_bytes};
 ghost use Rattle.recording_folder.specs.Paths.{IsUnfinishedPath};
-ghost use Rattle.recording_folder.specs.Recoveries.{AllAreLookedAfter, EndsAfter, IsLookedAfter, IsSettled, SomeIsLookedAfter};
+ghost use Rattle.recording_folder.specs.Recoveries.{AllAreLookedAfter, EndsAfter, IsLookedAfter, IsSettled, IsSettledAs, SomeIsLookedAfter};
 
 use crate::earlier_peers::EarlierPeers;
 use crate::file_contents::{FileContents, read_contents};
@@ -145,7 +145,7 @@ enum Settled {
     Removed(u64),
 }
 
-// Cuts off what is no whole message, and moves the file; one without a message goes away. What is no
+// Reads a file, cuts off what is no whole message, and moves it; one without a message goes away. What is no
 // regular file is not opened.
 fn settle<R: Files + Alloc<A = Global>>(
     rt: &R,
@@ -160,17 +160,34 @@ fn settle<R: Files + Alloc<A = Global>>(
         return Err(io::Error::from(ErrorKind::InvalidInput));
     }
     let mut file = OpenOptions::new().read(true).write(true).open(rt, path)?;
+    let contents = read_contents(rt.alloc(), &mut file)?;
+    let more = file.metadata()?.len().saturating_sub(contents.whole);
+    settle_read(rt, folder, path, name, &file, contents, more)
+}
+
+// Does the same with a file that has these contents, and so many octets after its whole messages.
+fn settle_read<R: Files + Alloc<A = Global>>(
+    rt: &R,
+    folder: &Folder,
+    path: &str,
+    name: &UnfinishedName<'_>,
+    file: &R::File,
+    contents: FileContents,
+    more: u64,
+) -> io::Result<Settled>
+    ensures { IfOk result (IsSettledAs folder.now name.now.period.begins name.now.session.now
+        contents more) }
+{
     let FileContents {
         whole,
         report,
         session,
-    } = read_contents(rt.alloc(), &mut file)?;
-    let more = file.metadata()?.len().saturating_sub(whole);
+    } = contents;
     if whole == 0 {
         fs::remove_file(rt, path)?;
         return Ok(Settled::Removed(more));
     }
-    let end = cut_off(&file, whole, more);
+    let end = cut_off(file, whole, more);
     file.sync_all()?;
     let path = place_file(rt, rt.alloc(), folder, path, name.period, name.session)?;
     Ok(Settled::Placed {

@@ -1,10 +1,11 @@
 //! The files of a session in a folder of recordings.
 
-ghost use Rattle.std.specs.Prelude.{◌≡◌, IfOk, IsSome, MatchResult, OnErr};
+ghost use Rattle.std.specs.Prelude.{◌≡◌, IfErr, IfOk, IsSome, None, OnErr};
 ghost use Rattle.std.specs.Arc.{arc_value};
+ghost use Rattle.std.specs.Option.{ForSome};
 ghost use Rattle.std.specs.String.{string_bytes};
 ghost use Rattle.recording_files.specs.Files.{Appends, FilesView, Turns};
-ghost use Rattle.recording_folder.specs.EndedFiles.{EndsFile, EndsLast, TurnsFile, hidden};
+ghost use Rattle.recording_folder.specs.EndedFiles.{EndsFile, EndsLast, IsGivenBack, IsOfSession, TurnsFile, hidden};
 ghost use Rattle.recording_folder.specs.Paths.{IsUnfinishedPath};
 
 use crate::ended_file::{EndedFile, FailedFile, FileFinisher};
@@ -34,6 +35,7 @@ pub struct SessionFiles<'a, R: Files, K> {
     finisher: K,
     failed: u64,
     reason: Option<Reason>,
+    ghost of_the_session: { ForSome unfinished (λ file. IsOfSession file (arc_value session)) },
 }
 
 /// How the files of a session ended.
@@ -55,7 +57,8 @@ impl<'a, R: Files, K: FileFinisher<R::File>> SessionFiles<'a, R, K> {
         finisher: K,
     ) -> Self
         ensures session { result.session ≡ session }
-        ensures failed { result.failed ≡ 0 }
+        ensures failed { (result.failed ≡ 0) × (result.reason ≡ None) }
+        ensures unfinished { result.unfinished ≡ None }
     {
         SessionFiles {
             rt,
@@ -91,7 +94,8 @@ impl<'a, R: Files, K: FileFinisher<R::File>> SessionFiles<'a, R, K> {
 
     // Writes octets to the file that isn't finished, unless an earlier one could not be finished. An `Err` says why.
     fn try_to_write(&mut self, octets: &[u8]) -> Result<(), Reason>
-        ensures { self.new.failed ≡ self.old.failed }
+        ensures failed { self.new.failed ≡ self.old.failed }
+        ensures session { self.new.session ≡ self.old.session }
     {
         if let Some(reason) = self.session.failure() {
             return Err(reason);
@@ -104,7 +108,8 @@ impl<'a, R: Files, K: FileFinisher<R::File>> SessionFiles<'a, R, K> {
 
     // Writes octets to the file that isn't finished.
     fn write(&mut self, octets: &[u8]) -> io::Result<()>
-        ensures { self.new.failed ≡ self.old.failed }
+        ensures failed { self.new.failed ≡ self.old.failed }
+        ensures session { self.new.session ≡ self.old.session }
     {
         let mut unfinished = match self.unfinished.take() {
             Some(unfinished) => unfinished,
@@ -117,7 +122,10 @@ impl<'a, R: Files, K: FileFinisher<R::File>> SessionFiles<'a, R, K> {
 
     // Makes a file. Where no descriptor is free those files are finished first that wait for it: they are open.
     fn make_file(&mut self) -> io::Result<UnfinishedFile<R::File>>
-        ensures { self.new.failed ≡ self.old.failed }
+        ensures failed { self.new.failed ≡ self.old.failed }
+        ensures session { self.new.session ≡ self.old.session }
+        ensures unfinished { self.new.unfinished ≡ self.old.unfinished }
+        ensures of_the_session { IfOk result (λ file. IsOfSession file (arc_value self.old.session)) }
     {
         for _ in 0..u64::MAX {
             match self.try_to_make_file() {
@@ -134,9 +142,10 @@ impl<'a, R: Files, K: FileFinisher<R::File>> SessionFiles<'a, R, K> {
 
     // Makes a file in the period that the clock told last, under the name of that and of its session.
     fn try_to_make_file(&self) -> io::Result<UnfinishedFile<R::File>>
-        ensures { IfOk result (λ file. IsUnfinishedPath (string_bytes self.now.folder.now.unfinished)
-            file.period.begins (string_bytes (arc_value self.now.session).name)
-            (string_bytes file.path)) }
+        ensures path { IfOk result (λ file. IsUnfinishedPath
+            (string_bytes self.now.folder.now.unfinished) file.period.begins
+            (string_bytes (arc_value self.now.session).name) (string_bytes file.path)) }
+        ensures of_the_session { IfOk result (λ file. IsOfSession file (arc_value self.now.session)) }
     {
         let period = self.period.get();
         let name = unfinished_name(self.alloc, period, self.session.name())?;
@@ -153,10 +162,9 @@ impl<'a, R: Files, K: FileFinisher<R::File>> SessionFiles<'a, R, K> {
     // stays.
     fn end_file(&mut self, report: &FileReport, has_next: bool) -> Result<(), NotWritten>
         ensures failed { self.new.failed ≡ self.old.failed }
-        ensures ends { EndsFile K.finishes self.old.unfinished report.now result
-            self.old.finisher self.new.finisher }
-        ensures reason { MatchResult result (λ _. self.new.reason ≡ self.old.reason)
-            (λ _. IsSome self.new.reason) }
+        ensures session { self.new.session ≡ self.old.session }
+        ensures ends { EndsFile K.finishes self.old.unfinished report.now result self.old.reason
+            self.new.reason self.old.finisher self.new.finisher }
     {
         let Some(unfinished) = self.unfinished.take() else {
             return Ok(());
@@ -180,9 +188,9 @@ impl<'a, R: Files, K: FileFinisher<R::File>> SessionFiles<'a, R, K> {
     // Does the same where another file follows, unless an earlier one could not be finished.
     fn try_to_turn(&mut self, report: &FileReport) -> Result<(), NotWritten>
         ensures failed { self.new.failed ≡ self.old.failed }
-        ensures ends { TurnsFile K.finishes self.old.unfinished report.now result
-            self.old.finisher self.new.finisher }
-        ensures reason { OnErr result (IsSome self.new.reason) }
+        ensures session { self.new.session ≡ self.old.session }
+        ensures ends { TurnsFile K.finishes self.old.unfinished report.now result self.old.reason
+            self.new.reason self.old.finisher self.new.finisher }
     {
         if let Some(reason) = self.session.failure() {
             self.reason = Some(reason);
@@ -199,6 +207,8 @@ impl<'a, R: Files, K: FileFinisher<R::File>> SessionFiles<'a, R, K> {
     ) -> Result<(), FailedFile<R::File>>
         ensures failed { self.new.failed ≡ self.old.failed }
         ensures reason { self.new.reason ≡ self.old.reason }
+        ensures session { self.new.session ≡ self.old.session }
+        ensures back { IfErr result (IsGivenBack ended) }
         ensures finishes { K.finishes self.old.finisher ended result self.new.finisher }
     {
         if gives_name {
@@ -215,6 +225,7 @@ impl<'a, R: Files, K: FileFinisher<R::File>> FileSeries for SessionFiles<'a, R, 
     fn append(&mut self, octets: &[u8]) -> Result<(), NotWritten>
         ensures appends { Appends result octets.now (hidden self.old.failed) (hidden self.new.failed) }
         ensures reason { OnErr result (IsSome self.new.reason) }
+        ensures session { self.new.session ≡ self.old.session }
     {
         match self.try_to_write(octets) {
             Ok(()) => Ok(()),
@@ -228,9 +239,9 @@ impl<'a, R: Files, K: FileFinisher<R::File>> FileSeries for SessionFiles<'a, R, 
 
     fn turn(&mut self, report: &FileReport) -> Result<(), NotWritten>
         ensures turns { Turns result report.now (hidden self.old.failed) (hidden self.new.failed) }
-        ensures ends { TurnsFile K.finishes self.old.unfinished report.now result
-            self.old.finisher self.new.finisher }
-        ensures reason { OnErr result (IsSome self.new.reason) }
+        ensures ends { TurnsFile K.finishes self.old.unfinished report.now result self.old.reason
+            self.new.reason self.old.finisher self.new.finisher }
+        ensures session { self.new.session ≡ self.old.session }
     {
         let turned = self.try_to_turn(report);
         if turned.is_err() {

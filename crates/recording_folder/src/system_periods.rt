@@ -1,7 +1,8 @@
 //! The periods of the system's clock.
 
-ghost use Rattle.std.specs.Prelude.{◌≡◌, ◌↔◌, ◌<◌, max, IsTrue};
-ghost use Rattle.recording_files.specs.Periods.{ClockView};
+ghost use Rattle.std.specs.Prelude.{◌≡◌, ◌↔◌, ◌<◌, ℕ, max, IsTrue};
+ghost use Rattle.recording_files.specs.Periods.{ClockView, IsAnswer};
+ghost use Rattle.recording_names.specs.PeriodNames.{period_start};
 
 use crate::told_period::ToldPeriod;
 use recording_files::PeriodClock;
@@ -49,7 +50,8 @@ impl<'a, R: Clock> SystemPeriods<'a, R> {
     // A clock whose period is the one that it told to the files.
     pub(crate) fn new(rt: &'a R, every: u64, told: Arc<ToldPeriod>) -> Self
         requires { 0 < every }
-        ensures { (result.asked ≡ 0) × (result.over ≡ 0) }
+        ensures unasked { (result.asked ≡ 0) × (result.over ≡ 0) }
+        ensures every { result.every ≡ every }
     {
         let latest = LatestPeriod { period: told.get() };
         SystemPeriods {
@@ -72,6 +74,7 @@ impl<'a, R: Clock> SystemPeriods<'a, R> {
 /// be at the beginning of 1970.
 pub(crate) fn period_now<R: Clock>(rt: &R, every: u64) -> Period
     requires { 0 < every }
+    ensures { (second : ℕ) × (result.begins ≡ period_start second every) }
 {
     period_of(second_now(rt), every)
 }
@@ -90,7 +93,11 @@ pub fn second_now<R: Clock>(rt: &R) -> u64 {
 impl<'a, R: Clock> PeriodClock for SystemPeriods<'a, R> {
     ghost asked = { λ c. record { asked = c.asked; over = c.over } };
 
-    fn is_over(&mut self) -> bool {
+    fn is_over(&mut self) -> bool
+        ensures answer { IsAnswer (record { asked = self.old.asked; over = self.old.over }) result
+            (record { asked = self.new.asked; over = self.new.over }) }
+        ensures every { self.new.every ≡ self.old.every }
+    {
         let is_over = self.latest.take(period_now(self.rt, self.every));
         self.asked = self.asked.saturating_add(1);
         if is_over {

@@ -2,7 +2,7 @@
 
 ghost use Rattle.std.specs.Prelude.{◌≡◌, ◌<◌, IfOk};
 ghost use Rattle.std.specs.Arc.{arc_value};
-ghost use Rattle.recording_folder.specs.FiledSessions.{IsNamed};
+ghost use Rattle.recording_folder.specs.FiledSessions.{BeginsWith, IsNamed};
 
 use crate::ended_file::{FileFinisher, FolderFinisher};
 use crate::filed_session::FiledSession;
@@ -61,7 +61,7 @@ impl<'a, R: Files + Clock> SystemPlace<'a, R> {
     ) -> Result<SystemSession<'a, R, FolderFinisher<'a, R, L>>, AllocError>
         ensures session { IfOk result (λ s. IsNamed (arc_value s.files.session) peer transport number) }
         ensures failed { IfOk result (λ s. s.files.failed ≡ 0) }
-        ensures periods { IfOk result (λ s. (s.periods.asked ≡ 0) × (s.periods.over ≡ 0)) }
+        ensures periods { IfOk result (λ s. BeginsWith self.now.every s.periods) }
     {
         let periods = self.periods(alloc)?;
         let finisher = self.finisher(alloc, log);
@@ -71,7 +71,7 @@ impl<'a, R: Files + Clock> SystemPlace<'a, R> {
 
     /// A clock whose period begins now.
     pub fn periods(&self, alloc: Global) -> Result<SystemPeriods<'a, R>, AllocError>
-        ensures { IfOk result (λ periods. (periods.asked ≡ 0) × (periods.over ≡ 0)) }
+        ensures { IfOk result (BeginsWith self.now.every) }
     {
         let told = Arc::new(alloc, ToldPeriod::new(period_now(self.rt, self.every)))?;
         Ok(SystemPeriods::new(self.rt, self.every, told))

@@ -1,6 +1,6 @@
 //! A file that isn't finished.
 
-ghost use Rattle.std.specs.Prelude.{◌≡◌, ◌↔◌, ◌+◌, length, IsTrue, OnErr, OnOk};
+ghost use Rattle.std.specs.Prelude.{◌≡◌, ◌↔◌, ◌+◌, false, length, IsTrue, OnErr, OnOk, Some};
 ghost use Rattle.ipfix_session.specs.Ledger.{capped};
 
 use crate::filed_session::FiledSession;
@@ -26,9 +26,14 @@ pub(crate) struct UnfinishedFile<F> {
 impl<F: Write + OpenFile + Drop> UnfinishedFile<F> {
     // A file that was made, and in which nothing stands.
     pub(crate) fn new(file: F, path: String, period: Period, session: Arc<FiledSession>) -> Self
-        ensures path { result.path ≡ path }
-        ensures period { result.period ≡ period }
-        ensures length { result.length ≡ 0 }
+        ensures { result ≡ record {
+          file = Some file;
+          path = path;
+          period = period;
+          session = session;
+          length = 0;
+          is_torn = false;
+        } }
     {
         UnfinishedFile {
             file: Some(file),
@@ -51,6 +56,11 @@ impl<F: Write + OpenFile + Drop> UnfinishedFile<F> {
     pub(crate) fn append(&mut self, octets: &[u8]) -> io::Result<()>
         ensures ok { OnOk result (self.new.length ≡ capped (self.old.length + length octets.now)) }
         ensures err { OnErr result (self.new.length ≡ self.old.length) }
+        ensures others { self.new ≡ record self.old {
+          file = self.new.file;
+          length = self.new.length;
+          is_torn = self.new.is_torn;
+        } }
     {
         self.mend()?;
         let Some(file) = &mut self.file else {

@@ -1,6 +1,7 @@
 //! Files that wait to be finished apart from their session.
 
-ghost use Rattle.std.specs.Prelude.{⊤};
+ghost use Rattle.std.specs.Prelude.{⊤, IfErr};
+ghost use Rattle.recording_folder.specs.EndedFiles.{IsGivenBack};
 
 use super::kept_files::KeptFiles;
 use super::refusals::{NO_DESCRIPTOR, NO_SPACE, Reach, Refusal};
@@ -41,7 +42,8 @@ impl<'q, 'a> FileFinisher<DiskFile<'a>> for QueueFinisher<'q, 'a> {
     ghost finishes = { λ _ _ _ _. ⊤ };
 
     fn finish(&mut self, ended: EndedFile<DiskFile<'a>>) -> Result<(), FailedFile<DiskFile<'a>>>
-        ensures { ⊤ }
+        ensures finishes { ⊤ }
+        ensures back { IfErr result (IsGivenBack ended.entry) }
     {
         self.at_once.finish(ended)
     }
@@ -50,7 +52,8 @@ impl<'q, 'a> FileFinisher<DiskFile<'a>> for QueueFinisher<'q, 'a> {
         &mut self,
         ended: EndedFile<DiskFile<'a>>,
     ) -> Result<(), FailedFile<DiskFile<'a>>>
-        ensures { ⊤ }
+        ensures finishes { ⊤ }
+        ensures back { IfErr result (IsGivenBack ended.entry) }
     {
         let reason = Reason::OutOfMemory;
         let Ok(mut queue) = self.queue.try_borrow_mut() else {

@@ -103,7 +103,7 @@ module _ {F : Type 0} (seen : F → FilesView) (made_for : F → SocketAddr → 
     pub session : IsSession seen k limits []
     pub made : made_for k.files peer
     pub earlier : k.recorder.earlier ≡ left_listed left.entries
-    pub none_told : k.resumptions_told ≡ 0
+    pub none_told : (k.refused ≡ None) × (k.resumptions_told ≡ 0)
 
   -- since this datagram begins one
   pub record BeginsBy (peer : SocketAddr) (m : List ℕ) (k : PeerState F) : Type 0 where

@@ -1,6 +1,6 @@
 //! A session of a peer.
 
-ghost use Rattle.std.specs.Prelude.{◌≡◌, []};
+ghost use Rattle.std.specs.Prelude.{◌≡◌, [], None};
 ghost use Rattle.recording_files.specs.Files.{IsEmpty};
 ghost use Rattle.recording_peer.specs.Recording.{left_listed};
 ghost use Rattle.recording_peers.specs.Calls.{Takes, TakesTurn};
@@ -47,7 +47,7 @@ impl<F: FileSeries> PeerState<F> {
         ensures session { IsSession F.seen result limits [] }
         ensures heard { result.heard ≡ now }
         ensures files { result.files ≡ files }
-        ensures none_told { result.resumptions_told ≡ 0 }
+        ensures none_told { (result.refused ≡ None) × (result.resumptions_told ≡ 0) }
         ensures earlier { result.recorder.earlier ≡ left_listed earlier.entries }
     {
         PeerState {
