@@ -1,8 +1,23 @@
--- What is told when a run of the recorder begins, and how many peers there are descriptors for.
-use Rattle.std.specs.Prelude.{ℕ, ◌+◌, ◌-◌, ◌*◌, ◌/◌, min, max, List, [], ◌++◌, Option, Some, None, codes, decimal}
+-- What is told when a run of the recorder begins.
+use Rattle.std.specs.Prelude.{◌≡◌, ℕ, List, [], ◌++◌, Option, Some, None, codes, decimal, option_map}
+use Rattle.std.specs.Int.NonZero.{non_zero_usize_get}
 use Rattle.std.specs.Net.Text.{socket_text}
 use Rattle.std.specs.declared.net.socket_addr.SocketAddr.{SocketAddr}
+use Rattle.recording_connections.specs.declared.recorder_run.RecordOrder.{RecordOrder}
+use Rattle.recording_datagrams.specs.declared.peer_limits.PeerLimits.{PeerLimits}
 use Rattle.command_record.specs.declared.beginning.Intake.{Intake}
+use Rattle.command_record.specs.declared.system.Sockets.{Sockets}
+
+-- ---- what a run takes
+
+-- of connections and of datagrams only what is taken, as it is asked for; which address the system gave to a socket no contract sees
+pub record IsIntake (sockets : Sockets) (order : RecordOrder) (limits : PeerLimits) (i : Intake) : Type 0 where
+  pub listen : sockets.listener ≡ None → i.listen ≡ None
+  pub udp : sockets.socket ≡ None → i.udp ≡ None
+  pub sessions : i.sessions ≡ option_map (λ _. order.sessions) sockets.listener
+  pub peers : i.peers ≡ option_map (λ _. non_zero_usize_get limits.most) sockets.socket
+  pub templates : i.templates ≡ option_map (λ _. limits.templates) sockets.socket
+  pub buffer : i.buffer ≡ option_map (λ socket. socket.buffer) sockets.socket
 
 -- ---- the first line
 
@@ -44,12 +59,7 @@ intake_texts i = addresses_text i.listen i.udp ++ most_texts i
 abbrev pub beginning_line : List ℕ → Intake → List ℕ
 beginning_line folder intake = folder_text folder ++ intake_texts intake
 
--- ---- descriptors
+-- ---- what is told of a run that begins with no address
 
--- a session needs three, a peer one, and a second one while a period ends; the rest of the run needs 32
-abbrev pub peers_within : ℕ → ℕ → ℕ → ℕ
-peers_within limit sessions peers = min peers (max ((limit - (3 * sessions + 32)) / 2) 1)
-
-unfoldable pub descriptors_line : ℕ → ℕ → ℕ → List ℕ
-descriptors_line limit within peers =
-    codes "collectd: record: descriptors " ++ (decimal limit ++ (codes ": peers " ++ (decimal within ++ (codes " of " ++ (decimal peers ++ codes "\n")))))
+abbrev pub no_address_text : List ℕ
+no_address_text = codes "error: one of these is required, or both:\n  --listen <ADDR>\n  --udp <ADDR>\n\nFor more information, try '--help'.\n"

@@ -2,8 +2,11 @@
 
 ghost use Rattle.std.specs.Prelude.{◌++◌, codes};
 ghost use Rattle.report_writing.specs.Writing.{Tells};
-ghost use Rattle.command_record.specs.Beginning.{address_part, address_text, addresses_text, beginning_line, datagram_texts, folder_text, intake_texts, most_part, most_text, most_texts, room_texts};
+ghost use Rattle.command_record.specs.Beginning.{IsIntake, address_part, address_text, addresses_text, beginning_line, datagram_texts, folder_text, intake_texts, most_part, most_text, most_texts, room_texts};
 
+use crate::system::Sockets;
+use recording_connections::RecordOrder;
+use recording_datagrams::PeerLimits;
 use report_writing::WriteLines;
 use std::io;
 use std::net::SocketAddr;
@@ -23,6 +26,28 @@ pub(crate) struct Intake {
     pub templates: Option<usize>,
     /// How many octets of datagrams that nobody took yet the system keeps.
     pub buffer: Option<usize>,
+}
+
+impl Intake {
+    /// What a run takes through these sockets, as it is asked for.
+    pub fn of(sockets: &Sockets, order: &RecordOrder, limits: &PeerLimits) -> Self
+        ensures { IsIntake sockets.now order.now limits.now result }
+    {
+        Intake {
+            listen: match &sockets.listener {
+                Some(listener) => listener.local_addr().ok(),
+                None => None,
+            },
+            udp: match &sockets.socket {
+                Some(socket) => socket.local_addr().ok(),
+                None => None,
+            },
+            sessions: sockets.listener.as_ref().map(|_| order.sessions),
+            peers: sockets.socket.as_ref().map(|_| limits.most.get()),
+            templates: sockets.socket.as_ref().map(|_| limits.templates as usize),
+            buffer: sockets.socket.as_ref().map(|socket| socket.buffer as usize),
+        }
+    }
 }
 
 /// Writes where a run records, and what it takes.

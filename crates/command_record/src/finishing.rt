@@ -1,19 +1,42 @@
 //! Finishing what a stopped run left.
 
-ghost use Rattle.std.specs.Prelude.{◌≡◌};
+ghost use Rattle.std.specs.Prelude.{◌≡◌, ◌⊎◌, Ok, Err, IfErr, IfOk, MatchResult};
+ghost use Rattle.report_writing.specs.Told.{AreToldTo};
+ghost use Rattle.cli_inputs.specs.Folders.{folder_line};
 ghost use Rattle.command_record.specs.Finishing.{finish_status};
 
 use cli_inputs::{FinishArguments, tell_folder};
 use recording_connections::finish_recordings;
-use report_writing::Status;
+use recording_folder::FolderFault;
+use report_writing::{Status, WriteLines};
 
 /// `collectd finish`: the files that a stopped run left in a folder of recordings get their final names.
-pub fn finish(rt: &HostRuntime, arguments: &FinishArguments) -> Result<Status, Status> {
+pub fn finish(rt: &HostRuntime, arguments: &FinishArguments) -> Result<Status, Status>
+    ensures ended { IfOk result (λ status. (status ≡ Status.Well) ⊎ (status ≡ Status.SessionFault)) }
+    ensures refused { IfErr result (λ status. status ≡ Status.NotOpened) }
+{
     let mut err = rt.stderr();
-    match finish_recordings(rt, rt.alloc(), arguments.folder, err) {
+    let stayed = finish_recordings(rt, rt.alloc(), arguments.folder, err);
+    end_of(stayed, arguments.folder, &mut err)
+}
+
+// How the command ends where so many files stay unfinished, or the folder can't be opened: then `err` has a line.
+fn end_of<E: WriteLines>(
+    stayed: Result<u64, FolderFault>,
+    folder: &str,
+    err: &mut E,
+) -> Result<Status, Status>
+    ensures end { MatchResult stayed
+        (λ count. result ≡ Ok (finish_status count))
+        (λ _. result ≡ Err Status.NotOpened) }
+    ensures told { MatchResult stayed
+        (λ _. err.new ≡ err.old)
+        (λ fault. AreToldTo E.contents E.failed err.old err.new (folder_line folder.now fault)) }
+{
+    match stayed {
         Ok(stayed) => Ok(status_of(stayed)),
         Err(fault) => {
-            tell_folder(arguments.folder, &fault, &mut err);
+            tell_folder(folder, &fault, err);
             Err(Status::NotOpened)
         }
     }

@@ -5,6 +5,7 @@
 mod beginning;
 mod descriptors;
 mod finishing;
+mod peer_prefixes;
 mod recording;
 mod system;
 mod watching;

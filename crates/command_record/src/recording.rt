@@ -1,20 +1,26 @@
 //! Recording as the words say it.
 
-ghost use Rattle.std.specs.Prelude.{◌≡◌, ◌-◌, ◌/◌, ◌↔◌, ◌⊎◌, IfOk, IsOk, IsSome, MatchOption};
-ghost use Rattle.std.specs.Duration.{as_nanos};
-ghost use Rattle.std.specs.Int.NonZero.{non_zero_u64_get};
+ghost use Rattle.std.specs.Prelude.{◌≡◌, ◌↔◌, ◌⊎◌, IfErr, IfOk, IsOk, IsSome, OnErr, OnOk, codes};
+ghost use Rattle.std.specs.IoError.{error_kind};
+ghost use Rattle.report_writing.specs.OpeningLines.{because_line};
+ghost use Rattle.report_writing.specs.Reasons.{reason_of};
+ghost use Rattle.report_writing.specs.Told.{AreToldTo};
+ghost use Rattle.command_record.specs.Beginning.{no_address_text};
+ghost use Rattle.command_record.specs.Limits.{first_read_back, idle_seconds};
+ghost use Rattle.command_record.specs.PeerPrefixes.{ArePrefixes, TellsWhy};
 
 use crate::beginning::{Intake, write_beginning};
-use crate::descriptors::{descriptor_limit, peers_within, write_descriptors};
+use crate::descriptors::{descriptor_limit, peers_of};
+use crate::peer_prefixes::filter_of;
 use crate::system::{Sockets, run_recorder};
 use cli_inputs::{RecordArguments, WITH_REASONS, listen_on, tell_folder};
-use network_prefixes::{PeerFilter, Prefix, PrefixFault};
 use recording_connections::{OpenRecordings, RecordOrder, open_recordings};
 use recording_datagrams::{PeerLimits, SystemSocket};
 use recording_folder::second_now;
 use recording_lines::WholeLines;
-use report_writing::{Reason, Status, write_not_had_because};
-use std::io::{Stderr, Write};
+use report_writing::{Reason, Status, WriteLines, write_not_had_because};
+use std::alloc::Global;
+use std::io::{self, Stderr};
 use std::net::TcpListener;
 use std::num::NonZeroUsize;
 use std::rt::Clock;
@@ -37,13 +43,16 @@ pub fn record<R: Clock + Threads + Wait + Sync>(
     threads: &R,
     rt: &HostRuntime,
     arguments: &RecordArguments,
-) -> Result<Status, Status> {
+) -> Result<Status, Status>
+    ensures ended { IfOk result (λ status. status ≡ Status.Failed) }
+    ensures refused { IfErr result (λ status. status ≡ Status.NotOpened) }
+{
     let mut err = rt.stderr();
     check_addresses(arguments, &mut err)?;
-    let order = order_of(rt, arguments, &mut err)?;
-    let listener = open_listener(rt, arguments.listen, &mut err)?;
+    let order = order_of(rt.alloc(), arguments, &mut err)?;
+    let listener = open_listener(rt, arguments, &mut err)?;
     let socket = open_socket(rt, arguments, &mut err)?;
-    let since = since_of(rt, arguments);
+    let since = since_of(arguments, second_now(rt));
     match open_recordings(rt, rt.alloc(), arguments.into, since, err) {
         Ok(OpenRecordings { folder, earlier }) => {
             let sockets = Sockets {
@@ -51,9 +60,10 @@ pub fn record<R: Clock + Threads + Wait + Sync>(
                 socket,
                 earlier,
             };
-            let limits = limits_of(arguments, peers_of(arguments, err));
             let mut lines = WholeLines::new(err);
-            let intake = intake_of(&sockets, &order, &limits);
+            let peers = peers_of(descriptor_limit(), arguments, &mut lines);
+            let limits = limits_of(arguments, peers);
+            let intake = Intake::of(&sockets, &order, &limits);
             let _ = write_beginning(arguments.into, intake, &mut lines);
             Ok(run_recorder(
                 threads,
@@ -74,8 +84,11 @@ pub fn record<R: Clock + Threads + Wait + Sync>(
 }
 
 // Sees to it that connections or datagrams are taken, or both. If neither is, `err` has lines that say what is required.
-fn check_addresses(arguments: &RecordArguments, err: &mut Stderr) -> Result<(), Status>
-    ensures { IsOk result ↔ (IsSome arguments.now.listen ⊎ IsSome arguments.now.udp) }
+fn check_addresses<E: WriteLines>(arguments: &RecordArguments, err: &mut E) -> Result<(), Status>
+    ensures given { IsOk result ↔ (IsSome arguments.now.listen ⊎ IsSome arguments.now.udp) }
+    ensures silent { OnOk result (err.new ≡ err.old) }
+    ensures refused { IfErr result (λ status. status ≡ Status.NotOpened) }
+    ensures told { OnErr result (AreToldTo E.contents E.failed err.old err.new no_address_text) }
 {
     if arguments.listen.is_some() || arguments.udp.is_some() {
         return Ok(());
@@ -84,15 +97,21 @@ fn check_addresses(arguments: &RecordArguments, err: &mut Stderr) -> Result<(), 
     Err(Status::NotOpened)
 }
 
-// The listener for connections, if they are taken.
+// The listener for connections, if they are taken. If it can't be had, `err` has a line.
 fn open_listener(
     rt: &HostRuntime,
-    addr: Option<&str>,
+    arguments: &RecordArguments,
     err: &mut Stderr,
-) -> Result<Option<TcpListener>, Status> {
-    match addr {
-        Some(addr) => Ok(Some(listen_on(rt, addr, WITH_REASONS, err)?)),
-        None => Ok(None),
+) -> Result<Option<TcpListener>, Status>
+    ensures listens { IfOk result (λ listener. IsSome listener ↔ IsSome arguments.now.listen) }
+    ensures refused { IfErr result (λ status. status ≡ Status.NotOpened) }
+{
+    let Some(addr) = arguments.listen else {
+        return Ok(None);
+    };
+    match listen_on(rt, addr, WITH_REASONS, err) {
+        Ok(listener) => Ok(Some(listener)),
+        Err(_) => Err(Status::NotOpened),
     }
 }
 
@@ -101,79 +120,47 @@ fn open_socket(
     rt: &HostRuntime,
     arguments: &RecordArguments,
     err: &mut Stderr,
-) -> Result<Option<SystemSocket>, Status> {
+) -> Result<Option<SystemSocket>, Status>
+    ensures receives { IfOk result (λ socket. IsSome socket ↔ IsSome arguments.now.udp) }
+    ensures refused { IfErr result (λ status. status ≡ Status.NotOpened) }
+{
     let Some(addr) = arguments.udp else {
         return Ok(None);
     };
     match SystemSocket::bind(rt, addr, arguments.buffer) {
         Ok(socket) => Ok(Some(socket)),
         Err(error) => {
-            let reason = Reason::of(&error);
-            let _ = write_not_had_because(WITH_REASONS, "udp", addr, reason, err);
+            tell_socket(addr, &error, err);
             Err(Status::NotOpened)
         }
     }
 }
 
-// How many peers that send datagrams are kept: as many as are asked for, or as there are descriptors for. If those are fewer,
-// `err` has a line.
-fn peers_of(arguments: &RecordArguments, err: Stderr) -> NonZeroUsize {
-    let (Some(_), Some(limit)) = (arguments.udp, descriptor_limit()) else {
-        return arguments.peers;
-    };
-    let sessions = match arguments.listen {
-        Some(_) => arguments.sessions,
-        None => 0,
-    };
-    let sessions = u32::try_from(sessions).unwrap_or(u32::MAX);
-    let within = peers_within(limit, sessions, arguments.peers);
-    if within.get() < arguments.peers.get() {
-        let (within, peers) = (within.get(), arguments.peers.get());
-        let _ = write_descriptors(limit, within, peers, &mut WholeLines::new(err));
-    }
-    within
+// Writes the line of a socket for datagrams that can't be had.
+fn tell_socket<E: WriteLines>(addr: &str, error: &io::Error, err: &mut E)
+    ensures { AreToldTo E.contents E.failed err.old err.new
+        (because_line (codes "udp") addr.now (reason_of (error_kind error.now))) }
+{
+    let reason = Reason::of(error);
+    let _ = write_not_had_because(WITH_REASONS, "udp", addr, reason, err);
 }
 
-// What a run takes, and where.
-fn intake_of(sockets: &Sockets, order: &RecordOrder, limits: &PeerLimits) -> Intake {
-    Intake {
-        listen: match &sockets.listener {
-            Some(listener) => listener.local_addr().ok(),
-            None => None,
-        },
-        udp: match &sockets.socket {
-            Some(socket) => socket.local_addr().ok(),
-            None => None,
-        },
-        sessions: sockets.listener.as_ref().map(|_| order.sessions),
-        peers: sockets.socket.as_ref().map(|_| limits.most.get()),
-        templates: sockets.socket.as_ref().map(|_| limits.templates as usize),
-        buffer: sockets.socket.as_ref().map(|socket| socket.buffer as usize),
-    }
-}
-
-// From which second on (since 1970) periods begin of which what peers sent is read back. Without datagrams nothing is.
-fn since_of(rt: &HostRuntime, arguments: &RecordArguments) -> u64 {
+// From which second on (since 1970) periods begin of which what peers sent is read back: when the first period began that
+// ended no longer ago than a peer may be silent. Without datagrams nothing is read back.
+fn since_of(arguments: &RecordArguments, now: u64) -> u64
+    ensures { result ≡ first_read_back arguments.now now }
+{
     match arguments.udp {
-        Some(_) => first_read_back(second_now(rt), arguments),
+        Some(_) => now
+            .saturating_sub(idle_of(arguments))
+            .saturating_sub(arguments.every.get()),
         None => u64::MAX,
     }
 }
 
-// When the first period began that ended no longer ago than a peer may be silent.
-fn first_read_back(now: u64, arguments: &RecordArguments) -> u64
-    ensures { let every = non_zero_u64_get arguments.now.every in
-        MatchOption arguments.now.idle (result ≡ now - IDLE - every)
-        (λ limit. result ≡ now - as_nanos limit / 1000000000 - every) }
-{
-    now.saturating_sub(idle_of(arguments))
-        .saturating_sub(arguments.every.get())
-}
-
 // How many seconds a peer may be silent.
 fn idle_of(arguments: &RecordArguments) -> u64
-    ensures { MatchOption arguments.now.idle (result ≡ IDLE)
-        (λ limit. result ≡ as_nanos limit / 1000000000) }
+    ensures { result ≡ idle_seconds arguments.now.idle }
 {
     match arguments.idle {
         Some(limit) => limit.as_secs(),
@@ -185,8 +172,7 @@ fn idle_of(arguments: &RecordArguments) -> u64
 // templates may count.
 fn limits_of(arguments: &RecordArguments, peers: NonZeroUsize) -> PeerLimits
     ensures most { result.most ≡ peers }
-    ensures idle { MatchOption arguments.now.idle (result.idle ≡ IDLE)
-        (λ limit. result.idle ≡ as_nanos limit / 1000000000) }
+    ensures idle { result.idle ≡ idle_seconds arguments.now.idle }
     ensures reorder { result.reorder ≡ arguments.now.reorder }
     ensures templates { result.templates ≡ arguments.now.templates }
 {
@@ -198,56 +184,28 @@ fn limits_of(arguments: &RecordArguments, peers: NonZeroUsize) -> PeerLimits
     }
 }
 
-// What is recorded, and how.
-fn order_of(
-    rt: &HostRuntime,
+// What is recorded, and how. If a word for peers is no prefix, `err` has a line.
+fn order_of<E: WriteLines>(
+    alloc: Global,
     arguments: &RecordArguments,
-    err: &mut Stderr,
+    err: &mut E,
 ) -> Result<RecordOrder, Status>
     ensures every { IfOk result (λ order. order.every ≡ arguments.now.every) }
     ensures sessions { IfOk result (λ order. order.sessions ≡ arguments.now.sessions) }
     ensures idle { IfOk result (λ order. order.idle ≡ arguments.now.idle) }
     ensures verbosity { IfOk result (λ order. order.verbosity ≡ arguments.now.verbosity) }
+    ensures filter { IfOk result (λ order.
+        ArePrefixes arguments.now.prefixes.now order.filter.prefixes.items) }
+    ensures silent { OnOk result (err.new ≡ err.old) }
+    ensures refused { IfErr result (λ status. status ≡ Status.NotOpened) }
+    ensures told { OnErr result
+        (TellsWhy E.contents E.failed err.old err.new arguments.now.prefixes.now) }
 {
     Ok(RecordOrder {
         every: arguments.every,
         sessions: arguments.sessions,
         idle: arguments.idle,
         verbosity: arguments.verbosity,
-        filter: filter_of(rt, arguments.prefixes, err)?,
+        filter: filter_of(alloc, arguments.prefixes, err)?,
     })
-}
-
-// The prefixes that peers may have. If a word is none, `err` has a line.
-fn filter_of(rt: &HostRuntime, words: &[&str], err: &mut Stderr) -> Result<PeerFilter, Status> {
-    let mut prefixes = Vec::new(rt.alloc());
-    for word in words {
-        let prefix = match Prefix::parse(*word) {
-            Ok(prefix) => prefix,
-            Err(fault) => {
-                tell_prefix(*word, fault, err);
-                return Err(Status::NotOpened);
-            }
-        };
-        if prefixes.push(prefix).is_err() {
-            let _ = writeln!(err, "error: out of memory");
-            return Err(Status::NotOpened);
-        }
-    }
-    Ok(PeerFilter { prefixes })
-}
-
-// Says why a word is no prefix.
-fn tell_prefix(word: &str, fault: PrefixFault, err: &mut Stderr) {
-    let _ = match fault {
-        PrefixFault::NotAPrefix => {
-            writeln!(err, "error: '{word}' of --from is no address and no prefix")
-        }
-        PrefixFault::BitsAfter => {
-            writeln!(
-                err,
-                "error: '{word}' of --from has bits after its prefix that are not 0"
-            )
-        }
-    };
 }

@@ -1,8 +1,8 @@
 //! What is looked at once a second beside a run: whether the system's clock was set, and whether the folder is still there.
 
-ghost use Rattle.std.specs.Prelude.{◌≡◌, ◌-◌, ◌&&◌, not};
+ghost use Rattle.std.specs.Prelude.{◌≡◌, ◌-◌, ◌&&◌, not, false, Some, None, is_some};
 ghost use Rattle.report_writing.specs.Writing.{Tells};
-ghost use Rattle.command_record.specs.Watching.{back_line, forward_line, set_lines, step_of};
+ghost use Rattle.command_record.specs.Watching.{back_line, folder_lines, forward_line, set_lines, step_of, step_since as steps_since};
 
 use cli_inputs::WITH_REASONS;
 use recording_folder::Folder;
@@ -24,22 +24,33 @@ pub(crate) enum ClockStep {
 /// What is known of the clock and the folder of a run.
 #[derive(Clone, Copy, Debug, PartialEq, Eq)]
 pub(crate) struct RunWatch {
-    /// The second since 1970 at which the run began, by what the clock said last.
-    pub began: u64,
+    /// The second since 1970 at which the run began, by what the clock said last, if it said anything.
+    pub began: Option<u64>,
     /// Whether it was told that the folder isn't there, since it was there last.
     pub is_gone: bool,
 }
 
 impl RunWatch {
+    /// The clock has said nothing yet, and nothing was told of the folder.
+    pub(crate) fn new() -> Self
+        ensures { result ≡ record { began = None; is_gone = false } }
+    {
+        RunWatch {
+            began: None,
+            is_gone: false,
+        }
+    }
+
     /// Takes the second that the clock says, so many seconds after the run began. The answer is how the clock was set since
-    /// it said the one before, if that is by two seconds or more.
+    /// it said the one before, if it said one and that is by two seconds or more.
     pub(crate) fn take_second(&mut self, second: u64, since: u64) -> Option<ClockStep>
-        ensures step { result ≡ step_of self.old.began (second - since) }
-        ensures kept { self.new ≡ record self.old { began = second - since } }
+        ensures step { result ≡ steps_since self.old.began (second - since) }
+        ensures kept { self.new ≡ record self.old { began = Some (second - since) } }
     {
         let before = self.began;
-        self.began = second.saturating_sub(since);
-        step_between(before, self.began)
+        let began = second.saturating_sub(since);
+        self.began = Some(began);
+        step_since(before, began)
     }
 
     /// Takes whether the folder is there, and answers whether that it isn't is to be told: once, until it is there again.
@@ -51,6 +62,13 @@ impl RunWatch {
         self.is_gone = !is_there;
         is_told
     }
+}
+
+// How far it is from a second, if one is known, to another.
+fn step_since(before: Option<u64>, after: u64) -> Option<ClockStep>
+    ensures { result ≡ steps_since before after }
+{
+    step_between(before?, after)
 }
 
 // How far it is from one second to another, if that is two seconds or more.
@@ -76,39 +94,45 @@ pub(crate) fn watch<R: Clock + Wait>(
 ) {
     let mut out = WholeLines::new(lines);
     let start = Instant::now(waiting).ok();
-    let mut watch = RunWatch {
-        began: second_of(waiting).unwrap_or(0),
-        is_gone: false,
-    };
+    let mut watch = RunWatch::new();
     for _ in waiting.forever() {
-        thread::sleep(waiting, Duration::from_secs(1));
-        if lines.queue.is_closed(waiting) {
-            return;
-        }
         // (a line that can't be written stops nothing)
         if let (Some(second), Some(since)) = (second_of(waiting), seconds_since(waiting, start)) {
             let _ = tell_step(watch.take_second(second, since), &mut out);
         }
-        let _ = look_at_folder(&mut watch, rt, folder, &mut out);
+        let _ = tell_folder(&mut watch, why_gone(rt, folder), folder.path(), &mut out);
+        thread::sleep(waiting, Duration::from_secs(1));
+        if lines.queue.is_closed(waiting) {
+            return;
+        }
     }
 }
 
-fn look_at_folder<W: WriteLines>(
-    watch: &mut RunWatch,
-    rt: &HostRuntime,
-    folder: &Folder,
-    out: &mut W,
-) -> io::Result<()> {
-    let found = fs::metadata(rt, folder.unfinished());
-    if !watch.take_folder(found.is_ok()) {
-        return Ok(());
+// Why the folder isn't there, if it isn't.
+fn why_gone(rt: &HostRuntime, folder: &Folder) -> Option<Reason> {
+    match fs::metadata(rt, folder.unfinished()) {
+        Ok(_) => None,
+        Err(error) => Some(Reason::of(&error)),
     }
-    match found {
-        Ok(_) => Ok(()),
-        Err(error) => {
-            let reason = Reason::of(&error);
-            write_not_had_because(WITH_REASONS, "folder", folder.path(), reason, out)
+}
+
+// Takes whether the folder of this path is there, and tells why it isn't, if that is to be told.
+fn tell_folder<W: WriteLines>(
+    watch: &mut RunWatch,
+    gone: Option<Reason>,
+    path: &str,
+    out: &mut W,
+) -> io::Result<()>
+    ensures kept { watch.new ≡ record watch.old { is_gone = is_some gone } }
+    ensures told { Tells W.contents W.failed out.old out.new result
+        (folder_lines watch.old.is_gone path.now gone) }
+{
+    let is_told = watch.take_folder(gone.is_none());
+    match gone {
+        Some(reason) if is_told => {
+            write_not_had_because(WITH_REASONS, "folder", path, reason, out)
         }
+        _ => Ok(()),
     }
 }
 
