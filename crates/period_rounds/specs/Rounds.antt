@@ -1,5 +1,5 @@
 -- When it is time again, and which periods are left out until then.
-use Rattle.std.specs.Prelude.{◌≡◌, ◌≢◌, ℕ, ◌-◌, Bool, true, false, if◌then◌else◌, nat_le, nat_lt, ◌||◌, MatchBool, Option, Some, None}
+use Rattle.std.specs.Prelude.{◌≡◌, ◌≢◌, ◌⊎◌, ℕ, ◌-◌, Bool, true, false, if◌then◌else◌, nat_le, nat_lt, ◌||◌, MatchBool, Option, Some, None}
 use Rattle.std.specs.BTreeSet.{contains}
 use Rattle.std.specs.Ordering.{nat_cmp}
 use Rattle.period_rounds.specs.declared.rounds.Rounds.{Rounds}
@@ -13,10 +13,15 @@ is_time (Some last) now pause = nat_lt now last || nat_le pause (now - last)
 abbrev pub is_settled : Rounds → ℕ → Bool
 is_settled rounds begins = contains nat_cmp rounds.settled begins
 
--- the same other periods are settled as before, and nothing else changes
-pub record SettlesAtMost (begins : ℕ) (before after : Rounds) : Type 0 where
+-- it is settled, the same other periods are as before, and nothing else changes
+pub record Settles (begins : ℕ) (before after : Rounds) : Type 0 where
+  pub settled : is_settled after begins ≡ true
   pub others : (other : ℕ) → other ≢ begins → is_settled after other ≡ is_settled before other
   pub rest : after ≡ record before { settled = after.settled }
+
+-- or memory ran out for that, and nothing changes
+abbrev pub SettlesAtMost : ℕ → Rounds → Rounds → Type 0
+SettlesAtMost begins before after = Settles begins before after ⊎ (after ≡ before)
 
 -- no period is settled
 abbrev pub HasNone : Rounds → Type 0

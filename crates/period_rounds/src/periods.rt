@@ -105,7 +105,8 @@ fn take_next<
     }
     let took = take_and_tell(threads, work, round, unfinished, period);
     if took.settled {
-        work.rounds.settle(period);
+        // (without memory for that it is taken again in the next round)
+        let _ = work.rounds.settle(period);
     }
     took.status
 }

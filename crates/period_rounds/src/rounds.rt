@@ -1,10 +1,10 @@
 //! What is known of periods from one round to the next.
 
-ghost use Rattle.std.specs.Prelude.{◌≡◌, ◌≤◌};
-ghost use Rattle.period_rounds.specs.Rounds.{AreNew, Begins, SettlesAtMost, first_taken, is_settled, is_time as is_time_again};
+ghost use Rattle.std.specs.Prelude.{◌≡◌, ◌≤◌, OnErr, OnOk};
+ghost use Rattle.period_rounds.specs.Rounds.{AreNew, Begins, Settles, first_taken, is_settled, is_time as is_time_again};
 
 use recording_names::Period;
-use std::alloc::Global;
+use std::alloc::{AllocError, Global};
 use std::collections::BTreeSet;
 
 /// How many seconds after a round over all days the next one comes.
@@ -88,11 +88,13 @@ impl Rounds {
         self.settled.contains(&period.begins)
     }
 
-    /// A period isn't looked at again before the next round over all days, unless memory runs out for that.
-    pub fn settle(&mut self, period: Period)
-        ensures { SettlesAtMost period.begins self.old self.new }
+    /// A period isn't looked at again before the next round over all days. If memory runs out for that, nothing changes.
+    pub fn settle(&mut self, period: Period) -> Result<(), AllocError>
+        ensures ok { OnOk result (Settles period.begins self.old self.new) }
+        ensures err { OnErr result (self.new ≡ self.old) }
     {
-        let _ = self.settled.insert(period.begins);
+        self.settled.insert(period.begins)?;
+        Ok(())
     }
 }
 

@@ -37,7 +37,7 @@ pub fn take_text_of<F, M, T: TablePlace, P: WriteLines, L: WriteLines>(
         return Status::Well;
     }
     let status = take_and_tell(job, work, &mut texts.place, round, period);
-    texts.rounds.settle(period);
+    let _ = texts.rounds.settle(period);
     status
 }
 

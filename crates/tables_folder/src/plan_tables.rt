@@ -1,7 +1,11 @@
 //! The tables of a plan in a folder on the disk.
 
+ghost use Rattle.std.specs.Prelude.{◌≡◌};
+ghost use Rattle.std.specs.IoError.{error_kind};
+ghost use Rattle.tables_folder.specs.ReceiptFiles.{unread_reason};
+
 use crate::plan_names::{TablesOf, table_path};
-use crate::receipt_files::{files_in_receipt, is_receipt_of};
+use crate::receipt_files::{files_in, is_receipt_of};
 use crate::recordings_folder::{days_in, table_periods_in};
 use crate::removing::sync_folder;
 use period_tables::TablePlace;
@@ -48,8 +52,8 @@ pub enum PlanFault {
 }
 
 impl<'r> PlanTables<'r> {
-    ghost use Rattle.std.specs.Prelude.{IfOk};
-    ghost use Rattle.tables_folder.specs.PlanPlaces.{HasTablesOf};
+    ghost use Rattle.std.specs.Prelude.{IfOk, string_bytes};
+    ghost use Rattle.tables_folder.specs.PlanPlaces.{HasTablesOf, IsFolderOf};
 
     /// The tables of periods, of days or of months of a plan of this name and this text in a folder, with names of this ending.
     /// Nothing is written; those that are there are of no other plan.
@@ -61,7 +65,8 @@ impl<'r> PlanTables<'r> {
         of: TablesOf,
         ending: &'static str,
     ) -> Result<Self, PlanFault>
-        ensures { IfOk result (HasTablesOf of ending.now) }
+        ensures tables { IfOk result (HasTablesOf of ending.now) }
+        ensures folder { IfOk result (IsFolderOf (string_bytes folder.now.path) name.now plan.now) }
     {
         let Ok(path) = format!(in rt.alloc(); "{}/{name}", folder.path()) else {
             return Err(PlanFault::NotHad(io::Error::from(ErrorKind::OutOfMemory)));
@@ -236,14 +241,9 @@ impl<'r> TablePlace for PlanTables<'r> {
     }
 
     fn receipt_files(&mut self, period: Period) -> Result<Option<Vec<String>>, Reason> {
-        let text = match self.receipt_text(period) {
-            Ok(Some(text)) => text,
-            Ok(None) => return Ok(None),
-            Err(error) => return Err(reason_of_unread(&error)),
-        };
-        match files_in_receipt(self.rt.alloc(), text.as_str(), self.plan) {
-            Ok(paths) => Ok(Some(paths)),
-            Err(reason) => Err(reason),
+        match self.receipt_text(period) {
+            Ok(text) => files_in(self.rt.alloc(), &text, self.plan),
+            Err(error) => Err(reason_of_unread(&error)),
         }
     }
 
@@ -271,7 +271,9 @@ impl<'r> TablePlace for PlanTables<'r> {
 }
 
 // Why a receipt isn't read. (One that is no text isn't valid.)
-fn reason_of_unread(error: &io::Error) -> Reason {
+fn reason_of_unread(error: &io::Error) -> Reason
+    ensures { result ≡ unread_reason (error_kind error.now) }
+{
     match error.kind() {
         ErrorKind::InvalidData => Reason::NotValid,
         kind => Reason::by_kind(kind),

@@ -3,7 +3,7 @@
 ghost use Rattle.std.specs.Prelude.{◌≡◌, filter, map, string_bytes, IfErr, IfOk, MatchBool};
 ghost use Rattle.table_receipts.specs.Values.{input_value, receipt_value, table_value};
 ghost use Rattle.period_tables.specs.Standing.{names_in, was_read as was_input_read};
-ghost use Rattle.tables_folder.specs.ReceiptFiles.{IsFilesOf, IsNotOf, IsNoReceiptOf, IsReceiptOf, tells_table};
+ghost use Rattle.tables_folder.specs.ReceiptFiles.{AreFilesIn, AreNotIn, IsFilesOf, IsNotOf, IsNoReceiptOf, IsReceiptOf, tells_table};
 
 use report_writing::Reason;
 use sha2::{Digest, Sha256};
@@ -27,6 +27,21 @@ pub fn files_in_receipt(alloc: Global, text: &str, plan: &str) -> Result<Vec<Str
     match all_names_of(alloc, receipt) {
         Ok(names) => Ok(names),
         Err(AllocError) => Err(Reason::OutOfMemory),
+    }
+}
+
+/// The paths of the files that a receipt names, as [`files_in_receipt`] has them, if there is one.
+pub(crate) fn files_in(
+    alloc: Global,
+    text: &Option<String>,
+    plan: &str,
+) -> Result<Option<Vec<String>>, Reason>
+    ensures files { IfOk result (AreFilesIn text.now plan.now) }
+    ensures reason { IfErr result (AreNotIn text.now plan.now) }
+{
+    match text {
+        Some(text) => Ok(Some(files_in_receipt(alloc, text.as_str(), plan)?)),
+        None => Ok(None),
     }
 }
 
