@@ -24,6 +24,7 @@ use flow_export::Intervals;
 use input_sources::{FilesInTurn, LoadedPlan, OpenSource, SystemFiles, SystemListener, WithReason};
 use ipfix_dump::DumpFault;
 use ipfix_session::{FromReader, Source};
+use receipt_merging::Allowed;
 use report_writing::{CheckedWriter, Origin, Status, Verbosity};
 use std::alloc::{AllocError, Global};
 use std::io::{BufWriter, Stderr, Stdout};
@@ -337,7 +338,10 @@ fn merge_parts(
             maps: &made.maps,
         },
         parts: &parts,
-        incomplete: arguments.incomplete,
+        allowed: Allowed {
+            incomplete: arguments.incomplete,
+            twice: false,
+        },
         collectd: made.collectd.as_str(),
     };
     let told = &mut CheckedWriter::new(rt.stderr());

@@ -1,11 +1,13 @@
 -- Tables that are merged in steps: what their receipts say together.
-use Rattle.std.proofs.Common.{◌≡◌, ◌∙◌, ℕ, ◌+◌, ◌-◌, ◌<◌, List, [], ◌∷◌, ◌++◌, refl, sym, ap, ap₂, arith}
-use Rattle.std.specs.Prelude.{◌^◌, Bool, true, false, ◌&&◌, if◌then◌else◌, nat_lt, min}
-use Rattle.std.specs.List.{AllZip}
+use Rattle.std.proofs.Common.{◌≡◌, ◌∙◌, ℕ, ◌+◌, ◌-◌, ◌<◌, List, [], ◌∷◌, ◌++◌, refl, sym, ap, ap₂, subst, arith}
+use Rattle.std.specs.Prelude.{◌^◌, Bool, true, false, not, ◌&&◌, if◌then◌else◌, nat_lt, min}
+use Rattle.std.specs.List.{AllZip, list_all}
 use Rattle.std.proofs.lemmas.Bool.{lt-ltb, ltb-true}
 use Rattle.std.proofs.lemmas.Grind.{flat_map-append}
 use Rattle.table_receipts.specs.declared.receipt.RecordCounts.{RecordCounts}
-use Rattle.receipt_merging.specs.Parts.{PartValue, add_counts, all_complete, counts_from, inputs_in, left_out_in, no_counts, sum_of}
+use Rattle.table_receipts.specs.Values.{InputValue}
+use Rattle.receipt_merging.specs.Once.{each_once, is_same_input}
+use Rattle.receipt_merging.specs.Parts.{PartValue, add_counts, all_complete, counts_from, inputs_in, is_complete, left_out_in, no_counts, sum_of}
 use Rattle.command_merge_receipts.specs.Steps.{IsMergedOf, SayTheSame, all_parts}
 
 -- ---- sums that stop
@@ -89,11 +91,58 @@ left_out_of_steps (parts ∷ steps) [] all = absurd all
 left_out_of_steps (parts ∷ steps) (one ∷ ones) all =
     ap₂ (λ xs ys. xs ++ ys) all.0.left_out (left_out_of_steps steps ones all.1) ∙ sym (flat_map-append (λ (p : PartValue). p.receipt.left_out) parts (all_parts steps))
 
-complete_steps : (steps : List (List PartValue)) (ones : List PartValue) → AllZip IsMergedOf steps ones → all_complete ones ≡ all_complete (all_parts steps)
-complete_steps [] [] all = refl
-complete_steps [] (one ∷ ones) all = absurd all
-complete_steps (parts ∷ steps) [] all = absurd all
-complete_steps (parts ∷ steps) (one ∷ ones) all = ap₂ (λ a b. a && b) all.0.complete (complete_steps steps ones all.1) ∙ sym (all_and parts (all_parts steps))
+-- ---- inputs that come once
+
+both : (a b : Bool) → (a && b) ≡ true → (a ≡ true) × (b ≡ true)
+both true true is = (refl, refl)
+both true false is = absurd cc
+both false b is = absurd cc
+
+and_true : (b : Bool) → (b && true) ≡ b
+and_true true = refl
+and_true false = refl
+
+and_false : (b : Bool) → (b && false) ≡ false
+and_false true = refl
+and_false false = refl
+
+all_first : (passes : InputValue → Bool) (is js : List InputValue) → list_all passes (is ++ js) ≡ true → list_all passes is ≡ true
+all_first passes [] js all = refl
+all_first passes (i ∷ is) js all =
+    let parts = both (passes i) (list_all passes (is ++ js)) all in
+    rw (parts.0, all_first passes is js parts.1) refl
+
+once_first : (is js : List InputValue) → each_once (is ++ js) ≡ true → each_once is ≡ true
+once_first [] js once = refl
+once_first (i ∷ is) js once =
+    let parts = both (list_all (λ j. not (is_same_input i j)) (is ++ js)) (each_once (is ++ js)) once in
+    rw (all_first (λ j. not (is_same_input i j)) is js parts.0, once_first is js parts.1) refl
+
+once_then : (is js : List InputValue) → each_once (is ++ js) ≡ true → each_once js ≡ true
+once_then [] js once = once
+once_then (i ∷ is) js once = once_then is js (both (list_all (λ j. not (is_same_input i j)) (is ++ js)) (each_once (is ++ js)) once).1
+
+-- if each comes once, all are complete exactly if the parts of all steps are
+complete_steps : (steps : List (List PartValue)) (ones : List PartValue) → AllZip IsMergedOf steps ones → each_once (inputs_in ones) ≡ true → all_complete ones ≡ all_complete (all_parts steps)
+complete_steps [] [] all once = refl
+complete_steps [] (one ∷ ones) all once = absurd all
+complete_steps (parts ∷ steps) [] all once = absurd all
+complete_steps (parts ∷ steps) (one ∷ ones) all once =
+    let own : each_once (inputs_in parts) ≡ true = subst (λ is. each_once is ≡ true) all.0.inputs (once_first one.receipt.inputs (inputs_in ones) once) in
+    let here : one.receipt.complete ≡ all_complete parts = all.0.complete ∙ ap (λ b. all_complete parts && b) own ∙ and_true (all_complete parts) in
+    ap₂ (λ a b. a && b) here (complete_steps steps ones all.1 (once_then one.receipt.inputs (inputs_in ones) once)) ∙ sym (all_and parts (all_parts steps))
+
+complete_of_steps : (steps : List (List PartValue)) (ones : List PartValue) → AllZip IsMergedOf steps ones → is_complete ones ≡ is_complete (all_parts steps)
+complete_of_steps steps ones all = by_test (each_once (inputs_in ones)) refl
+  where
+    same : each_once (inputs_in ones) ≡ each_once (inputs_in (all_parts steps))
+    same = ap each_once (inputs_of_steps steps ones all)
+
+    by_test : (b : Bool) → each_once (inputs_in ones) ≡ b → is_complete ones ≡ is_complete (all_parts steps)
+    by_test true once = ap₂ (λ a b. a && b) (complete_steps steps ones all once) same
+    by_test false twice =
+        ap (λ b. all_complete ones && b) twice ∙ and_false (all_complete ones)
+        ∙ sym (ap (λ b. all_complete (all_parts steps) && b) (sym same ∙ twice) ∙ and_false (all_complete (all_parts steps)))
 
 count_stops : (parts : List PartValue) → add_counts no_counts (counts_from no_counts parts) ≡ counts_from no_counts parts
 count_stops [] = refl
@@ -114,4 +163,4 @@ counts_of_steps (parts ∷ steps) (one ∷ ones) all =
     ∙ ap (λ c. counts_from c later) (count_stops parts) ∙ sym (counts_of_all no_counts parts later)
 
 pub all_steps : (steps : List (List PartValue)) (ones : List PartValue) → AllZip IsMergedOf steps ones → SayTheSame ones (all_parts steps)
-all_steps steps ones all = record { inputs = inputs_of_steps steps ones all; records = counts_of_steps steps ones all; left_out = left_out_of_steps steps ones all; complete = complete_steps steps ones all }
+all_steps steps ones all = record { inputs = inputs_of_steps steps ones all; records = counts_of_steps steps ones all; left_out = left_out_of_steps steps ones all; complete = complete_of_steps steps ones all }

@@ -31,8 +31,8 @@ module _ (Has : List ℕ → List ℕ → Type 0) (Refuses : List ℕ → Reason
     record {
       parts = j.parts;
       read = j.read;
-      judged = subst (λ (n : ℕ). IsJudgementOf job.incomplete j.parts (judged.InputTwice merged n other)) (sym twice.1)
-          (subst (λ (n : ℕ). IsJudgementOf job.incomplete j.parts (judged.InputTwice merged first n)) (sym twice.2) j.judged);
+      judged = subst (λ (n : ℕ). IsJudgementOf job.allowed j.parts (judged.InputTwice merged n other)) (sym twice.1)
+          (subst (λ (n : ℕ). IsJudgementOf job.allowed j.parts (judged.InputTwice merged first n)) (sym twice.2) j.judged);
     },
     subst (λ (n : ℕ). HasInput (tables_said job.parts.now j.parts) n number files) (sym twice.2) (subst (λ (ts : List PartTable). HasInput ts second number files) are twice.3),
   )

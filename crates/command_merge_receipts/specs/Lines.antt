@@ -1,5 +1,5 @@
 -- The lines that tell why parts were not merged.
-use Rattle.std.specs.Prelude.{ℕ, List, [], ◌++◌, codes, get_or, map, string_bytes}
+use Rattle.std.specs.Prelude.{ℕ, List, [], ◌++◌, Option, None, Some, codes, get_or, map, string_bytes}
 use Rattle.table_receipts.specs.declared.receipt.InputReceipt.{InputReceipt}
 use Rattle.receipt_merging.specs.PartFaults.{name_of, number_of}
 use Rattle.receipt_merging.specs.declared.part_fault.PartFault.{PartFault}
@@ -24,9 +24,24 @@ name_at inputs place = get_or (map (λ (input : InputReceipt). string_bytes inpu
 abbrev pub part_text : PartFault → List ℕ
 part_text fault = fault_text (number_of fault) (name_of fault)
 
--- two inputs that are the same, by their names
+-- two inputs, by their names
+abbrev pub both_text : List ℕ → List ℕ → List ℕ
+both_text first second = whole_name first ++ (codes " and" ++ (whole_name second ++ codes "\n"))
+
+-- which are the same
 abbrev pub twice_text : List ℕ → List ℕ → List ℕ
-twice_text first second = codes ": fault 10 InputTwice:" ++ (whole_name first ++ (codes " and" ++ (whole_name second ++ codes "\n")))
+twice_text first second = codes ": fault 10 InputTwice:" ++ both_text first second
+
+-- which are the same, and are counted twice
+unfoldable pub counted_start : List ℕ
+counted_start = codes "collectd: merge: counted twice, since their octets are the same:"
+
+abbrev pub counted_twice_line : List ℕ → List ℕ → List ℕ
+counted_twice_line first second = counted_start ++ both_text first second
+
+abbrev pub counted_twice_lines : List InputReceipt → Option (ℕ × ℕ) → List ℕ
+counted_twice_lines inputs None = []
+counted_twice_lines inputs (Some twice) = counted_twice_line (name_at inputs twice.0) (name_at inputs twice.1)
 
 abbrev pub shown : PartText → List ℕ
 shown (Fault fault) = part_text fault

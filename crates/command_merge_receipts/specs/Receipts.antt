@@ -3,7 +3,7 @@ use Rattle.std.specs.Prelude.{◌≡◌, ℕ, List, Option, Some, None, IsSome, 
 use Rattle.flow_table.specs.AddedUp.{rows_in}
 use Rattle.flow_table.specs.declared.table.Table.{Table}
 use Rattle.output_tables.specs.TableTexts.{IsNotWritten, WritesIn, export_text_in}
-use Rattle.receipt_merging.specs.Parts.{PartValue, all_complete, counts_from, inputs_in, left_out_in, no_counts}
+use Rattle.receipt_merging.specs.Parts.{PartValue, counts_from, inputs_in, is_complete, left_out_in, no_counts}
 use Rattle.table_receipts.specs.Texts.{receipt_text}
 use Rattle.table_receipts.specs.Values.{ReceiptValue, file_value}
 use Rattle.command_receipt.specs.Digests.{IsDigestOfAppended}
@@ -26,7 +26,7 @@ merged_receipt_of job parts text table = record {
   records = counts_from no_counts parts;
   table = table_of job.merge.elements.now job.merge.plan.now.counters job.merge.output text table;
   left_out = left_out_in parts;
-  complete = all_complete parts;
+  complete = is_complete parts;
 }
 
 -- and the digest is that of the text that was written

@@ -1,14 +1,14 @@
 -- Tables that are merged in steps, each with its receipt.
 use Rattle.std.specs.Prelude.{◌≡◌, List}
 use Rattle.std.specs.List.{AllZip, flat_map}
-use Rattle.receipt_merging.specs.Parts.{PartValue, all_complete, counts_from, inputs_in, left_out_in, no_counts}
+use Rattle.receipt_merging.specs.Parts.{PartValue, counts_from, inputs_in, is_complete, left_out_in, no_counts}
 
 -- a receipt says what those of its parts say together
 pub record IsMergedOf (parts : List PartValue) (one : PartValue) : Type 0 where
   pub inputs : one.receipt.inputs ≡ inputs_in parts
   pub records : one.receipt.records ≡ counts_from no_counts parts
   pub left_out : one.receipt.left_out ≡ left_out_in parts
-  pub complete : one.receipt.complete ≡ all_complete parts
+  pub complete : one.receipt.complete ≡ is_complete parts
 
 -- the parts of all steps, in their order
 abbrev pub all_parts : List (List PartValue) → List PartValue
@@ -19,7 +19,7 @@ pub record SayTheSame (ones others : List PartValue) : Type 0 where
   pub inputs : inputs_in ones ≡ inputs_in others
   pub records : counts_from no_counts ones ≡ counts_from no_counts others
   pub left_out : left_out_in ones ≡ left_out_in others
-  pub complete : all_complete ones ≡ all_complete others
+  pub complete : is_complete ones ≡ is_complete others
 
 -- so what was merged of parts says together what all the parts do
 abbrev pub StepsSayTheSame : Type 0

@@ -1,5 +1,5 @@
 -- What keeps parts from being merged.
-use Rattle.std.specs.Prelude.{◌≡◌, ◌⊎◌, ℕ, ◌+◌, List, [], ◌∷◌, ◌++◌, None, get_or, length, map}
+use Rattle.std.specs.Prelude.{◌≡◌, ◌⊎◌, ℕ, ◌+◌, List, [], ◌∷◌, ◌++◌, Option, None, get_or, length, map}
 use Rattle.ipfix_session.specs.Sources.{SourceView}
 use Rattle.flow_export.specs.declared.intervals.Intervals.{Intervals}
 use Rattle.flow_table.specs.Plans.{PlanValue}
@@ -7,9 +7,8 @@ use Rattle.flow_table.specs.SameTables.{RowValue}
 use Rattle.flow_merge.specs.Merging.{StandsFor, merging_intervals, merging_plan}
 use Rattle.flow_merge.specs.declared.merge_fault.MergeFault.TheVariants.{OutOfMemory}
 use Rattle.flow_merge.specs.declared.merging.Merging.{Merging}
-use Rattle.receipt_merging.specs.Judging.{AreMerged, IsJudgementOf, MayBeMerged}
-use Rattle.receipt_merging.specs.Once.{EachOnce}
-use Rattle.receipt_merging.specs.Parts.{PartValue, inputs_in}
+use Rattle.receipt_merging.specs.Judging.{AreMerged, IsJudgementOf, MayBeMerged, MayComeTwice}
+use Rattle.receipt_merging.specs.Parts.{PartValue}
 use Rattle.receipt_merging.specs.declared.merging.Judgement.{Judgement}
 use Rattle.receipt_merging.specs.declared.merging.Judgement.TheVariants as judged
 use Rattle.receipt_merging.specs.declared.merging.MergedParts.{MergedParts}
@@ -39,15 +38,15 @@ pub record IsNumbered (all : List PartFiles) (place number : ℕ) (files : PartF
 pub record AreJudged (Has : List ℕ → List ℕ → Type 0) (job : PartsJob) (judgement : Judgement) : Type 0 where
   pub parts : List PartValue
   pub read : AreParts Has job.plan job.parts.now parts
-  pub judged : IsJudgementOf job.incomplete parts judgement
+  pub judged : IsJudgementOf job.allowed parts judgement
 
--- the receipts were read, and their parts may be merged: none of their inputs comes twice
-pub record AreTaken (Has : List ℕ → List ℕ → Type 0) (job : PartsJob) (merged : MergedParts) (tables : List PartTable) : Type 0 where
+-- the receipts were read, and their parts may be merged: none of their inputs comes twice, or these two do, which is allowed
+pub record AreTaken (Has : List ℕ → List ℕ → Type 0) (job : PartsJob) (merged : MergedParts) (twice : Option (ℕ × ℕ)) (tables : List PartTable) : Type 0 where
   pub parts : List PartValue
   pub read : AreParts Has job.plan job.parts.now parts
-  pub may_be : MayBeMerged job.incomplete parts
+  pub may_be : MayBeMerged job.allowed parts
   pub together : AreMerged parts merged
-  pub once : EachOnce (inputs_in parts)
+  pub may_come : MayComeTwice job.allowed parts twice
   pub tables_are : tables ≡ tables_said job.parts.now parts
 
 -- the receipts keep the parts from being merged, before any table is read: one isn't had; or one is of another plan; or else isn't

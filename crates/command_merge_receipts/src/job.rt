@@ -1,6 +1,7 @@
 //! What a run of merging by receipts is to do.
 
 use command_merge::MergeJob;
+use receipt_merging::Allowed;
 use report_writing::Status;
 use table_parts::{PartFiles, PlanAtHand};
 
@@ -13,8 +14,8 @@ pub struct PartsJob<'a> {
     pub plan: PlanAtHand<'a>,
     /// The parts, in the order in which they are merged.
     pub parts: &'a [PartFiles<'a>],
-    /// Whether parts are merged that aren't complete, too.
-    pub incomplete: bool,
+    /// What they are merged for all that.
+    pub allowed: Allowed,
     /// The version of collectd, as `1.2.3`, which the receipt of the merged table tells.
     pub collectd: &'a str,
 }

@@ -10,7 +10,7 @@ ghost use Rattle.command_merge_receipts.specs.declared.job.PartsJob.{PartsJob};
 
 /// Tables may be merged in steps, days of periods and months of days: what was merged lists
 /// together the inputs of all parts, counts their records, and is complete exactly if all parts
-/// are.
+/// are and no two inputs with data records have the same octets.
 pub fn merged_in_steps()
     // The receipt of a merged table says what those of its parts say together.
     ensures one { (job : PartsJob) (parts : List PartValue) (text : TextDigest)

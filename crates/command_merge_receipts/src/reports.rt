@@ -2,7 +2,7 @@
 
 ghost use Rattle.std.specs.Prelude.{◌≡◌, ◌++◌};
 ghost use Rattle.command_merge.specs.MergeLines.{file_start, named_file_line};
-ghost use Rattle.command_merge_receipts.specs.Lines.{name_at as name_in, not_merged_parts_lines, part_lines, part_text, shown, twice_text};
+ghost use Rattle.command_merge_receipts.specs.Lines.{both_text, counted_start, counted_twice_line, counted_twice_lines, name_at as name_in, not_merged_parts_lines, part_lines, part_text, shown, twice_text};
 ghost use Rattle.report_writing.specs.Origins.{whole_name};
 ghost use Rattle.report_writing.specs.Writing.{Tells};
 
@@ -116,6 +116,47 @@ fn write_twice<W: WriteLines>(first: &str, second: &str, out: &mut W) -> io::Res
     ensures { Tells W.contents W.failed out.old out.new result (twice_text first.now second.now) }
 {
     out.write_all(b": fault 10 InputTwice:")?;
+    write_both(first, second, out)
+}
+
+/// Writes that two inputs are counted twice, those at these places, if there are such.
+pub fn write_counted_twice<W: WriteLines>(
+    inputs: &[InputReceipt],
+    twice: Option<(usize, usize)>,
+    out: &mut W,
+) -> io::Result<()>
+    ensures { Tells W.contents W.failed out.old out.new result (counted_twice_lines inputs.now twice) }
+{
+    match twice {
+        Some((first, second)) => {
+            write_twice_counted(name_at(inputs, first), name_at(inputs, second), out)
+        }
+        None => Ok(()),
+    }
+}
+
+fn write_twice_counted<W: WriteLines>(first: &str, second: &str, out: &mut W) -> io::Result<()>
+    ensures { Tells W.contents W.failed out.old out.new result
+        (counted_twice_line first.now second.now) }
+{
+    write_counted_start(out)?;
+    write_both(first, second, out)
+}
+
+#[tactic(auto, unfolding(crate::specs::Lines::counted_start))]
+fn write_counted_start<W: WriteLines>(out: &mut W) -> io::Result<()>
+    ensures { Tells W.contents W.failed out.old out.new result counted_start }
+{
+    write!(
+        out,
+        "collectd: merge: counted twice, since their octets are the same:"
+    )
+}
+
+// Writes the names of two inputs at the end of a line.
+fn write_both<W: WriteLines>(first: &str, second: &str, out: &mut W) -> io::Result<()>
+    ensures { Tells W.contents W.failed out.old out.new result (both_text first.now second.now) }
+{
     write_name(first, out)?;
     out.write_all(b" and")?;
     write_name(second, out)?;

@@ -9,7 +9,7 @@ ghost use Rattle.command_merge_receipts.specs.Runs.{MergesParts, ended_by};
 use crate::job::{MergedEnd, MergedTo, PartsJob};
 use crate::merging::merge_tables;
 use crate::not_merged::NotMergedParts;
-use crate::reports::write_not_merged_parts;
+use crate::reports::{write_counted_twice, write_not_merged_parts};
 use crate::taking::{TakenParts, take_parts};
 use crate::writing::{WrittenMerge, write_merge};
 use command_merge::write_merged;
@@ -22,13 +22,14 @@ use std::io::Write;
 
 /// Reads all receipts, and then the tables one after another, writes the table of all of them to
 /// `to.out`, and then puts its receipt, if there is a place for one. Answers how it ended: `Well`;
-/// `SessionFault` if a strict run merged a part that isn't complete; `NotOpened` if a table can't
+/// `SessionFault` if a strict run merged what isn't complete; `NotOpened` if a table can't
 /// be opened; `Failed` if the receipts don't let the parts be merged, or a table is another than
 /// its receipt says, or as [`run_merge_with`](command_merge::run_merge_with) ends so, or if there
 /// is no memory for the receipt or it can't be put.
 ///
 /// At the first two each input of each part with data records is in the table once: no two have the
-/// same digest; and the receipt lists the inputs of all parts.
+/// same digest, unless that is allowed, which is told of the first two; and the receipt lists the
+/// inputs of all parts.
 pub fn run_merge_parts<T: ReadText, W: Write + Drop, P: ReceiptPlace + Drop, E: WriteLines>(
     texts: &T,
     alloc: Global,
@@ -56,7 +57,8 @@ pub fn run_merge_parts<T: ReadText, W: Write + Drop, P: ReceiptPlace + Drop, E: 
             return MergedEnd { status, to };
         }
     };
-    let TakenParts { merged, .. } = taken;
+    let TakenParts { merged, twice, .. } = taken;
+    let _ = write_counted_twice(&merged.inputs, twice, err);
     let complete = merged.complete;
     let WrittenMerge { to, answer } = write_merge(alloc, job, merged, &table, to);
     if let Err(fault) = answer {

@@ -17,6 +17,8 @@ use table_parts::{NotRead, PartFiles, PartTable, read_parts, table_of_input, tab
 pub struct TakenParts<'a> {
     /// What their receipts say together.
     pub merged: MergedParts,
+    /// The places of two inputs that are the same and have data records, if there are such.
+    pub twice: Option<(usize, usize)>,
     /// Their tables, as their receipts say them.
     pub tables: Vec<PartTable<'a>>,
 }
@@ -28,7 +30,7 @@ pub fn take_parts<'a, T: ReadText>(
     job: &PartsJob<'a>,
 ) -> Result<TakenParts<'a>, NotMergedParts<'a>>
     ensures taken { IfOk result (λ taken. AreTaken (T.has texts.now) job.now taken.merged
-        taken.tables.items) }
+        taken.twice taken.tables.items) }
     ensures refused { IfErr result (AreRefused (T.has texts.now) (T.refuses texts.now) job.now) }
 {
     let parts = match read_parts(texts, alloc, job.parts, &job.plan) {
@@ -41,8 +43,12 @@ pub fn take_parts<'a, T: ReadText>(
     let Ok(tables) = tables_of(alloc, job.parts, &parts) else {
         return Err(without_memory());
     };
-    match judge_parts(alloc, parts, job.incomplete) {
-        Judgement::Merged(merged) => Ok(TakenParts { merged, tables }),
+    match judge_parts(alloc, parts, job.allowed) {
+        Judgement::Merged(merged, twice) => Ok(TakenParts {
+            merged,
+            twice,
+            tables,
+        }),
         Judgement::OtherPlan(place) => Err(part_fault(job.parts, place, PartFault::OtherPlan)),
         Judgement::Incomplete(place) => Err(part_fault(job.parts, place, PartFault::Incomplete)),
         Judgement::InputTwice(merged, first, second) => Err(twice(&tables, merged, first, second)),

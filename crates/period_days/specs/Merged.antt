@@ -17,13 +17,14 @@ use Rattle.period_collect.specs.MadeTables.{Holds, status_with}
 use Rattle.period_collect.specs.declared.kept_receipt.KeptReceipt.{KeptReceipt}
 use Rattle.period_days.specs.declared.day_job.DayJob.{DayJob}
 
--- what a merge of these parts by their receipts is to do: in the intervals of the plan, and also of parts that aren't complete
+-- what a merge of these parts by their receipts is to do: in the intervals of the plan, also of parts that aren't complete, and of inputs
+-- that come twice
 abbrev pub parts_job : DayJob → Bor (List PartFiles) → PartsJob
 parts_job job parts = record {
   merge = record { elements = job.text.elements; plan = job.text.plan; intervals = OfPlan; output = job.text.output; verbosity = job.verbosity };
   plan = job.text.at_hand;
   parts = parts;
-  incomplete = true;
+  allowed = record { incomplete = true; twice = true };
   collectd = job.text.collectd;
 }
 

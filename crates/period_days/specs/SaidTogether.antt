@@ -1,7 +1,7 @@
 -- What the receipts of parts say together, beside that of a day.
 use Rattle.std.specs.Prelude.{◌≡◌, ◌≢◌, ◌⊎◌, ℕ, List, Option, None, Some, string_bytes}
 use Rattle.receipt_merging.specs.Judging.{IsFirstNot}
-use Rattle.receipt_merging.specs.Parts.{PartValue, all_complete, counts_from, inputs_in, left_out_in, no_counts}
+use Rattle.receipt_merging.specs.Parts.{PartValue, counts_from, inputs_in, is_complete, left_out_in, no_counts}
 use Rattle.report_writing.specs.declared.reason.Reason.{Reason}
 use Rattle.table_parts.specs.Parts.{AreParts, IsFirstUnread}
 use Rattle.table_parts.specs.declared.files.PartFiles.{PartFiles}
@@ -12,9 +12,9 @@ use Rattle.period_days.specs.GoneInputs.{first_gone, not_left_out}
 use Rattle.period_days.specs.declared.standing.Standing.{Standing}
 use Rattle.period_days.specs.declared.standing.Standing.TheVariants.{Theirs, Others, Lacking}
 
--- a receipt with the inputs of all parts, how many of their records are of each class, what was left out, and whether all are complete
+-- a receipt with the inputs of all parts, how many of their records are of each class, what was left out, and whether that is complete
 abbrev pub said_together : List PartValue → ReceiptValue → ReceiptValue
-said_together parts own = record own { inputs = inputs_in parts; records = counts_from no_counts parts; left_out = left_out_in parts; complete = all_complete parts }
+said_together parts own = record own { inputs = inputs_in parts; records = counts_from no_counts parts; left_out = left_out_in parts; complete = is_complete parts }
 
 -- the first of its inputs that isn't among those of the parts, nor left out of them
 abbrev pub gone_from : List PartValue → ReceiptValue → Option InputValue

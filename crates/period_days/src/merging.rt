@@ -1,4 +1,5 @@
-//! Merging the tables of the parts of a day, as `merge --receipts --incomplete --receipt` does.
+//! Merging the tables of the parts of a day, as `merge --receipts --incomplete --receipt` does; but inputs that come twice don't
+//! keep the others from being merged.
 
 ghost use Rattle.std.specs.Prelude.{◌≡◌, IfErr, IfOk};
 ghost use Rattle.flow_merge.specs.RowRecords.{CanTakeRows};
@@ -12,9 +13,16 @@ use flow_export::Intervals;
 use input_files::ReadText;
 use ipfix_session::{FromReader, Source};
 use period_collect::KeptReceipt;
+use receipt_merging::Allowed;
 use report_writing::{Status, WriteLines};
 use std::alloc::Global;
 use table_parts::PartFiles;
+
+/// What the parts of a day are merged for all that: the table is not complete then, and nobody keeps it from the others.
+pub(crate) const ALLOWED: Allowed = Allowed {
+    incomplete: true,
+    twice: true,
+};
 
 /// The text of a merged table, and that of its receipt.
 #[derive(Drop)]
@@ -76,7 +84,7 @@ fn job_of<'a>(job: &DayJob<'a>, parts: &'a [PartFiles<'a>]) -> PartsJob<'a>
         },
         plan: text.at_hand,
         parts,
-        incomplete: true,
+        allowed: ALLOWED,
         collectd: text.collectd,
     }
 }

@@ -4,6 +4,7 @@ ghost use Rattle.std.specs.Prelude.{IfErr, IfOk};
 ghost use Rattle.period_texts.specs.Receipts.{IsNoReceiptFor};
 ghost use Rattle.period_days.specs.SaidTogether.{IsStanding};
 
+use crate::merging::ALLOWED;
 use crate::receipts::settle;
 use input_files::ReadText;
 use receipt_merging::{Judgement, judge_parts};
@@ -39,8 +40,8 @@ pub(crate) fn stands_for<X: ReadText>(
         Err(NotRead::OutOfMemory) => return Err(Reason::OutOfMemory),
         Err(NotRead::Receipt(..)) => return Ok(Standing::Others),
     };
-    match judge_parts(alloc, read, true) {
-        Judgement::Merged(merged) => settle(alloc, own, merged),
+    match judge_parts(alloc, read, ALLOWED) {
+        Judgement::Merged(merged, _) => settle(alloc, own, merged),
         Judgement::InputTwice(merged, ..) => settle(alloc, own, merged),
         Judgement::OtherPlan(_) => Ok(Standing::Others),
         Judgement::Incomplete(_) => unreachable!(),

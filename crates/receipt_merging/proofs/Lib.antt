@@ -1,2 +1,3 @@
 pub mod Twice
 pub mod Firsts
+pub mod Judged

@@ -1,6 +1,7 @@
 -- What the receipts of parts say together.
-use Rattle.std.specs.Prelude.{◌≡◌, ◌<◌, ◌^◌, ◌-◌, ℕ, ◌+◌, Bool, true, false, ◌&&◌, List, [], ◌∷◌, ◌++◌, map, nat_lt, if◌then◌else◌}
+use Rattle.std.specs.Prelude.{◌^◌, ◌-◌, ℕ, ◌+◌, Bool, true, ◌&&◌, List, [], ◌∷◌, nat_lt, if◌then◌else◌}
 use Rattle.std.specs.List.{flat_map}
+use Rattle.receipt_merging.specs.Once.{each_once}
 use Rattle.table_receipts.specs.Values.{InputValue, ReceiptValue, receipt_value}
 use Rattle.table_receipts.specs.declared.receipt.RecordCounts.{RecordCounts}
 use Rattle.receipt_merging.specs.declared.parts.Part.{Part}
@@ -43,7 +44,11 @@ counts_from so_far (p ∷ ps) = counts_from (add_counts so_far p.receipt.records
 abbrev pub no_counts : RecordCounts
 no_counts = record { used = 0; options = 0; untimed = 0; backward = 0; unkeyed = 0; too_long = 0 }
 
--- none of them lost or passed over anything
+-- whether none of them lost or passed over anything
 abbrev pub all_complete : List PartValue → Bool
 all_complete [] = true
 all_complete (p ∷ ps) = p.receipt.complete && all_complete ps
+
+-- and no input comes twice
+abbrev pub is_complete : List PartValue → Bool
+is_complete parts = all_complete parts && each_once (inputs_in parts)

@@ -10,4 +10,4 @@ mod parts;
 pub use merging::{Judgement, MergedParts, judge_parts};
 pub use once::first_twice;
 pub use part_fault::PartFault;
-pub use parts::Part;
+pub use parts::{Allowed, Part};

@@ -1,13 +1,14 @@
 //! Receipts of parts, judged and merged.
 
-ghost use Rattle.std.specs.Prelude.{◌≡◌, ◌++◌, ◌&&◌, IfOk, map, string_bytes};
+ghost use Rattle.std.specs.Prelude.{◌≡◌, ◌++◌, ◌&&◌, List, IfOk, map, string_bytes};
 ghost use Rattle.table_receipts.specs.Values.{input_value};
-ghost use Rattle.receipt_merging.specs.Judging.{AreMerged, IsJudgementOf};
-ghost use Rattle.receipt_merging.specs.Parts.{add_counts as sum_counts, part_value};
+ghost use Rattle.receipt_merging.specs.Judging.{AreTogether, IsJudgementOf, MayBeMerged};
+ghost use Rattle.receipt_merging.specs.Once.{AreFound};
+ghost use Rattle.receipt_merging.specs.Parts.{PartValue, add_counts as sum_counts, all_complete, part_value};
 
 use crate::counts::{add_counts, no_records};
 use crate::once::first_twice;
-use crate::parts::{Part, first_incomplete, first_of_other_plan};
+use crate::parts::{Allowed, Part, first_incomplete, first_of_other_plan};
 use std::alloc::{AllocError, Global};
 use std::collections::VecDeque;
 use table_receipts::{InputReceipt, Receipt, RecordCounts};
@@ -21,14 +22,16 @@ pub struct MergedParts {
     pub records: RecordCounts,
     /// The names of the inputs that were left out of a part, in the order of the parts.
     pub left_out: Vec<String>,
-    /// Whether all are complete.
+    /// Whether all are complete, and no two inputs with data records have the same octets.
     pub complete: bool,
 }
 
 /// Whether parts may be merged.
 #[derive(Drop)]
 pub enum Judgement {
-    Merged(MergedParts),
+    /// They may. The inputs at these places among all inputs are the same, and have data records, if there are such: they are
+    /// counted twice.
+    Merged(MergedParts, Option<(usize, usize)>),
     /// The part at this place, counted from 0, has another plan.
     OtherPlan(usize),
     /// The part at this place isn't complete.
@@ -38,29 +41,52 @@ pub enum Judgement {
     OutOfMemory,
 }
 
-/// Judges the receipts of parts, and merges them. Parts that aren't complete are let through if `incomplete` says so.
-pub fn judge_parts(alloc: Global, parts: Vec<Part>, incomplete: bool) -> Judgement
-    ensures { IsJudgementOf incomplete (map part_value parts.items) result }
+/// Judges the receipts of parts, and merges them. Parts that aren't complete, and inputs that come twice, are let through if
+/// they are allowed.
+pub fn judge_parts(alloc: Global, parts: Vec<Part>, allowed: Allowed) -> Judgement
+    ensures { IsJudgementOf allowed (map part_value parts.items) result }
 {
     if let Some(place) = first_of_other_plan(&parts) {
         return Judgement::OtherPlan(place);
     }
-    if !incomplete && let Some(place) = first_incomplete(&parts) {
+    if !allowed.incomplete
+        && let Some(place) = first_incomplete(&parts)
+    {
         return Judgement::Incomplete(place);
     }
     let Ok(merged) = merge_parts(alloc, parts) else {
         return Judgement::OutOfMemory;
     };
     match first_twice(alloc, &merged.inputs) {
-        Ok(Some((first, second))) => Judgement::InputTwice(merged, first, second),
-        Ok(None) => Judgement::Merged(merged),
+        Ok(twice) => judge_twice(merged, twice, allowed),
         Err(AllocError) => Judgement::OutOfMemory,
+    }
+}
+
+// Judges whether parts may be merged of which these two inputs are the same, if there are such.
+fn judge_twice(merged: MergedParts, twice: Option<(usize, usize)>, allowed: Allowed) -> Judgement
+    ensures { (parts : List PartValue) → MayBeMerged allowed parts → AreTogether parts merged
+        → merged.complete ≡ all_complete parts → AreFound (map input_value merged.inputs.items) twice
+        → IsJudgementOf allowed parts result }
+{
+    let Some((first, second)) = twice else {
+        return Judgement::Merged(merged, None);
+    };
+    let merged = MergedParts {
+        complete: false,
+        ..merged
+    };
+    if allowed.twice {
+        Judgement::Merged(merged, Some((first, second)))
+    } else {
+        Judgement::InputTwice(merged, first, second)
     }
 }
 
 // What their receipts say together.
 fn merge_parts(alloc: Global, parts: Vec<Part>) -> Result<MergedParts, AllocError>
-    ensures { IfOk result (AreMerged (map part_value parts.items)) }
+    ensures { IfOk result (λ merged. AreTogether (map part_value parts.items) merged
+        × (merged.complete ≡ all_complete (map part_value parts.items))) }
 {
     let mut waiting = VecDeque::from_vec(parts);
     let mut merged = MergedParts {

@@ -6,7 +6,7 @@ ghost use Rattle.std.specs.Ordering.{nat_cmp};
 ghost use Rattle.std.specs.Prelude.{◌≡◌, List, map, length, IfNone, IfOk, IfSome};
 ghost use Rattle.table_receipts.specs.Values.{InputValue, input_value};
 ghost use Rattle.receipt_merging.specs.Noted.{AreNoted, IsSameAt, NotesOneMore};
-ghost use Rattle.receipt_merging.specs.Once.{AreSame, EachOnce};
+ghost use Rattle.receipt_merging.specs.Once.{AreFound};
 
 use std::alloc::{AllocError, Global};
 use std::collections::BTreeMap;
@@ -17,9 +17,7 @@ pub fn first_twice(
     alloc: Global,
     inputs: &[InputReceipt],
 ) -> Result<Option<(usize, usize)>, AllocError>
-    ensures none { IfOk result (λ twice. IfNone twice (EachOnce (map input_value inputs.now))) }
-    ensures some { IfOk result (λ twice. IfSome twice (λ found.
-        AreSame (map input_value inputs.now) found.0 found.1)) }
+    ensures { IfOk result (AreFound (map input_value inputs.now)) }
 {
     let mut places = BTreeMap::new(alloc);
     for (place, input) in inputs.iter().enumerate() {

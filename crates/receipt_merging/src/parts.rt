@@ -14,6 +14,15 @@ pub struct Part {
     pub has_plan: bool,
 }
 
+/// What parts are merged for all that. Either keeps the merged receipt from being complete.
+#[derive(Clone, Copy, Debug, PartialEq, Eq)]
+pub struct Allowed {
+    /// Parts that aren't complete.
+    pub incomplete: bool,
+    /// Inputs with data records that have the same octets: they are counted twice.
+    pub twice: bool,
+}
+
 /// The place of the first part of another plan, counted from 0.
 pub fn first_of_other_plan(parts: &[Part]) -> Option<usize>
     ensures some { IfSome result (IsFirstNot (λ p. p.has_plan) (map part_value parts.now)) }

@@ -7,5 +7,5 @@ pub returns-in-Some-clause-ok : goal.returns-in-Some-clause-ok
 returns-in-Some-clause-ok c = λ parts merged.
     lacks_it c.args.own.now parts (receipt_value c.in_ok-receipt.receipt) c.in_ok-receipt.ensures.ok (input_value c.in-Some.gone.now)
     (gone_of c.in_ok-receipt.receipt.inputs.items c.args.merged.inputs.items c.deref.result.now c.deref-2.result.now c.args.merged.left_out.items c.deref-3.result.now (inputs_in parts) (left_out_in parts)
-    c.first_gone.result c.in-Some.gone c.deref.ensures.value c.deref-2.ensures.value c.deref-3.ensures.value merged.inputs merged.left_out c.first_gone.ensures c.in-Some.is)
+    c.first_gone.result c.in-Some.gone c.deref.ensures.value c.deref-2.ensures.value c.deref-3.ensures.value merged.together.inputs merged.together.left_out c.first_gone.ensures c.in-Some.is)
     c.lacking.result c.lacking.ensures.ok

@@ -2,8 +2,8 @@ use Rattle.table_receipts.specs.Values.{input_value}
 use Rattle.receipt_merging.proofs.Twice.{noted_more, once_more, same_as_first, so_many}
 use Rattle.receipt_merging.proofs.once.first_twice.Goals as goal
 
-pub returns-in-Some-clause-some : goal.returns-in-Some-clause-some
-returns-in-Some-clause-some c =
+pub returns-in-Some : goal.returns-in-Some
+returns-in-Some c =
     same_as_first input_value c.args.inputs.now c.loop-place.place c.index-inputs-place.result c.loop-place-test.true c.index-inputs-place.is c.in-Some.first
     (rw c.in-Some.is at c.in_ok-first.ensures.same _ c.loop-place.invariant.noted)
 
