@@ -1,7 +1,7 @@
 use Rattle.std.proofs.Common.{◌∙◌, inl, refl, string_bytes, subst}
 use Rattle.report_writing.specs.Told.{AreToldTo}
-use Rattle.period_rounds.specs.Telling.{outcome_lines, outcome_paths}
-use Rattle.period_rounds.proofs.taking.take_and_tell.Goals as goal
+use Rattle.period_tables.specs.Telling.{outcome_lines, outcome_paths}
+use Rattle.period_tables.proofs.work.take_and_tell.Goals as goal
 
 pub returns-in-Ok-take_period : goal.returns-in-Ok-take_period
 returns-in-Ok-take_period g c = inl (record {

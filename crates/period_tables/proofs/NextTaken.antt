@@ -6,12 +6,12 @@ use Rattle.std.specs.declared.string.String.{String}
 use Rattle.recording_names.specs.declared.period.Period.{Period}
 use Rattle.period_tables.specs.Outcomes.{Views}
 use Rattle.report_writing.specs.declared.status.Status.TheVariants.{Well}
-use Rattle.period_rounds.specs.Rounds.{Settles, SettlesAtMost, is_settled}
-use Rattle.period_rounds.specs.Taking.{IsNext, TakesNext, TakesOne}
-use Rattle.period_rounds.specs.declared.rounds.Rounds.{Rounds}
-use Rattle.period_rounds.specs.declared.taking.Round.{Round}
-use Rattle.period_rounds.specs.declared.taking.Took.{Took}
-use Rattle.period_rounds.specs.declared.taking.Work.{Work}
+use Rattle.period_tables.specs.Rounds.{Settles, SettlesAtMost, is_settled}
+use Rattle.period_tables.specs.Taking.{IsNext, TakesNext, TakesOne}
+use Rattle.period_tables.specs.declared.rounds.Rounds.{Rounds}
+use Rattle.period_tables.specs.declared.work.Round.{Round}
+use Rattle.period_tables.specs.declared.work.Took.{Took}
+use Rattle.period_tables.specs.declared.work.Work.{Work}
 
 -- the answer of what settles it
 pub at_most : {A E : Type 0} (answer : Result A E) (begins : ℕ) (before after : Rounds) → OnOk answer (Settles begins before after) → OnErr answer (after ≡ before) → SettlesAtMost begins before after

@@ -3,15 +3,19 @@
 ghost use Rattle.std.specs.Prelude.{◌≡◌, string_bytes, IfOk};
 ghost use Rattle.report_writing.specs.Told.{AreToldTo};
 ghost use Rattle.period_tables.specs.Outcomes.{views};
-ghost use Rattle.period_rounds.specs.Taking.{TakesOne, settles};
-ghost use Rattle.period_rounds.specs.Telling.{label_text, outcome_lines, outcome_paths, outcome_status};
+ghost use Rattle.period_tables.specs.Taking.{TakesOne, settles};
+ghost use Rattle.period_tables.specs.Telling.{label_text, outcome_lines, outcome_paths, outcome_status};
 
+use crate::desk::Desk;
+use crate::outcome::Outcome;
+use crate::place::TablePlace;
+use crate::recordings::Recordings;
 use crate::rounds::Rounds;
+use crate::taking::take_period;
 use crate::telling::{tell_outcome, write_paths};
 use input_sources::OpenSource;
 use ipfix_session::Source;
 use period_collect::TableMaker;
-use period_tables::{Desk, Outcome, Recordings, TablePlace, take_period};
 use recording_names::{Period, period_name};
 use recording_periods::PeriodRule;
 use report_writing::{Status, WriteLines};

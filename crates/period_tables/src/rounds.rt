@@ -1,7 +1,7 @@
 //! What is known of periods from one round to the next.
 
 ghost use Rattle.std.specs.Prelude.{◌≡◌, ◌≤◌, OnErr, OnOk};
-ghost use Rattle.period_rounds.specs.Rounds.{AreNew, Begins, Settles, first_taken, is_settled, is_time as is_time_again};
+ghost use Rattle.period_tables.specs.Rounds.{AreNew, Begins, Settles, first_taken, is_settled, is_time as is_time_again};
 
 use recording_names::Period;
 use std::alloc::{AllocError, Global};

@@ -1,6 +1,6 @@
 //! Names of plans, texts that are no receipts, and the worst end.
 
-use period_rounds::{status_of_reason, tell_removal, tell_unlisted, worse_of};
+use period_tables::{status_of_reason, tell_removal, tell_unlisted, worse_of};
 use report_writing::{Reason, Status};
 use std::test::Fail;
 use tables_folder::{files_in_receipt, plan_name};

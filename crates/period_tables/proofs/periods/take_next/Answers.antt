@@ -1,7 +1,7 @@
 use Rattle.std.proofs.Common.{◌∙◌, sym}
 use Rattle.period_tables.specs.Outcomes.{views}
-use Rattle.period_rounds.proofs.NextTaken.{at_most, settled_next, unsettled_next}
-use Rattle.period_rounds.proofs.periods.take_next.Goals as goal
+use Rattle.period_tables.proofs.NextTaken.{at_most, settled_next, unsettled_next}
+use Rattle.period_tables.proofs.periods.take_next.Goals as goal
 
 pub returns-then-took : goal.returns-then-took
 returns-then-took g c =

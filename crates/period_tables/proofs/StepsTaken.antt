@@ -1,6 +1,6 @@
 -- Periods that were taken one after another.
 use Rattle.std.proofs.Common.{◌≡◌, List, [], ◌∷◌, length, refl, sym, subst, arith}
-use Rattle.period_rounds.specs.Taking.{Steps}
+use Rattle.period_tables.specs.Taking.{Steps}
 
 module _ {State A : Type 0} (Step : A → State → State → Type 0) where
   -- whatever is taken of those that are left, all of them were taken

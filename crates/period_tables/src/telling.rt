@@ -3,9 +3,9 @@
 ghost use Rattle.std.specs.Prelude.{◌≡◌};
 ghost use Rattle.report_writing.specs.Told.{AreToldTo};
 ghost use Rattle.report_writing.specs.Writing.{Tells};
-ghost use Rattle.period_rounds.specs.Telling.{outcome_lines, outcome_paths, outcome_status, path_line, period_line, reason_status, removal_line, removal_status, state_line, unlisted_lines, unread_words, worse};
+ghost use Rattle.period_tables.specs.Telling.{outcome_lines, outcome_paths, outcome_status, path_line, period_line, reason_status, removal_line, removal_status, state_line, unlisted_lines, unread_words, worse};
 
-use period_tables::Outcome;
+use crate::outcome::Outcome;
 use report_writing::{Reason, Status, Verbosity, WriteLines, write_not_had_because};
 use std::io;
 

@@ -1,9 +1,9 @@
 use Rattle.std.proofs.Common.{length}
 use Rattle.report_writing.specs.declared.status.Status.TheVariants.{Well}
 use Rattle.period_tables.specs.Outcomes.{views}
-use Rattle.period_rounds.specs.Taking.{IsStep}
-use Rattle.period_rounds.proofs.StepsTaken.{SoFar}
-use Rattle.period_rounds.proofs.periods.take_each.Given as goal
+use Rattle.period_tables.specs.Taking.{IsStep}
+use Rattle.period_tables.proofs.StepsTaken.{SoFar}
+use Rattle.period_tables.proofs.periods.take_each.Given as goal
 
 abbrev pub invariant-loop-period : goal.invariant-loop-period
 invariant-loop-period g l =

@@ -1,4 +1,4 @@
-//! Tests of `period_rounds`, `period_tables`, `period_collect` and `tables_folder` together. They stand in a crate of their own,
+//! Tests of `period_tables`, `period_collect` and `tables_folder` together. They stand in a crate of their own,
 //! so that they are proved without the libraries being proved a second time.
 #![tactic(auto)]
 

@@ -2,7 +2,7 @@
 use Rattle.std.specs.Prelude.{◌≡◌, ◌≢◌, ◌⊎◌, ℕ, ◌-◌, Bool, true, false, if◌then◌else◌, nat_le, nat_lt, ◌||◌, MatchBool, Option, Some, None}
 use Rattle.std.specs.BTreeSet.{contains}
 use Rattle.std.specs.Ordering.{nat_cmp}
-use Rattle.period_rounds.specs.declared.rounds.Rounds.{Rounds}
+use Rattle.period_tables.specs.declared.rounds.Rounds.{Rounds}
 
 -- so many seconds after the last time, or if the clock is before it
 abbrev pub is_time : Option ℕ → ℕ → ℕ → Bool

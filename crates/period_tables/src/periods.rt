@@ -1,14 +1,15 @@
 //! Taking periods one after another.
 
 ghost use Rattle.period_tables.specs.Outcomes.{views};
-ghost use Rattle.period_rounds.specs.Taking.{Takes, TakesEach, TakesNext};
+ghost use Rattle.period_tables.specs.Taking.{Takes, TakesEach, TakesNext};
 
-use crate::taking::{Round, Work, take_and_tell};
+use crate::place::TablePlace;
+use crate::recordings::Recordings;
 use crate::telling::{status_of_reason, tell_unlisted, worse_of};
+use crate::work::{Round, Work, take_and_tell};
 use input_sources::OpenSource;
 use ipfix_session::Source;
 use period_collect::TableMaker;
-use period_tables::{Recordings, TablePlace};
 use recording_names::Period;
 use report_writing::{Status, WriteLines};
 use std::rt::Clock;

@@ -1,7 +1,7 @@
 use Rattle.std.proofs.Common.{inl, inr, refl, subst}
 use Rattle.period_tables.specs.Outcomes.{views}
-use Rattle.period_rounds.specs.Taking.{TakesEach}
-use Rattle.period_rounds.proofs.periods.take_periods.Goals as goal
+use Rattle.period_tables.specs.Taking.{TakesEach}
+use Rattle.period_tables.proofs.periods.take_periods.Goals as goal
 
 pub returns-in-Ok : goal.returns-in-Ok
 returns-in-Ok g c =

@@ -12,11 +12,11 @@ use Rattle.report_writing.specs.Told.{AreToldTo}
 use Rattle.report_writing.specs.declared.reason.Reason.{Reason}
 use Rattle.report_writing.specs.declared.status.Status.{Status}
 use Rattle.report_writing.specs.declared.status.Status.TheVariants.{Failed, Well}
-use Rattle.period_rounds.specs.Rounds.{SettlesAtMost, is_settled}
-use Rattle.period_rounds.specs.Telling.{label_text, outcome_lines, outcome_paths, outcome_status, reason_status, unlisted_lines, worse}
-use Rattle.period_rounds.specs.declared.taking.Round.{Round}
-use Rattle.period_rounds.specs.declared.taking.Took.{Took}
-use Rattle.period_rounds.specs.declared.taking.Work.{Work}
+use Rattle.period_tables.specs.Rounds.{SettlesAtMost, is_settled}
+use Rattle.period_tables.specs.Telling.{label_text, outcome_lines, outcome_paths, outcome_status, reason_status, unlisted_lines, worse}
+use Rattle.period_tables.specs.declared.work.Round.{Round}
+use Rattle.period_tables.specs.declared.work.Took.{Took}
+use Rattle.period_tables.specs.declared.work.Work.{Work}
 
 -- nothing is to be done for it before all days are looked at again
 abbrev pub settles : Outcome → Bool

@@ -1,9 +1,9 @@
 use Rattle.std.proofs.Common.{◌≡◌, ◌∷◌, length, arith, rules}
 use Rattle.report_writing.specs.declared.status.Status.TheVariants.{Well}
 use Rattle.period_tables.specs.Outcomes.{views}
-use Rattle.period_rounds.specs.Taking.{IsStep}
-use Rattle.period_rounds.proofs.StepsTaken.{at_end, one_more}
-use Rattle.period_rounds.proofs.periods.take_each.Goals as goal
+use Rattle.period_tables.specs.Taking.{IsStep}
+use Rattle.period_tables.proofs.StepsTaken.{at_end, one_more}
+use Rattle.period_tables.proofs.periods.take_each.Goals as goal
 
 pub loop-period-init : goal.loop-period-init
 loop-period-init g c = λ after steps. steps
