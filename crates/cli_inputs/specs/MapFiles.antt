@@ -5,9 +5,9 @@ use Rattle.report_writing.specs.declared.reason.Reason.{Reason}
 use Rattle.report_writing.specs.declared.status.Status.{Status}
 use Rattle.report_writing.specs.declared.status.Status.TheVariants.{Well, SessionFault, NotOpened, Failed}
 use Rattle.report_writing.specs.declared.verbosity.Verbosity.{Verbosity}
-use Rattle.flow_plan_maps.specs.declared.named.NamedKey.{NamedKey}
-use Rattle.flow_plan_maps.specs.declared.named.NamedMap.{NamedMap}
-use Rattle.flow_plan_maps.specs.declared.named.PlanMaps.{PlanMaps}
+use Rattle.flow_plan_fields.specs.declared.named.NamedKey.{NamedKey}
+use Rattle.flow_plan_fields.specs.declared.named.NamedMap.{NamedMap}
+use Rattle.flow_plan_fields.specs.declared.named.PlanMaps.{PlanMaps}
 use Rattle.flow_collect.specs.declared.fault.CollectFault.TheVariants.{OutOfMemory}
 use Rattle.command_collect.specs.CollectLines.{collect_fault_line}
 use Rattle.input_sources.specs.MapsLoaded.{AreMapsOf, TellsNoMaps}

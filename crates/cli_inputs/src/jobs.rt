@@ -4,12 +4,12 @@ ghost use Rattle.std.specs.Prelude.{◌≡◌};
 ghost use Rattle.std.specs.Option.{option_map};
 ghost use Rattle.flow_filtered_plan.specs.FilteredPlans.{filter_of};
 ghost use Rattle.flow_times.specs.Noted.{noted_under};
-ghost use Rattle.flow_plan_maps.specs.Wants.{refuses_sampled as is_refusing, wanted_context as context_wanted, wanted_options as options_wanted};
+ghost use Rattle.flow_plan_fields.specs.Wants.{refuses_sampled as is_refusing, wanted_context as context_wanted, wanted_options as options_wanted};
 
 use crate::arguments::TableArguments;
 use command_collect::{CollectJob, Engine};
 use flow_maps::Maps;
-use flow_plan_maps::{refuses_sampled, wanted_context, wanted_options};
+use flow_plan_fields::{refuses_sampled, wanted_context, wanted_options};
 use flow_times::TimeNoting;
 use input_sources::LoadedPlan;
 use std::net::IpAddr;

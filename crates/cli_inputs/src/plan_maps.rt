@@ -9,7 +9,7 @@ ghost use Rattle.cli_inputs.specs.MapFiles.{AreMapsOfPlan, HasNoMaps, folder_of,
 
 use command_collect::write_collect_fault;
 use flow_collect::CollectFault;
-use flow_plan_maps::{NamedMap, PlanMaps};
+use flow_plan_fields::{NamedMap, PlanMaps};
 use input_files::ReadText;
 use input_sources::load_maps;
 use receipt_maps::{MapsOfPlan, maps_with};

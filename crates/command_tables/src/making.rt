@@ -2,8 +2,8 @@
 
 ghost use Rattle.std.specs.Prelude.{◌≡◌, ◌*◌, drop, length};
 ghost use Rattle.std.specs.Option.{option_map};
-ghost use Rattle.period_rounds.specs.Rounds.{first_taken};
-ghost use Rattle.period_rounds.specs.Telling.{reason_status};
+ghost use Rattle.period_tables.specs.Rounds.{first_taken};
+ghost use Rattle.period_tables.specs.Telling.{reason_status};
 
 use crate::opening::{check_engine, name_plans, open_tables};
 use crate::plans::{PlanDays, PlanTexts, PlanWork, TablesWork, keep_plans, open_plans, read_plans};
@@ -11,7 +11,7 @@ use crate::removing::remove_old;
 use cli_inputs::{TablesArguments, known_zones, zone_of_days};
 use command_collect::Engine;
 use period_days::{days_of, place_periods, take_day_of, take_day_text};
-use period_rounds::{Round, Rounds, status_of_reason, take_periods, tell_unlisted, worse_of};
+use period_tables::{Round, Rounds, status_of_reason, take_periods, tell_unlisted, worse_of};
 use period_texts::take_text_of;
 use recording_folder::second_now;
 use recording_names::Period;

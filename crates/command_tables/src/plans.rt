@@ -3,7 +3,7 @@
 ghost use Rattle.std.specs.Prelude.{◌≡◌, IfErr, IfOk, map};
 ghost use Rattle.std.specs.List.{AllZip};
 ghost use Rattle.cli_inputs.specs.Formats.{format_word};
-ghost use Rattle.period_rounds.specs.Rounds.{AreNew};
+ghost use Rattle.period_tables.specs.Rounds.{AreNew};
 ghost use Rattle.tables_folder.specs.PlanPlaces.{HasTablesOf};
 ghost use Rattle.command_tables.specs.Plans.{AreDayTextsOf, AreLocalOf, AreTextsOf, IsDaysOf, IsTextJob, IsWorkOf, tables_of as tables_for};
 
@@ -18,8 +18,7 @@ use local_days::LocalInterval;
 use output_tables::Output;
 use period_collect::{PeriodJob, TableMaker};
 use period_days::{Calendar, DayJob, DayTables, DayTexts};
-use period_rounds::{Rounds, Work};
-use period_tables::Desk;
+use period_tables::{Desk, Rounds, Work};
 use period_texts::{TextJob, Texts};
 use recording_folder::Folder;
 use report_writing::{CheckedWriter, Status};

@@ -2,8 +2,9 @@
 
 use crate::making::TablesRun;
 use crate::plans::PlanWork;
-use period_rounds::{status_of_reason, tell_removal, tell_unlisted, worse_of};
-use period_tables::{Recordings, TablePlace};
+use period_tables::{
+    Recordings, TablePlace, status_of_reason, tell_removal, tell_unlisted, worse_of,
+};
 use recording_names::{Period, period_name};
 use recording_periods::{is_old, may_remove};
 use report_writing::{CheckedWriter, Reason, Status};

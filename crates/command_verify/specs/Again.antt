@@ -2,7 +2,7 @@
 use Rattle.std.specs.Prelude.{◌≡◌, ◌≢◌, ◌⊎◌, ℕ, List, [], ◌++◌, All, Option, None, Some, map}
 use Rattle.element_registry.specs.Registries.{Known}
 use Rattle.flow_maps.specs.declared.maps.Maps.{Maps}
-use Rattle.flow_plan_maps.specs.declared.named.NamedKey.{NamedKey}
+use Rattle.flow_plan_fields.specs.declared.named.NamedKey.{NamedKey}
 use Rattle.input_sources.specs.Had.{IsUnread, PathsAreOpened}
 use Rattle.input_sources.specs.MapsLoaded.{AreMapsOf, TellsNoMaps}
 use Rattle.input_sources.specs.Origins.{AreFiles}

@@ -7,7 +7,7 @@ ghost use Rattle.command_verify.specs.Again.{AreMapsNamed, HasNoMaps, names_of a
 ghost use Rattle.command_verify.specs.Verified.{memory_line};
 
 use crate::telling::tell_fault;
-use flow_plan_maps::NamedKey;
+use flow_plan_fields::NamedKey;
 use input_files::ReadText;
 use input_sources::load_maps;
 use receipt_maps::{MapsOfPlan, maps_with};

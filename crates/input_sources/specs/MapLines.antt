@@ -3,10 +3,10 @@ use Rattle.std.specs.Prelude.{ℕ, List, [], ◌++◌, codes, decimal}
 use Rattle.element_registry.specs.Faults as elements
 use Rattle.element_registry.specs.Registries.{Known}
 use Rattle.element_registry.specs.declared.fault.ElementsFault.{ElementsFault}
-use Rattle.flow_plan_maps.specs.declared.error.MapTableFault.{MapTableFault}
-use Rattle.flow_plan_maps.specs.declared.error.MapTableFault.TheVariants.{NoTable, UnknownKey, NoName, NoFile, NameTwice}
-use Rattle.flow_plan_maps.specs.declared.error.PlanMapsError.{PlanMapsError}
-use Rattle.flow_plan_maps.specs.declared.error.PlanMapsError.TheVariants.{Document, NoMaps, Map}
+use Rattle.flow_plan_fields.specs.declared.error.MapTableFault.{MapTableFault}
+use Rattle.flow_plan_fields.specs.declared.error.MapTableFault.TheVariants.{NoTable, UnknownKey, NoName, NoFile, NameTwice}
+use Rattle.flow_plan_fields.specs.declared.error.PlanMapsError.{PlanMapsError}
+use Rattle.flow_plan_fields.specs.declared.error.PlanMapsError.TheVariants.{Document, NoMaps, Map}
 use Rattle.prefix_numbers.specs.Faults as files
 use Rattle.prefix_numbers.specs.declared.error.MapError.{MapError}
 use Rattle.prefix_numbers.specs.declared.error.MapFault.{MapFault}

@@ -7,14 +7,14 @@ use Rattle.flow_filtered_plan.specs.Errors.{IsFilteredPlanError}
 use Rattle.flow_filtered_plan.specs.FilteredPlans.{IsFilteredPlanOf}
 use Rattle.flow_filtered_plan.specs.declared.filtered_plan.FilteredPlan.{FilteredPlan}
 use Rattle.flow_filtered_plan.specs.declared.place.FilteredPlanError.{FilteredPlanError}
-use Rattle.flow_plan_estimates.specs.Tables.{IsNoTablePlan, IsTablePlan}
-use Rattle.flow_plan_estimates.specs.declared.scaling.ScalingFault.{ScalingFault}
-use Rattle.flow_plan_estimates.specs.declared.table_plans.TablePlan.{TablePlan}
-use Rattle.flow_plan_maps.specs.Errors.{AreNoPlanMaps, ArePlanMaps}
-use Rattle.flow_plan_maps.specs.Keys.{KeyValue, key_value}
-use Rattle.flow_plan_maps.specs.Known.{with_keys}
-use Rattle.flow_plan_maps.specs.declared.error.PlanMapsError.{PlanMapsError}
-use Rattle.flow_plan_maps.specs.declared.named.PlanMaps.{PlanMaps}
+use Rattle.flow_plan_fields.specs.Tables.{IsNoTablePlan, IsTablePlan}
+use Rattle.flow_plan_fields.specs.declared.scaling.ScalingFault.{ScalingFault}
+use Rattle.flow_plan_fields.specs.declared.table_plans.TablePlan.{TablePlan}
+use Rattle.flow_plan_fields.specs.Errors.{AreNoPlanMaps, ArePlanMaps}
+use Rattle.flow_plan_fields.specs.Keys.{KeyValue, key_value}
+use Rattle.flow_plan_fields.specs.Known.{with_keys}
+use Rattle.flow_plan_fields.specs.declared.error.PlanMapsError.{PlanMapsError}
+use Rattle.flow_plan_fields.specs.declared.named.PlanMaps.{PlanMaps}
 use Rattle.report_writing.specs.OpeningLines.{not_had_lines}
 use Rattle.input_sources.specs.MapLines.{key_lines, map_lines}
 use Rattle.input_sources.specs.ScalingLines.{scaling_lines}

@@ -1,8 +1,8 @@
 -- The lines of a fault of what a plan says of sampling.
 use Rattle.std.specs.Prelude.{ℕ, List, ◌++◌, codes}
 use Rattle.element_registry.specs.declared.fault.ElementsFault.TheVariants.{NumberTwice, NameTwice, TooMany}
-use Rattle.flow_plan_estimates.specs.declared.scaling.ScalingFault.{ScalingFault}
-use Rattle.flow_plan_estimates.specs.declared.scaling.ScalingFault.TheVariants.{Counter, Elements, Plan, OutOfMemory}
+use Rattle.flow_plan_fields.specs.declared.scaling.ScalingFault.{ScalingFault}
+use Rattle.flow_plan_fields.specs.declared.scaling.ScalingFault.TheVariants.{Counter, Elements, Plan, OutOfMemory}
 use Rattle.report_writing.specs.FaultLines.{fault_text}
 use Rattle.input_sources.specs.PlaceLines.{key_line}
 

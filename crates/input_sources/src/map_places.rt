@@ -11,7 +11,7 @@ ghost use Rattle.input_sources.specs.PlaceLines.{key_line, words_end};
 use crate::places::{write_key_line, write_words_end};
 use crate::plan_fault::write_plan_fault;
 use element_registry::{Elements, ElementsFault};
-use flow_plan_maps::{MapTableFault, PlanMapsError};
+use flow_plan_fields::{MapTableFault, PlanMapsError};
 use prefix_numbers::{MapError, MapFault};
 use report_writing::{WriteLines, write_fault};
 use std::io;

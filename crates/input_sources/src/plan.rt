@@ -3,7 +3,7 @@
 ghost use Rattle.std.specs.Prelude.{ℕ, List, IfNone, IfSome, ◌≡◌};
 ghost use Rattle.std.specs.Option.{ForSome};
 ghost use Rattle.flow_table.specs.Plans.{IsPlan};
-ghost use Rattle.flow_plan_estimates.specs.Tables.{IsSaid};
+ghost use Rattle.flow_plan_fields.specs.Tables.{IsSaid};
 ghost use Rattle.report_writing.specs.Told.{AreToldTo};
 ghost use Rattle.input_sources.specs.PlansTold.{IsLoaded, TellsNoPlan, TellsNoText, table_of};
 
@@ -13,8 +13,7 @@ use crate::plan_fault::write_filtered_fault;
 use crate::scaling_fault::write_scaling_fault;
 use element_registry::Elements;
 use flow_filtered_plan::read_filtered_plan;
-use flow_plan_estimates::{TablePlan, table_plan};
-use flow_plan_maps::{PlanMaps, add_map_keys, read_plan_maps};
+use flow_plan_fields::{PlanMaps, TablePlan, add_map_keys, read_plan_maps, table_plan};
 use input_files::ReadText;
 use report_writing::{Verbosity, WriteLines, write_not_had_because};
 use std::alloc::Global;

@@ -7,7 +7,7 @@ ghost use Rattle.report_writing.specs.Writing.{Tells};
 
 use crate::places::write_key_line;
 use element_registry::ElementsFault;
-use flow_plan_estimates::ScalingFault;
+use flow_plan_fields::ScalingFault;
 use report_writing::{WriteLines, write_fault};
 use std::io;
 

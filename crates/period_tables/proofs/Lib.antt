@@ -1,1 +1,3 @@
 pub mod OutcomeLemmas
+pub mod NextTaken
+pub mod StepsTaken

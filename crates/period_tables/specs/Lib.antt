@@ -2,3 +2,6 @@
 pub mod Listings
 pub mod Standing
 pub mod Outcomes
+pub mod Telling
+pub mod Rounds
+pub mod Taking

@@ -6,10 +6,10 @@ use Rattle.recording_names.specs.declared.period.Period.{Period}
 use Rattle.report_writing.specs.Told.{AreToldTo}
 use Rattle.report_writing.specs.declared.status.Status.{Status}
 use Rattle.report_writing.specs.declared.status.Status.TheVariants.{Failed, Well}
-use Rattle.period_rounds.specs.Rounds.{SettlesAtMost, is_settled}
-use Rattle.period_rounds.specs.Telling.{label_text}
-use Rattle.period_rounds.specs.declared.taking.Round.{Round}
-use Rattle.period_rounds.specs.declared.taking.Work.{Work}
+use Rattle.period_tables.specs.Rounds.{SettlesAtMost, is_settled}
+use Rattle.period_tables.specs.Telling.{label_text}
+use Rattle.period_tables.specs.declared.work.Round.{Round}
+use Rattle.period_tables.specs.declared.work.Work.{Work}
 use Rattle.period_texts.specs.Outcomes.{IsTextOutcome, TextViews}
 use Rattle.period_texts.specs.Telling.{text_lines, text_paths, text_status}
 use Rattle.period_texts.specs.declared.job.TextJob.{TextJob}

@@ -4,7 +4,7 @@ use Rattle.flow_export.specs.declared.fault.ExportFault.TheVariants.{TooManyRows
 use Rattle.report_writing.specs.Reasons.{words_of}
 use Rattle.report_writing.specs.declared.status.Status.{Status}
 use Rattle.report_writing.specs.declared.status.Status.TheVariants.{Well, Failed}
-use Rattle.period_rounds.specs.Telling.{path_line, period_line, reason_status, unread_words}
+use Rattle.period_tables.specs.Telling.{path_line, period_line, reason_status, unread_words}
 use Rattle.period_texts.specs.declared.fault.TextFault.{TextFault}
 use Rattle.period_texts.specs.declared.fault.TextFault.TheVariants as faults
 use Rattle.period_texts.specs.declared.taking.TextOutcome.{TextOutcome}

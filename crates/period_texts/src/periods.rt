@@ -8,8 +8,7 @@ use crate::job::TextJob;
 use crate::taking::take_text;
 use crate::telling::{tell_text, write_text_path};
 use ipfix_session::{FromReader, Source};
-use period_rounds::{Round, Rounds, Work, label_of};
-use period_tables::TablePlace;
+use period_tables::{Round, Rounds, TablePlace, Work, label_of};
 use recording_names::{Period, period_name};
 use report_writing::{Status, WriteLines};
 

@@ -8,7 +8,7 @@ ghost use Rattle.period_texts.specs.Telling.{fault_status, fault_words, text_lin
 use crate::fault::TextFault;
 use crate::taking::TextOutcome;
 use flow_export::ExportFault;
-use period_rounds::{status_of_reason, words_of_unread, write_path, write_period};
+use period_tables::{status_of_reason, words_of_unread, write_path, write_period};
 use report_writing::{Status, WriteLines};
 use std::io;
 

@@ -3,8 +3,8 @@ use Rattle.std.specs.Prelude.{◌≡◌, ℕ, List, [], ◌∷◌, map, Option, 
 use Rattle.table_receipts.specs.Values.{FileValue, file_value}
 use Rattle.table_receipts.specs.declared.receipt.FileReceipt.{FileReceipt}
 use Rattle.flow_maps.specs.declared.maps.Maps.{Maps}
-use Rattle.flow_plan_maps.specs.Keys.{map_key_value}
-use Rattle.flow_plan_maps.specs.declared.named.NamedKey.{NamedKey}
+use Rattle.flow_plan_fields.specs.Keys.{map_key_value}
+use Rattle.flow_plan_fields.specs.declared.named.NamedKey.{NamedKey}
 use Rattle.input_sources.specs.declared.maps.LoadedMap.{LoadedMap}
 use Rattle.receipt_maps.specs.declared.maps.MapsOfPlan.{MapsOfPlan}
 

@@ -6,7 +6,7 @@ ghost use Rattle.input_sources.specs.declared.maps.LoadedMap.{LoadedMap as Loade
 ghost use Rattle.receipt_maps.specs.MapsTold.{AreMapsWith, file_told, files_told};
 
 use flow_maps::Maps;
-use flow_plan_maps::{NamedKey, map_keys};
+use flow_plan_fields::{NamedKey, map_keys};
 use input_sources::LoadedMap;
 use prefix_numbers::PrefixMap;
 use std::alloc::{AllocError, Global};

@@ -8,7 +8,7 @@ use Rattle.flow_collect.specs.Texts.{AreTexts}
 use Rattle.flow_export.specs.declared.format.Format.{Format}
 use Rattle.flow_export.specs.declared.format.Format.TheVariants.{Csv, Json, Ipfix}
 use Rattle.flow_filtered_plan.specs.FilteredPlans.{filter_of}
-use Rattle.flow_plan_maps.specs.Wants.{refuses_sampled, wanted_context, wanted_options}
+use Rattle.flow_plan_fields.specs.Wants.{refuses_sampled, wanted_context, wanted_options}
 use Rattle.ipfix_session.specs.Given.{IsPrefix}
 use Rattle.ipfix_session.specs.Sources.{SourceView}
 use Rattle.output_tables.specs.TableTexts.{export_text}

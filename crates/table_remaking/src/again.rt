@@ -11,7 +11,7 @@ use command_collect::{CollectJob, Engine};
 use command_receipt::{MadeWith, Remade, RemakeFault, remake};
 use flow_export::Format;
 use flow_maps::Maps;
-use flow_plan_maps::{refuses_sampled, wanted_context, wanted_options};
+use flow_plan_fields::{refuses_sampled, wanted_context, wanted_options};
 use flow_times::TimeNoting;
 use input_sources::LoadedPlan;
 use ipfix_session::Source;

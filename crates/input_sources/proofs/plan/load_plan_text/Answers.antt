@@ -1,7 +1,7 @@
 use Rattle.std.proofs.Common.{◌≡◌, Option, ap, inl, inr, subst, sym}
 use Rattle.std.specs.Prelude.{unwrap_or}
-use Rattle.flow_plan_estimates.specs.declared.table_plans.TablePlan.{TablePlan}
-use Rattle.flow_plan_maps.specs.declared.named.PlanMaps.{PlanMaps}
+use Rattle.flow_plan_fields.specs.declared.table_plans.TablePlan.{TablePlan}
+use Rattle.flow_plan_fields.specs.declared.named.PlanMaps.{PlanMaps}
 use Rattle.report_writing.proofs.LinesTold.{is_told}
 use Rattle.input_sources.specs.PlansTold.{IsLoaded, table_of}
 use Rattle.input_sources.specs.declared.loaded_plan.LoadedPlan.{LoadedPlan}

@@ -1,6 +1,6 @@
 use Rattle.std.proofs.Common.{inl, refl, string_bytes, subst, true}
 use Rattle.report_writing.specs.Told.{AreToldTo}
-use Rattle.period_rounds.specs.Telling.{outcome_lines, outcome_paths}
+use Rattle.period_tables.specs.Telling.{outcome_lines, outcome_paths}
 use Rattle.period_days.proofs.day_tables.take_and_tell.Goals as goal
 
 pub returns : goal.returns

@@ -1,3 +1,0 @@
--- What public contracts cite.
-pub mod Scaled
-pub mod Tables

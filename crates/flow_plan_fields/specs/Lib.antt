@@ -1,0 +1,8 @@
+-- What public contracts cite.
+pub mod Maps
+pub mod Keys
+pub mod Known
+pub mod Wants
+pub mod Errors
+pub mod Scaled
+pub mod Tables

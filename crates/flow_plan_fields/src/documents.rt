@@ -1,0 +1,103 @@
+//! What stands in a document where maps and keys do.
+
+ghost use Rattle.std.specs.Prelude.{◌≡◌, ◌++◌, [], map, unwrap_or, IfOk, OnOk};
+ghost use Rattle.std.specs.List.{flat_map};
+ghost use Rattle.std.specs.Option.{option_map};
+ghost use Rattle.toml.specs.Data.{get_member};
+ghost use Rattle.toml.specs.View.{table_view, view};
+ghost use Rattle.flow_filtered_plan.specs.FilteredPlans.{where_key};
+ghost use Rattle.flow_plan.specs.Shown.{texts_of};
+ghost use Rattle.flow_plan_fields.specs.Keys as keys_of;
+ghost use Rattle.flow_plan_fields.specs.Maps.{array_values, text_at as text_in};
+
+use flow_plan::texts_in;
+use std::alloc::{AllocError, Global};
+use toml::{Table, Value};
+
+/// The value of a key of a document.
+pub fn value_at<'a>(table: &'a Table, key: &str) -> Option<&'a Value>
+    ensures { option_map (λ value. view value.now) result ≡ get_member key.now (table_view table.now) }
+{
+    table.get(key)
+}
+
+/// The text of a key of a document, if it is one.
+pub fn text_at<'a>(table: &'a Table, key: &str) -> Option<&'a str>
+    ensures { option_map (λ text. text.now) result ≡ text_in key.now (table_view table.now) }
+{
+    match value_at(table, key) {
+        Some(value) => value.as_str(),
+        None => None,
+    }
+}
+
+/// The values of a key of a document that is an array, none if it is missing, and `None` if it is no array.
+#[tactic(auto, using(flow_filtered_plan::proofs::Listed::values_view))]
+pub fn values_at<'a>(table: &'a Table, key: &str) -> Option<&'a [Value]>
+    ensures { option_map (λ values. map view values.now) result
+        ≡ array_values (get_member key.now (table_view table.now)) }
+{
+    match value_at(table, key) {
+        Some(value) => Some(value.as_array()?.as_slice()),
+        None => Some(&[]),
+    }
+}
+
+/// The texts that may be keys of maps: those of the document's keys, and the elements of its conditions.
+pub fn key_texts(alloc: Global, table: &Table) -> Result<Vec<&str>, AllocError>
+    ensures { IfOk result (λ texts. texts_of texts ≡ keys_of.key_texts (table_view table.now)) }
+{
+    let mut texts = texts_of_keys(alloc, table)?;
+    push_elements(conditions_of(table), &mut texts)?;
+    Ok(texts)
+}
+
+// The conditions of a document; what is no array has none.
+fn conditions_of(table: &Table) -> &[Value]
+    ensures { map view result.now
+        ≡ unwrap_or (array_values (get_member where_key (table_view table.now))) [] }
+{
+    match values_at(table, "where") {
+        Some(values) => values,
+        None => &[],
+    }
+}
+
+fn texts_of_keys(alloc: Global, table: &Table) -> Result<Vec<&str>, AllocError>
+    ensures { IfOk result (λ texts. texts_of texts ≡ keys_of.texts_of_keys (table_view table.now)) }
+{
+    let Some(value) = value_at(table, "keys") else {
+        return Ok(Vec::new(alloc));
+    };
+    match texts_in(alloc, value)? {
+        Some(texts) => Ok(texts),
+        None => Ok(Vec::new(alloc)),
+    }
+}
+
+// Appends the elements of conditions.
+fn push_elements<'a>(
+    mut conditions: &'a [Value],
+    texts: &mut Vec<&'a str>,
+) -> Result<(), AllocError>
+    ensures { OnOk result (texts_of texts.new ≡ texts_of texts.old
+        ++ flat_map (λ value. keys_of.in_option (keys_of.element_text value)) (map view conditions.entry.now)) }
+{
+    while let [condition, rest @ ..] = conditions {
+        if let Some(text) = element_text(condition) {
+            texts.push(text)?;
+        }
+        conditions = rest;
+    }
+    Ok(())
+}
+
+// The element of a condition.
+fn element_text(condition: &Value) -> Option<&str>
+    ensures { option_map (λ text. text.now) result ≡ keys_of.element_text (view condition.now) }
+{
+    match condition.as_table() {
+        Some(table) => text_at(table, "element"),
+        None => None,
+    }
+}

@@ -1,6 +1,0 @@
--- What public contracts cite.
-pub mod Maps
-pub mod Keys
-pub mod Known
-pub mod Wants
-pub mod Errors

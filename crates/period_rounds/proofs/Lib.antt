@@ -1,2 +1,0 @@
-pub mod NextTaken
-pub mod StepsTaken

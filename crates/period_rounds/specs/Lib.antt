@@ -1,4 +1,0 @@
--- What contracts cite.
-pub mod Telling
-pub mod Rounds
-pub mod Taking

@@ -1,0 +1,26 @@
+use Rattle.std.proofs.Common.{inl, inr, refl, subst}
+use Rattle.period_tables.specs.Outcomes.{views}
+use Rattle.period_tables.specs.Taking.{TakesEach}
+use Rattle.period_tables.proofs.periods.take_periods.Goals as goal
+
+pub returns-in-Ok : goal.returns-in-Ok
+returns-in-Ok g c =
+    let begun = record c.args.work.now { desk = record c.args.work.now.desk { folder = c.unfinished.new.self } } in
+    inl (record {
+      unfinished = c.in-Ok.unfinished.items;
+      begun = begun;
+      lists = c.in-Ok.ensures.ok;
+      rest = refl;
+      takes = subst (λ names. TakesEach (views g.F.Recordings.listed g.F.Recordings.refuses g.S.Source.seen g.S.Source.failure g.O.OpenSource.opens g.O.OpenSource.sizes g.O.OpenSource.refuses g.O.OpenSource.coming g.E.WriteLines.contents g.E.WriteLines.failed g.T.TablePlace.table g.T.TablePlace.receipt g.T.TablePlace.refuses) g.T.TablePlace.path g.P.WriteLines.contents g.P.WriteLines.failed g.L.WriteLines.contents g.L.WriteLines.failed
+          c.args.round names c.args.periods.now c.take_each.result begun c.take_each.new.work) c.deref.ensures.value c.take_each.ensures;
+    })
+
+pub returns-in-Err : goal.returns-in-Err
+returns-in-Err g c = inr (record {
+  reason = c.in-Err.reason;
+  why = c.in-Err.ensures.reason;
+  none = c.in-Err.ensures.err;
+  rest = refl;
+  lines = c.tell_unlisted.ensures;
+  status_is = c.status_of_reason.ensures;
+})
