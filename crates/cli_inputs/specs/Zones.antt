@@ -1,5 +1,5 @@
 -- The borders between local days or months, in a time zone.
-use Rattle.std.specs.Prelude.{◌≡◌, ℕ, List, codes, Option, Some, None}
+use Rattle.std.specs.Prelude.{◌≡◌, ℕ, List, codes, Option, Some, None, option_map}
 use Rattle.std.specs.Borrow.{Bor}
 use Rattle.jiff_tz.specs.Database.{lower, IsZoneNamed}
 use Rattle.jiff_tz.specs.declared.db.TimeZoneDatabase.{TimeZoneDatabase}
@@ -7,6 +7,10 @@ use Rattle.jiff_tz.specs.declared.timezone.TimeZone.{TimeZone}
 use Rattle.jiff_tz.specs.declared.timezone.TimeZone.TheVariants.{UTC}
 use Rattle.local_days.specs.LocalDays.{AreBorders}
 use Rattle.local_days.specs.declared.local_interval.LocalInterval.{LocalInterval}
+use Rattle.local_days.specs.declared.local_interval.LocalInterval.TheVariants.{Day, Month}
+use Rattle.table_receipts.specs.Values.{IntoValue}
+use Rattle.table_receipts.specs.declared.receipt.MergedInterval.{MergedInterval}
+use Rattle.table_receipts.specs.declared.receipt.MergedInterval.TheVariants as merged
 
 -- the name of the zone that is taken: UTC where none is named
 abbrev pub zone_name : Option (Bor (List ℕ)) → List ℕ
@@ -33,3 +37,11 @@ AreBordersFor None name None = Unit {0}
 AreBordersFor None name (Some borders) = ⊥
 AreBordersFor (Some interval) name None = ⊥
 AreBordersFor (Some interval) name (Some borders) = AreOfZone interval name borders
+
+abbrev pub merged_interval : LocalInterval → MergedInterval
+merged_interval Day = merged.Day
+merged_interval Month = merged.Month
+
+-- what a receipt says of the rows is into what they are merged, and in the zone of that name
+abbrev pub into_told : Option LocalInterval → List ℕ → Option IntoValue
+into_told into name = option_map (λ interval. record { interval = merged_interval interval; zone = name }) into

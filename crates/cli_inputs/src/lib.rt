@@ -37,4 +37,4 @@ pub use progress_output::ProgressOutput;
 pub use receipt_place::{CompareFiles, is_of_part};
 pub use receipts::{KnownElements, PlanMade, ReceiptTo, load_known, load_plan_made, merged_place};
 pub use refused::{WITH_REASONS, write_refused_output};
-pub use zones::{known_zones, zone_borders, zone_of_days};
+pub use zones::{known_zones, merged_into, zone_borders, zone_of_days};

@@ -5,16 +5,11 @@ use report_writing::Status;
 use std::alloc::{AllocError, Global};
 use std::io::{Stderr, Write};
 
-/// Sees to it that receipts are asked for if anything is said of them, that no file is standard input then, that the rows of
-/// a table with a receipt have the intervals of the plan, and that each word is FILE=RECEIPT, each FILE one of the paths,
-/// which stands in one word. If not, `err` has a line.
+/// Sees to it that receipts are asked for if anything is said of them, that no file is standard input then, and that each word
+/// is FILE=RECEIPT, each FILE one of the paths, which stands in one word. If not, `err` has a line.
 pub fn check_receipts(arguments: &MergeArguments, err: &mut Stderr) -> Result<(), Status> {
     if let Some(what) = wrong_without_receipts(arguments) {
         let _ = writeln!(err, "error: {what} is of no use without --receipts");
-        return Err(Status::NotOpened);
-    }
-    if arguments.receipt.is_some() && arguments.into.is_some() {
-        let _ = writeln!(err, "error: --receipt can't be given with --into");
         return Err(Status::NotOpened);
     }
     if arguments.receipts && arguments.paths.contains(&"-") {

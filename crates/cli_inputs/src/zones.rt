@@ -3,7 +3,10 @@
 ghost use Rattle.std.specs.Prelude.{◌≡◌, IfErr, IfOk, option_map};
 ghost use Rattle.std.specs.Option.{ForSome};
 ghost use Rattle.flow_merge.specs.RowRecords.{AreOrdered};
-ghost use Rattle.cli_inputs.specs.Zones.{AreBordersFor, AreOfZone, IsZoneOf, zone_name as name_of};
+ghost use Rattle.table_receipts.specs.Objects.{interval_name};
+ghost use Rattle.table_receipts.specs.Values.{into_value};
+ghost use Rattle.cli_inputs.specs.Formats.{interval_word};
+ghost use Rattle.cli_inputs.specs.Zones.{AreBordersFor, AreOfZone, IsZoneOf, into_told, merged_interval, zone_name as name_of};
 ghost use Rattle.jiff.specs.ZoneView.{plain_database, plain_zone};
 
 use input_files::ReadText;
@@ -12,6 +15,7 @@ use local_days::{LocalInterval, local_borders};
 use report_writing::{Status, write_fault};
 use std::alloc::{AllocError, Global};
 use std::io::{Stderr, Write};
+use table_receipts::{MergedInterval, MergedInto};
 
 /// Where the system has the rules of time zones, in files that have their names.
 const ZONE_FOLDER: &str = "/usr/share/zoneinfo";
@@ -41,6 +45,37 @@ pub fn zone_borders(
     match borders_in(rt, interval, zone_name(zone), err) {
         Ok(borders) => Ok(Some(borders)),
         Err(status) => Err(status),
+    }
+}
+
+/// Into what rows are merged, as a receipt tells it, if it is into local intervals.
+pub fn merged_into(
+    alloc: Global,
+    into: Option<LocalInterval>,
+    zone: Option<&str>,
+) -> Result<Option<MergedInto>, AllocError>
+    ensures told { IfOk result (λ found.
+        option_map into_value found ≡ into_told into (name_of zone.entry)) }
+    // The receipt has the word that is given.
+    ensures word { IfOk result (λ found.
+        option_map (λ i. interval_name i.interval) found ≡ option_map interval_word into) }
+{
+    match into {
+        Some(interval) => Ok(Some(MergedInto {
+            interval: told_interval(interval),
+            zone: String::from_str(alloc, zone_name(zone))?,
+        })),
+        None => Ok(None),
+    }
+}
+
+fn told_interval(interval: LocalInterval) -> MergedInterval
+    ensures told { result ≡ merged_interval interval }
+    ensures word { interval_name result ≡ interval_word interval }
+{
+    match interval {
+        LocalInterval::Day => MergedInterval::Day,
+        LocalInterval::Month => MergedInterval::Month,
     }
 }
 

@@ -8,8 +8,9 @@ use cli_inputs::{
     CollectArguments, Collecting, DumpArguments, FilesArguments, KnownElements, MergeArguments,
     PlanMade, ProgressOutput, ReceiptTo, TableArguments, TcpArguments, VerifyArguments, all_paths,
     buffered_output, check_exporters, check_paths, check_receipts, collect_job, listen_on,
-    load_known, load_plan_made, load_table_plan, merged_place, place_exporters, prepare_collecting,
-    progress_writer, read_list, receipt_paths, table_output, write_refused_output, zone_borders,
+    load_known, load_plan_made, load_table_plan, merged_into, merged_place, place_exporters,
+    prepare_collecting, progress_writer, read_list, receipt_paths, table_output,
+    write_refused_output, zone_borders,
 };
 use command_collect::{
     CollectJob, Connections, Engine, run_files_with, run_tcp_with, write_collect_fault, write_limit,
@@ -17,7 +18,9 @@ use command_collect::{
 use command_dump::{DumpJob, run_dump_with, write_dump_fault};
 use command_merge::{MergeJob, run_merge_with};
 use command_merge_receipts::{MergedEnd, MergedTo, PartsJob, run_merge_parts};
-use command_receipt::{Ended, Receipted, SystemPlace, run_files_receipted, run_tcp_receipted};
+use command_receipt::{
+    Ended, MadeWith, Receipted, SystemPlace, run_files_receipted, run_tcp_receipted,
+};
 use command_verify::{VerifyJob, run_verify, table_of_receipt};
 use flow_collect::{CollectFault, Pool};
 use flow_export::Intervals;
@@ -32,6 +35,7 @@ use std::rt::Clock;
 use std::sync::Wait;
 use std::thread::Threads;
 use table_parts::{PartFiles, PlanAtHand};
+use table_receipts::MergedInto;
 
 /// `collectd dump`: standard input to standard output.
 pub fn dump(rt: &HostRuntime, arguments: &DumpArguments) -> Result<Status, Status> {
@@ -328,22 +332,13 @@ fn merge_parts(
     let Ok(parts) = part_files(alloc, arguments.paths, &receipts) else {
         return Err(without_memory(err));
     };
+    let Ok(into) = merged_into(alloc, arguments.into, arguments.zone) else {
+        return Err(without_memory(err));
+    };
     let out = table_output(rt, err)?;
     let place = merged_place(rt, arguments.receipt, &parts, table.verbosity, err)?;
-    let job = PartsJob {
-        merge: merge_job(&loaded, table, intervals_of(borders)),
-        plan: PlanAtHand {
-            text: made.plan.as_str(),
-            elements: &made.elements,
-            maps: &made.maps,
-        },
-        parts: &parts,
-        allowed: Allowed {
-            incomplete: arguments.incomplete,
-            twice: false,
-        },
-        collectd: made.collectd.as_str(),
-    };
+    let merge = merge_job(&loaded, table, intervals_of(borders));
+    let job = parts_job(merge, &made, &parts, arguments.incomplete, into.as_ref());
     let told = &mut CheckedWriter::new(rt.stderr());
     let ended = run_merge_parts(rt, alloc, &job, MergedTo { out, place }, told);
     let TableWritten { status, out } = merge_settled(ended);
@@ -437,6 +432,40 @@ fn intervals_of(borders: &Option<Vec<u64>>) -> Intervals<'_>
     match borders {
         Some(borders) => Intervals::Between(borders.as_slice()),
         None => Intervals::OfPlan,
+    }
+}
+
+// What a merge by receipts is to do, under the plan that its receipt tells, too.
+fn parts_job<'a>(
+    merge: MergeJob<'a>,
+    made: &'a MadeWith,
+    parts: &'a [PartFiles<'a>],
+    incomplete: bool,
+    into: Option<&'a MergedInto>,
+) -> PartsJob<'a>
+    requires { CanTakeRows merge.intervals }
+    ensures merge { result.merge ≡ merge.entry }
+    ensures rows { CanTakeRows result.merge.intervals }
+    ensures parts { result.parts.now ≡ parts.now }
+    // No input may come twice, and parts need not be complete only if that is asked for.
+    ensures allowed { result.allowed ≡ record { incomplete = incomplete; twice = false } }
+    // Its receipt says into what rows are merged.
+    ensures into { result.into ≡ into.entry }
+{
+    PartsJob {
+        merge,
+        plan: PlanAtHand {
+            text: made.plan.as_str(),
+            elements: &made.elements,
+            maps: &made.maps,
+        },
+        parts,
+        allowed: Allowed {
+            incomplete,
+            twice: false,
+        },
+        into,
+        collectd: made.collectd.as_str(),
     }
 }
 

@@ -1,11 +1,13 @@
 -- The receipt of a merged table.
-use Rattle.std.specs.Prelude.{◌≡◌, ℕ, List, Option, Some, None, IsSome, length, map}
+use Rattle.std.specs.Prelude.{◌≡◌, ℕ, List, Option, Some, None, IsSome, length, map, option_map}
+use Rattle.std.specs.Borrow.{Bor}
 use Rattle.flow_table.specs.AddedUp.{rows_in}
 use Rattle.flow_table.specs.declared.table.Table.{Table}
 use Rattle.output_tables.specs.TableTexts.{IsNotWritten, WritesIn, export_text_in}
 use Rattle.receipt_merging.specs.Parts.{PartValue, counts_from, inputs_in, is_complete, left_out_in, no_counts}
 use Rattle.table_receipts.specs.Texts.{receipt_text}
-use Rattle.table_receipts.specs.Values.{ReceiptValue, file_value}
+use Rattle.table_receipts.specs.Values.{IntoValue, ReceiptValue, TableValue, file_value, into_value}
+use Rattle.table_receipts.specs.declared.receipt.MergedInto.{MergedInto}
 use Rattle.command_receipt.specs.Digests.{IsDigestOfAppended}
 use Rattle.command_receipt.specs.Runs.{IsOfReceipt}
 use Rattle.command_receipt.specs.Tables.{table_of}
@@ -15,7 +17,15 @@ use Rattle.command_receipt.specs.declared.hashed_table.TextDigest.{TextDigest}
 use Rattle.command_merge_receipts.specs.declared.job.MergedTo.{MergedTo}
 use Rattle.command_merge_receipts.specs.declared.job.PartsJob.{PartsJob}
 
--- under which plan the parts were merged; what their receipts say together; and the merged table, by the digest of its text
+abbrev pub into_told : Option (Bor MergedInto) → Option IntoValue
+into_told into = option_map (λ (merged : Bor MergedInto). into_value merged.now) into
+
+-- the merged table, by the digest of its text; into what its rows were merged is what the merge was told
+abbrev pub merged_table_of : PartsJob → TextDigest → Table → TableValue
+merged_table_of job text table =
+    record (table_of job.merge.elements.now job.merge.plan.now.counters job.merge.output text table) { into = into_told job.into }
+
+-- under which plan the parts were merged; what their receipts say together; and the merged table
 abbrev pub merged_receipt_of : PartsJob → List PartValue → TextDigest → Table → ReceiptValue
 merged_receipt_of job parts text table = record {
   collectd = job.collectd.now;
@@ -24,7 +34,7 @@ merged_receipt_of job parts text table = record {
   maps = map file_value job.plan.maps.now;
   inputs = inputs_in parts;
   records = counts_from no_counts parts;
-  table = table_of job.merge.elements.now job.merge.plan.now.counters job.merge.output text table;
+  table = merged_table_of job text table;
   left_out = left_out_in parts;
   complete = is_complete parts;
 }

@@ -4,6 +4,7 @@ use command_merge::MergeJob;
 use receipt_merging::Allowed;
 use report_writing::Status;
 use table_parts::{PartFiles, PlanAtHand};
+use table_receipts::MergedInto;
 
 /// What a run of merging is to do with tables and their receipts.
 #[derive(Clone, Copy)]
@@ -16,6 +17,8 @@ pub struct PartsJob<'a> {
     pub parts: &'a [PartFiles<'a>],
     /// What they are merged for all that.
     pub allowed: Allowed,
+    /// Into what the rows are merged, which the receipt of the merged table tells; without it they have the plan's intervals.
+    pub into: Option<&'a MergedInto>,
     /// The version of collectd, as `1.2.3`, which the receipt of the merged table tells.
     pub collectd: &'a str,
 }

@@ -1,18 +1,18 @@
 //! Making the receipt of a merged table.
 
-ghost use Rattle.std.specs.Prelude.{◌≡◌, IfOk, List, map};
+ghost use Rattle.std.specs.Prelude.{◌≡◌, IfOk, List, map, option_map};
 ghost use Rattle.flow_table.specs.Fitting.{FitsPlan};
 ghost use Rattle.receipt_merging.specs.Judging.{AreMerged};
 ghost use Rattle.receipt_merging.specs.Parts.{PartValue};
-ghost use Rattle.table_receipts.specs.Values.{file_value, receipt_value};
-ghost use Rattle.command_merge_receipts.specs.Receipts.{merged_receipt_of};
+ghost use Rattle.table_receipts.specs.Values.{file_value, into_value, receipt_value};
+ghost use Rattle.command_merge_receipts.specs.Receipts.{into_told, merged_receipt_of};
 
 use crate::job::PartsJob;
 use command_receipt::{TextDigest, table_of};
 use flow_table::FlatTable;
 use receipt_merging::MergedParts;
 use std::alloc::{AllocError, Global};
-use table_receipts::{FileReceipt, Receipt};
+use table_receipts::{FileReceipt, MergedInto, Receipt, TableReceipt};
 
 /// The receipt of the table of all parts, by the digest of its text.
 pub fn make_merged_receipt(
@@ -27,7 +27,10 @@ pub fn make_merged_receipt(
         → IfOk result (λ r. receipt_value r ≡ merged_receipt_of job.now parts text table.now) }
 {
     let merge = &job.merge;
-    let table = table_of(alloc, merge.elements, merge.plan, merge.output, text, table)?;
+    let table = TableReceipt {
+        into: copy_into(alloc, job.into)?,
+        ..table_of(alloc, merge.elements, merge.plan, merge.output, text, table)?
+    };
     let MergedParts {
         inputs,
         records,
@@ -45,6 +48,19 @@ pub fn make_merged_receipt(
         left_out,
         complete,
     })
+}
+
+// Into what rows are merged, once more.
+fn copy_into(alloc: Global, into: Option<&MergedInto>) -> Result<Option<MergedInto>, AllocError>
+    ensures { IfOk result (λ copy. option_map into_value copy ≡ into_told into.entry) }
+{
+    match into {
+        Some(into) => Ok(Some(MergedInto {
+            interval: into.interval,
+            zone: String::from_str(alloc, into.zone.as_str())?,
+        })),
+        None => Ok(None),
+    }
 }
 
 // What a receipt says of files, once more.

@@ -1,5 +1,5 @@
 -- What a receipt says of the table of a run.
-use Rattle.std.specs.Prelude.{ℕ, ◌+◌, List, [], ◌∷◌, get_or, length, sum_by}
+use Rattle.std.specs.Prelude.{ℕ, ◌+◌, List, [], ◌∷◌, None, get_or, length, sum_by}
 use Rattle.element_registry.specs.Registries.{Known, element_name}
 use Rattle.ipfix_wire.specs.declared.specifier.ElementId.{ElementId}
 use Rattle.flow_export.specs.declared.format.Format.{Format}
@@ -36,11 +36,12 @@ flows_of rows = sum_by (λ (row : RowValue). row.flows) rows
 abbrev pub counts_of : Tally → RecordCounts
 counts_of t = record { used = t.used; options = t.options; untimed = t.untimed; backward = t.backward; unkeyed = t.unkeyed; too_long = t.too_long }
 
--- by the digest of its text
+-- by the digest of its text; its rows have the plan's intervals
 abbrev pub table_of : List Known → List ElementId → Output → TextDigest → Table → TableValue
 table_of known counters output text table = record {
   format = format_of output.format;
   time = output.time;
+  into = None;
   octets = text.octets;
   digest = text.sha256;
   rows = length (rows_in table);

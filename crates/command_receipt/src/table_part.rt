@@ -16,7 +16,8 @@ use output_tables::Output;
 use std::alloc::{AllocError, Global};
 use table_receipts::{CounterSum, RecordCounts, TableFormat, TableReceipt};
 
-/// The table of a plan, by the digest of its text, with the names that `elements` gives counters.
+/// The table of a plan, by the digest of its text, with the names that `elements` gives counters. Its rows have the plan's
+/// intervals.
 pub fn table_of(
     alloc: Global,
     elements: &Elements,
@@ -32,6 +33,7 @@ pub fn table_of(
     Ok(TableReceipt {
         format: format_of(output.format),
         time: output.time,
+        into: None,
         octets: text.octets,
         sha256: text.sha256,
         rows: table.len() as u64,

@@ -1,5 +1,5 @@
 -- How a table was made again of files, and how that was told.
-use Rattle.std.specs.Prelude.{◌≡◌, ◌≢◌, ◌⊎◌, ℕ, List, [], ◌++◌, All, Option, None, map}
+use Rattle.std.specs.Prelude.{◌≡◌, ◌≢◌, ◌⊎◌, ℕ, List, [], ◌++◌, All, Option, None, Some, map}
 use Rattle.element_registry.specs.Registries.{Known}
 use Rattle.flow_maps.specs.declared.maps.Maps.{Maps}
 use Rattle.flow_plan_fields.specs.declared.named.NamedKey.{NamedKey}
@@ -15,7 +15,7 @@ use Rattle.report_writing.specs.declared.reason.Reason.{Reason}
 use Rattle.report_writing.specs.declared.status.Status.{Status}
 use Rattle.report_writing.specs.declared.status.Status.TheVariants.{Well, SessionFault, NotOpened, Failed}
 use Rattle.report_writing.specs.declared.verbosity.Verbosity.{Verbosity}
-use Rattle.table_receipts.specs.Values.{FileValue, ReceiptValue, file_value}
+use Rattle.table_receipts.specs.Values.{FileValue, IntoValue, ReceiptValue, file_value}
 use Rattle.receipt_maps.specs.MapsTold.{AreMapsWith}
 use Rattle.receipt_maps.specs.declared.maps.MapsOfPlan.{MapsOfPlan}
 use Rattle.receipt_differences.specs.Differences.{table_differs}
@@ -29,7 +29,7 @@ use Rattle.table_remaking.specs.Faults.{IsFaultOf}
 use Rattle.table_remaking.specs.declared.again.AgainFault.{AgainFault}
 use Rattle.table_remaking.specs.declared.again.AgainFault.TheVariants.{NotMade, OutOfMemory}
 use Rattle.table_remaking.specs.declared.again.MadeBy.{MadeBy}
-use Rattle.command_verify.specs.Verified.{TellsDifferences, Verifies, memory_line}
+use Rattle.command_verify.specs.Verified.{TellsDifferences, Verifies, memory_line, merged_line}
 use Rattle.command_verify.specs.declared.verify.VerifyJob.{VerifyJob}
 
 abbrev pub again_fault_line : AgainFault → List ℕ
@@ -152,11 +152,16 @@ module _ {S O : Type 0} (seen : S → SourceView) (job : VerifyJob) (said : Rece
       ⊎ ((status ≡ Failed) × AreTold memory_line)
       ⊎ ((given_differ job said ≡ []) × (LacksPlan known ⊎ HasPlan known))
 
+  -- if the receipt says that its rows were merged into days or months, that is told, and no file is opened
+  abbrev pub ComparesUnmerged : List Known → Option IntoValue → Type 0
+  ComparesUnmerged known None = ComparesGiven known
+  ComparesUnmerged known (Some into) = (status ≡ NotOpened) × AreTold (merged_line into.interval) × (after ≡ before)
+
   -- without files to make it of the table alone is compared
   abbrev pub ComparesFiles : List Known → Type 0
   ComparesFiles known =
       ((job.again.now ≡ []) × ComparesAlone said table status [] AreTold)
-      ⊎ ((job.again.now ≢ []) × ComparesGiven known)
+      ⊎ ((job.again.now ≢ []) × ComparesUnmerged known said.table.into)
 
 module _ {S O : Type 0} (seen : S → SourceView) (job : VerifyJob) (status : Status)
     (opens : O → List ℕ → S → Type 0) (sizes : O → List ℕ → Option ℕ → Type 0) (refuses : O → List ℕ → Reason → Type 0) (coming : O → Option (List S)) (before after : O) (AreTold : List ℕ → Type 0) where

@@ -6,15 +6,24 @@ use Rattle.report_writing.specs.OpeningLines.{not_had_lines}
 use Rattle.report_writing.specs.declared.reason.Reason.{Reason}
 use Rattle.report_writing.specs.declared.status.Status.{Status}
 use Rattle.report_writing.specs.declared.status.Status.TheVariants.{Well, SessionFault, NotOpened, Failed}
+use Rattle.table_receipts.specs.Objects.{interval_name}
 use Rattle.table_receipts.specs.Texts.{receipt_text}
 use Rattle.table_receipts.specs.Values.{FitsReceipt, ReceiptValue}
 use Rattle.table_receipts.specs.declared.fault.ReceiptFault.{ReceiptFault}
 use Rattle.table_receipts.specs.declared.fault.ReceiptFault.TheVariants.{OutOfMemory, NotAReceipt}
+use Rattle.table_receipts.specs.declared.receipt.MergedInterval.{MergedInterval}
 use Rattle.command_verify.specs.declared.verify.VerifyJob.{VerifyJob}
 
 -- nothing differs
 unfoldable pub verified_line : ℕ → ℕ → List ℕ
 verified_line inputs rows = codes "collectd: verified: inputs " ++ (decimal inputs ++ (codes " rows " ++ (decimal rows ++ codes "\n")))
+
+-- rows that were merged into days or months aren't made again
+abbrev pub merged_into_line : List ℕ → List ℕ
+merged_into_line name = codes "collectd: verify: made by merge --into " ++ (name ++ codes ", so it can't be made again: verify its parts\n")
+
+abbrev pub merged_line : MergedInterval → List ℕ
+merged_line interval = merged_into_line (interval_name interval)
 
 abbrev pub memory_line : List ℕ
 memory_line = codes "collectd: " ++ (codes "verify" ++ fault_text 1 (codes "OutOfMemory"))

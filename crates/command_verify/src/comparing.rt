@@ -8,7 +8,7 @@ ghost use Rattle.receipt_differences.specs.Differences.{table_differs};
 ghost use Rattle.command_verify.specs.Again.{ComparesAlone, ComparesFiles, ComparesGiven, ComparesLoaded, ComparesMapped, ComparesWith, IsMadeBy, OpensBy, OpensOrLacks, TellsAgain, again_fault_line, files_differ, given_differ};
 
 use crate::maps::load_said_maps;
-use crate::telling::{tell_differences, tell_fault};
+use crate::telling::{tell_differences, tell_fault, tell_merged};
 use crate::verify::VerifyJob;
 use command_collect::write_collect_fault;
 use command_receipt::{RemakeFault, write_run_fault};
@@ -30,7 +30,8 @@ use std::thread::Threads;
 use table_receipts::{FileReceipt, ReceiptFault, TableReceipt};
 use table_remaking::{AgainFault, MadeBy, TableThere, compare_again};
 
-/// Compares a table with its receipt; and with files with the one that these give.
+/// Compares a table with its receipt; and with files with the one that these give, unless its rows were merged into days or
+/// months.
 pub fn compare_files<
     T: ReadText,
     S: Source + Send + Drop,
@@ -55,9 +56,11 @@ pub fn compare_files<
     ensures kept { E.failed err.old → E.failed err.new }
 {
     if job.again.is_empty() {
-        compare_alone(alloc, there, b"", err)
-    } else {
-        compare_given(rt, alloc, texts, files, elements, job, there, progress, err)
+        return compare_alone(alloc, there, b"", err);
+    }
+    match &there.receipt.table.into {
+        Some(into) => tell_merged(into.interval, err),
+        None => compare_given(rt, alloc, texts, files, elements, job, there, progress, err),
     }
 }
 

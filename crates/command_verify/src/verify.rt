@@ -42,12 +42,13 @@ pub struct VerifyJob<'a> {
 /// the plan, the format and the export time in the receipt and by `elements`, those of the files that are given, and
 /// compares what they give with it: the files with the inputs by their octets, their exporters and what their sessions gave,
 /// whatever their names or order, and the tables octet for octet. Its maps are those of the files that the receipt names. It isn't made again
-/// by files of elements or of maps that haven't the octets of those in the receipt: then a line says so.
+/// by files of elements or of maps that haven't the octets of those in the receipt: then a line says so. Nor is a table whose
+/// rows were merged into days or months: after it was read a line says this.
 ///
 /// The receipt is read first, then the table, then the plan, then the files of maps, and the files are opened last. The
 /// status is `Well` if nothing differs, and `SessionFault` if anything does; `NotOpened` if a text or a file can't be
-/// had, the text of the receipt isn't one, or that of its plan; `Failed` if memory runs out, or the table can't be made
-/// of the files. `err` has the lines that say so.
+/// had, the text of the receipt isn't one, or that of its plan, or files are given for rows that were merged; `Failed` if memory
+/// runs out, or the table can't be made of the files. `err` has the lines that say so.
 pub fn run_verify<
     T: ReadText,
     S: Source + Send + Drop,

@@ -25,6 +25,7 @@ parts_job job parts = record {
   plan = job.text.at_hand;
   parts = parts;
   allowed = record { incomplete = true; twice = true };
+  into = None;
   collectd = job.text.collectd;
 }
 

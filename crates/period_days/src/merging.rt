@@ -85,6 +85,7 @@ fn job_of<'a>(job: &DayJob<'a>, parts: &'a [PartFiles<'a>]) -> PartsJob<'a>
         plan: text.at_hand,
         parts,
         allowed: ALLOWED,
+        into: None,
         collectd: text.collectd,
     }
 }

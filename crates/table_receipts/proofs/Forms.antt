@@ -8,8 +8,8 @@ use Rattle.json.specs.Value.{items_of}
 use Rattle.json.proofs.Printed.Decimals.{IsNumber-decimal}
 use Rattle.table_receipts.specs.declared.receipt.DomainReceipt.{DomainReceipt}
 use Rattle.table_receipts.specs.declared.receipt.RecordCounts.{RecordCounts}
-use Rattle.table_receipts.specs.Values.{ExporterValue, not_asked, unknown, address, FileValue, InputValue, SumValue, TableValue, ReceiptValue}
-use Rattle.table_receipts.specs.Objects.{number_json, file_json, domain_json, exporter_members, fault_json, input_json, members_of, left_out_members, digest_json, counts_json, sum_json, table_json, plan_json}
+use Rattle.table_receipts.specs.Values.{ExporterValue, not_asked, unknown, address, FileValue, InputValue, IntoValue, SumValue, TableValue, ReceiptValue}
+use Rattle.table_receipts.specs.Objects.{number_json, file_json, domain_json, exporter_members, fault_json, form_members, input_json, into_members, members_of, left_out_members, digest_json, counts_json, object_of, row_members, sum_json, table_json, text_members, plan_json}
 use Rattle.sha2.specs.Sha256.{sha256}
 use Rattle.table_receipts.specs.Texts.{receipt_json, text_before}
 
@@ -96,9 +96,9 @@ sum_good s =
     let total = number_good s.total in
     record { numbers = (tt, (total.numbers, tt)); nests = omega (arith, total.nests) }
 
-table_good : (t : TableValue) → IsGood 3 (table_json t)
-unfolding table_json
-table_good t =
+-- whatever its rows were merged into
+merged_good : (t : TableValue) (into : Option IntoValue) → IsGood 3 (object_of (form_members t ++ (into_members into ++ (text_members t ++ row_members t))))
+merged_good t None =
     let time = number_good t.time in
     let octets = number_good t.octets in
     let rows = number_good t.rows in
@@ -108,6 +108,20 @@ table_good t =
       numbers = (tt, (time.numbers, (octets.numbers, (tt, (rows.numbers, (sums.numbers, (flows.numbers, tt)))))));
       nests = omega (arith, time.nests, octets.nests, rows.nests, sums.nests, flows.nests);
     }
+merged_good t (Some into) =
+    let time = number_good t.time in
+    let octets = number_good t.octets in
+    let rows = number_good t.rows in
+    let sums = list_good 1 sum_json sum_good t.sums in
+    let flows = number_good t.flows in
+    record {
+      numbers = (tt, (time.numbers, (tt, (tt, (octets.numbers, (tt, (rows.numbers, (sums.numbers, (flows.numbers, tt)))))))));
+      nests = omega (arith, time.nests, octets.nests, rows.nests, sums.nests, flows.nests);
+    }
+
+table_good : (t : TableValue) → IsGood 3 (table_json t)
+unfolding table_json
+table_good t = merged_good t t.into
 
 plan_good : (text : List ℕ) → IsGood 1 (plan_json text)
 unfolding plan_json

@@ -2,7 +2,7 @@
 use Rattle.std.proofs.Common.{◌≡◌, refl}
 use Rattle.table_receipts.specs.declared.receipt.DomainReceipt.{DomainReceipt}
 use Rattle.table_receipts.specs.declared.receipt.RecordCounts.{RecordCounts}
-use Rattle.table_receipts.specs.Values.{FileValue, InputValue, SumValue, TableValue, ReceiptValue}
+use Rattle.table_receipts.specs.Values.{FileValue, InputValue, IntoValue, SumValue, TableValue, ReceiptValue}
 
 pub file_same : (f g : FileValue) → f.name ≡ g.name → f.octets ≡ g.octets → f.digest ≡ g.digest → f ≡ g
 file_same f g a b c =
@@ -24,9 +24,13 @@ pub sum_same : (f g : SumValue) → f.name ≡ g.name → f.total ≡ g.total �
 sum_same f g a b =
     let whole : record { name = f.name; total = f.total } ≡ g = rw (a, b) refl in whole
 
-pub table_same : (f g : TableValue) → f.format ≡ g.format → f.time ≡ g.time → f.octets ≡ g.octets → f.digest ≡ g.digest → f.rows ≡ g.rows → f.sums ≡ g.sums → f.flows ≡ g.flows → f ≡ g
-table_same f g a b c d e h k =
-    let whole : record { format = f.format; time = f.time; octets = f.octets; digest = f.digest; rows = f.rows; sums = f.sums; flows = f.flows } ≡ g = rw (a, b, c, d, e, h, k) refl in whole
+pub into_same : (f g : IntoValue) → f.interval ≡ g.interval → f.zone ≡ g.zone → f ≡ g
+into_same f g a b =
+    let whole : record { interval = f.interval; zone = f.zone } ≡ g = rw (a, b) refl in whole
+
+pub table_same : (f g : TableValue) → f.format ≡ g.format → f.time ≡ g.time → f.into ≡ g.into → f.octets ≡ g.octets → f.digest ≡ g.digest → f.rows ≡ g.rows → f.sums ≡ g.sums → f.flows ≡ g.flows → f ≡ g
+table_same f g a b m c d e h k =
+    let whole : record { format = f.format; time = f.time; into = f.into; octets = f.octets; digest = f.digest; rows = f.rows; sums = f.sums; flows = f.flows } ≡ g = rw (a, b, m, c, d, e, h, k) refl in whole
 
 pub receipt_same : (f g : ReceiptValue) → f.collectd ≡ g.collectd → f.plan ≡ g.plan → f.elements ≡ g.elements → f.maps ≡ g.maps → f.inputs ≡ g.inputs → f.records ≡ g.records → f.table ≡ g.table → f.left_out ≡ g.left_out → f.complete ≡ g.complete → f ≡ g
 receipt_same f g a b c m d e h k l =

@@ -1,16 +1,16 @@
 -- The objects of a file and of an input tell them.
 use Rattle.std.proofs.Common.{◌≡◌, refl, ap, subst, sym, ◌∙◌, length, map, arith}
-use Rattle.std.specs.Prelude.{ℕ, List, [], ◌∷◌, ◌++◌, codes, None, Some}
+use Rattle.std.specs.Prelude.{ℕ, List, [], ◌∷◌, ◌++◌, codes, Option, None, Some}
 use Rattle.std.proofs.lemmas.Option.{none-some, same_Some}
 use Rattle.json.specs.Find.{get}
 use Rattle.json.specs.Json.{Json, array, boolean, string}
 use Rattle.json.specs.Value.{items_of}
 use Rattle.sha2.specs.Sha256.{sha256}
-use Rattle.table_receipts.specs.Objects.{counts_json, digest_json, file_json, input_json, left_out_members, list_json, object_of, origin_members, plan_json, table_json}
+use Rattle.table_receipts.specs.Objects.{counts_json, digest_json, file_json, form_members, format_name, input_json, into_members, left_out_members, list_json, number_json, object_of, origin_members, plan_json, row_members, sum_json, table_json, text_members}
 use Rattle.table_receipts.specs.Texts.{receipt_json, text_before}
 use Rattle.table_receipts.proofs.Items.{arrays_same}
-use Rattle.table_receipts.specs.Told.{TellsFile, TellsInput, left_out_json}
-use Rattle.table_receipts.specs.Values.{ExporterValue, not_asked, unknown, address, FileValue, InputValue, ReceiptValue}
+use Rattle.table_receipts.specs.Told.{TellsFile, TellsInput, TellsInto, left_out_json}
+use Rattle.table_receipts.specs.Values.{ExporterValue, not_asked, unknown, address, FileValue, InputValue, IntoValue, ReceiptValue, TableValue}
 
 pub file_tells : (j : Json) (f : FileValue) → j ≡ file_json f → TellsFile j f
 unfolding file_json
@@ -28,6 +28,25 @@ tells_so i (address text) = record { file = record { name = refl; octets = refl;
 pub input_tells : (j : Json) (i : InputValue) → j ≡ input_json i → TellsInput j i
 unfolding with_exporter
 input_tells j i is = subst (λ (x : Json). TellsInput x i) (sym is) (tells_so i i.exporter)
+
+-- the members of a table, whatever its rows were merged into
+pub record TellsTable (t : TableValue) (into : Option IntoValue) (j : Json) : Type 0 where
+  pub format : get (codes "format") j ≡ Some (string (format_name t.format))
+  pub time : get (codes "time") j ≡ Some (number_json t.time)
+  pub merged : TellsInto j into
+  pub octets : get (codes "octets") j ≡ Some (number_json t.octets)
+  pub digest : get (codes "sha256") j ≡ Some (digest_json t.digest)
+  pub rows : get (codes "rows") j ≡ Some (number_json t.rows)
+  pub sums : get (codes "sums") j ≡ Some (list_json sum_json t.sums)
+  pub flows : get (codes "flows") j ≡ Some (number_json t.flows)
+
+merged_tells : (t : TableValue) (into : Option IntoValue) → TellsTable t into (object_of (form_members t ++ (into_members into ++ (text_members t ++ row_members t))))
+merged_tells t None = record { format = refl; time = refl; merged = record { interval = refl; zone = refl }; octets = refl; digest = refl; rows = refl; sums = refl; flows = refl }
+merged_tells t (Some into) = record { format = refl; time = refl; merged = record { interval = refl; zone = refl }; octets = refl; digest = refl; rows = refl; sums = refl; flows = refl }
+
+pub table_tells : (j : Json) (t : TableValue) → j ≡ table_json t → TellsTable t t.into j
+unfolding table_json
+table_tells j t is = subst (TellsTable t t.into) (sym is) (merged_tells t t.into)
 
 -- a receipt that names these inputs as left out
 abbrev pub with_names : ReceiptValue → List (List ℕ) → Json → Json

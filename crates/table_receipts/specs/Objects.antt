@@ -7,10 +7,12 @@ use Rattle.json.specs.Tree.{json_tokens}
 use Rattle.json.specs.Token.{Token, key}
 use Rattle.sha2.specs.Sha256.{sha256}
 use Rattle.table_receipts.specs.declared.receipt.DomainReceipt.{DomainReceipt}
+use Rattle.table_receipts.specs.declared.receipt.MergedInterval.{MergedInterval}
+use Rattle.table_receipts.specs.declared.receipt.MergedInterval.TheVariants.{Day, Month}
 use Rattle.table_receipts.specs.declared.receipt.RecordCounts.{RecordCounts}
 use Rattle.table_receipts.specs.declared.receipt.TableFormat.{TableFormat}
 use Rattle.table_receipts.specs.declared.receipt.TableFormat.TheVariants.{Csv, Ipfix, Json as JsonLines}
-use Rattle.table_receipts.specs.Values.{ExporterValue, not_asked, unknown, address, FileValue, InputValue, SumValue, TableValue, ReceiptValue}
+use Rattle.table_receipts.specs.Values.{ExporterValue, not_asked, unknown, address, FileValue, InputValue, IntoValue, SumValue, TableValue, ReceiptValue}
 
 -- members of an object: each a name and a value, in this order
 abbrev pub members_of : List (List ℕ × Json) → Members
@@ -89,14 +91,22 @@ format_name Csv = codes "csv"
 format_name Ipfix = codes "ipfix"
 format_name JsonLines = codes "json"
 
+-- how a table is written
+abbrev pub form_members : TableValue → List (List ℕ × Json)
+form_members t = (codes "format", string (format_name t.format)) ∷ (codes "time", number_json t.time) ∷ []
+
+abbrev pub interval_name : MergedInterval → List ℕ
+interval_name Day = codes "day"
+interval_name Month = codes "month"
+
+-- into what its rows were merged, if they were
+abbrev pub into_members : Option IntoValue → List (List ℕ × Json)
+into_members None = []
+into_members (Some into) = (codes "into", string (interval_name into.interval)) ∷ (codes "zone", string into.zone) ∷ []
+
 -- a table's text
 abbrev pub text_members : TableValue → List (List ℕ × Json)
-text_members t =
-    (codes "format", string (format_name t.format))
-    ∷ (codes "time", number_json t.time)
-    ∷ (codes "octets", number_json t.octets)
-    ∷ (codes "sha256", digest_json t.digest)
-    ∷ []
+text_members t = (codes "octets", number_json t.octets) ∷ (codes "sha256", digest_json t.digest) ∷ []
 
 -- what its rows add up to
 abbrev pub row_members : TableValue → List (List ℕ × Json)
@@ -107,7 +117,7 @@ row_members t =
     ∷ []
 
 unfoldable pub table_json : TableValue → Json
-table_json t = object_of (text_members t ++ row_members t)
+table_json t = object_of (form_members t ++ (into_members t.into ++ (text_members t ++ row_members t)))
 
 -- the plan's text, and its digest
 unfoldable pub plan_json : List ℕ → Json

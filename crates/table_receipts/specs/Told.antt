@@ -1,9 +1,9 @@
 -- What the members of an object tell.
-use Rattle.std.specs.Prelude.{◌≡◌, ℕ, List, [], ◌∷◌, codes, Option, Some, None}
+use Rattle.std.specs.Prelude.{◌≡◌, ℕ, List, [], ◌∷◌, codes, Option, Some, None, option_map}
 use Rattle.json.specs.Find.{get}
 use Rattle.json.specs.Json.{Json, null, string}
-use Rattle.table_receipts.specs.Values.{ExporterValue, not_asked, unknown, address, FileValue, InputValue}
-use Rattle.table_receipts.specs.Objects.{digest_json, domain_json, fault_json, list_json, number_json}
+use Rattle.table_receipts.specs.Values.{ExporterValue, not_asked, unknown, address, FileValue, InputValue, IntoValue}
+use Rattle.table_receipts.specs.Objects.{digest_json, domain_json, fault_json, interval_name, list_json, number_json}
 
 -- members tell a file
 pub record TellsFile (j : Json) (f : FileValue) : Type 0 where
@@ -21,6 +21,11 @@ exporter_json (address text) = Some (string text)
 abbrev pub left_out_json : List (List ℕ) → Option Json
 left_out_json [] = None
 left_out_json (name ∷ names) = Some (list_json string (name ∷ names))
+
+-- members tell into what rows were merged
+pub record TellsInto (j : Json) (into : Option IntoValue) : Type 0 where
+  pub interval : get (codes "into") j ≡ option_map (λ i. string (interval_name i.interval)) into
+  pub zone : get (codes "zone") j ≡ option_map (λ i. string i.zone) into
 
 -- members tell an input
 pub record TellsInput (j : Json) (i : InputValue) : Type 0 where

@@ -6,6 +6,8 @@ use Rattle.table_receipts.specs.declared.receipt.DomainReceipt.{DomainReceipt}
 use Rattle.table_receipts.specs.declared.receipt.ExporterReceipt.{ExporterReceipt}
 use Rattle.table_receipts.specs.declared.receipt.ExporterReceipt.TheVariants.{NotAsked, Unknown, Address}
 use Rattle.table_receipts.specs.declared.receipt.InputReceipt.{InputReceipt}
+use Rattle.table_receipts.specs.declared.receipt.MergedInterval.{MergedInterval}
+use Rattle.table_receipts.specs.declared.receipt.MergedInto.{MergedInto}
 use Rattle.table_receipts.specs.declared.receipt.RecordCounts.{RecordCounts}
 use Rattle.table_receipts.specs.declared.receipt.TableFormat.{TableFormat}
 use Rattle.table_receipts.specs.declared.receipt.CounterSum.{CounterSum}
@@ -31,6 +33,11 @@ pub record InputValue : Type 0 where
   pub domains : List DomainReceipt
   pub exporter : ExporterValue
 
+-- into what the rows of a table were merged
+pub record IntoValue : Type 0 where
+  pub interval : MergedInterval
+  pub zone : List ℕ
+
 pub record SumValue : Type 0 where
   pub name : List ℕ
   pub total : ℕ
@@ -38,6 +45,7 @@ pub record SumValue : Type 0 where
 pub record TableValue : Type 0 where
   pub format : TableFormat
   pub time : ℕ
+  pub into : Option IntoValue
   pub octets : ℕ
   pub digest : List ℕ
   pub rows : ℕ
@@ -78,9 +86,20 @@ input_value i = record {
 abbrev pub sum_value : CounterSum → SumValue
 sum_value s = record { name = string_bytes s.name; total = s.sum }
 
+abbrev pub into_value : MergedInto → IntoValue
+into_value i = record { interval = i.interval; zone = string_bytes i.zone }
+
 abbrev pub table_value : TableReceipt → TableValue
-table_value t =
-    record { format = t.format; time = t.time; octets = t.octets; digest = t.sha256; rows = t.rows; sums = map sum_value t.sums.items; flows = t.flows }
+table_value t = record {
+  format = t.format;
+  time = t.time;
+  into = option_map into_value t.into;
+  octets = t.octets;
+  digest = t.sha256;
+  rows = t.rows;
+  sums = map sum_value t.sums.items;
+  flows = t.flows;
+}
 
 abbrev pub receipt_value : Receipt → ReceiptValue
 receipt_value r = record {

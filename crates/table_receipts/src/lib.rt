@@ -12,7 +12,7 @@ mod writing;
 pub use fault::ReceiptFault;
 pub use reading::read_receipt;
 pub use receipt::{
-    CounterSum, DomainReceipt, ExporterReceipt, FileReceipt, InputReceipt, Receipt, RecordCounts,
-    TableFormat, TableReceipt,
+    CounterSum, DomainReceipt, ExporterReceipt, FileReceipt, InputReceipt, MergedInterval,
+    MergedInto, Receipt, RecordCounts, TableFormat, TableReceipt,
 };
 pub use writing::write_receipt;

@@ -5,11 +5,12 @@ ghost use Rattle.std.specs.Prelude.{◌≡◌, ℕ, List, Option, Some, All, IfO
 ghost use Rattle.json.specs.Find.{get};
 ghost use Rattle.json.specs.Json.{string};
 ghost use Rattle.json.specs.Value.{value_view};
-ghost use Rattle.table_receipts.specs.Objects.{counts_json, domain_json, fault_json, file_json, format_name, input_json, list_json, sum_json, table_json};
-ghost use Rattle.table_receipts.specs.Told.{TellsFile, exporter_json, left_out_json};
+ghost use Rattle.table_receipts.specs.Objects.{counts_json, domain_json, fault_json, file_json, format_name, input_json, interval_name, list_json, sum_json, table_json};
+ghost use Rattle.table_receipts.specs.Told.{TellsFile, TellsInto, exporter_json, left_out_json};
 ghost use Rattle.table_receipts.specs.Texts.{receipt_json};
-ghost use Rattle.table_receipts.specs.Values.{ExporterValue, FileValue, FitsCounts, FitsDomain, FitsFile, FitsInput, FitsReceipt, FitsSum, FitsTable, InputValue, ReceiptValue, SumValue, TableValue, exporter_value, file_value, input_value, receipt_value, sum_value, table_value};
+ghost use Rattle.table_receipts.specs.Values.{ExporterValue, FileValue, FitsCounts, FitsDomain, FitsFile, FitsInput, FitsReceipt, FitsSum, FitsTable, InputValue, IntoValue, ReceiptValue, SumValue, TableValue, exporter_value, file_value, input_value, into_value, receipt_value, sum_value, table_value};
 ghost use Rattle.table_receipts.specs.declared.receipt.DomainReceipt.{DomainReceipt as Domain};
+ghost use Rattle.table_receipts.specs.declared.receipt.MergedInterval.{MergedInterval as Interval};
 ghost use Rattle.table_receipts.specs.declared.receipt.RecordCounts.{RecordCounts as Counts};
 ghost use Rattle.table_receipts.specs.declared.receipt.TableFormat.{TableFormat as Format};
 
@@ -17,8 +18,8 @@ use crate::looking_up::{
     count_of, digest_of, flag_of, list_of, member_of, number_of, small_of, text_in, text_of,
 };
 use crate::receipt::{
-    CounterSum, DomainReceipt, ExporterReceipt, FileReceipt, InputReceipt, Receipt, RecordCounts,
-    TableFormat, TableReceipt,
+    CounterSum, DomainReceipt, ExporterReceipt, FileReceipt, InputReceipt, MergedInterval,
+    MergedInto, Receipt, RecordCounts, TableFormat, TableReceipt,
 };
 use json::Value;
 use std::alloc::{AllocError, Global};
@@ -181,6 +182,29 @@ fn format_by(name: &str) -> TableFormat
     }
 }
 
+fn interval_by(name: &str) -> MergedInterval
+    ensures { (i : Interval) → name.now ≡ interval_name i → result ≡ i }
+{
+    match name {
+        "day" => MergedInterval::Day,
+        _ => MergedInterval::Month,
+    }
+}
+
+// Into what rows were merged.
+fn into_of(alloc: Global, object: &Value<'_>) -> Result<Option<MergedInto>, AllocError>
+    ensures { (into : Option IntoValue) → TellsInto (value_view object.now) into
+        → IfOk result (λ found. option_map into_value found ≡ into) }
+{
+    match object.get("into") {
+        Some(Value::String(name)) => Ok(Some(MergedInto {
+            interval: interval_by(name),
+            zone: String::from_str(alloc, text_of(object, "zone"))?,
+        })),
+        _ => Ok(None),
+    }
+}
+
 fn table_of(alloc: Global, object: &Value<'_>) -> Result<TableReceipt, AllocError>
     ensures { (t : TableValue) → FitsTable t → value_view object.now ≡ table_json t
         → IfOk result (λ table. table_value table ≡ t) }
@@ -188,6 +212,7 @@ fn table_of(alloc: Global, object: &Value<'_>) -> Result<TableReceipt, AllocErro
     Ok(TableReceipt {
         format: format_by(text_of(object, "format")),
         time: small_of(object, "time"),
+        into: into_of(alloc, object)?,
         octets: count_of(object, "octets"),
         sha256: digest_of(object, "sha256"),
         rows: count_of(object, "rows"),

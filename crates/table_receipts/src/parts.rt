@@ -5,12 +5,12 @@ ghost use Rattle.json.specs.Json.{boolean, string};
 ghost use Rattle.json.specs.Token.{key};
 ghost use Rattle.json.specs.Tree.{json_tokens};
 ghost use Rattle.table_receipts.specs.Appending.{Appends};
-ghost use Rattle.table_receipts.specs.Values.{exporter_value, file_value, input_value, sum_value, table_value};
-ghost use Rattle.table_receipts.specs.Objects.{counts_json, digest_json, domain_json, exporter_members, fault_json, file_json, file_members, format_name, input_json, left_out_members, list_json, member_tokens, number_json, report_members, row_members, sum_json, table_json, text_members};
+ghost use Rattle.table_receipts.specs.Values.{exporter_value, file_value, input_value, into_value, sum_value, table_value};
+ghost use Rattle.table_receipts.specs.Objects.{counts_json, digest_json, domain_json, exporter_members, fault_json, file_json, file_members, form_members, format_name, input_json, into_members, left_out_members, list_json, member_tokens, number_json, report_members, row_members, sum_json, table_json, text_members};
 
 use crate::receipt::{
-    CounterSum, DomainReceipt, ExporterReceipt, FileReceipt, InputReceipt, RecordCounts,
-    TableFormat, TableReceipt,
+    CounterSum, DomainReceipt, ExporterReceipt, FileReceipt, InputReceipt, MergedInto,
+    RecordCounts, TableFormat, TableReceipt,
 };
 use itoa::Buffer;
 use json::Writer;
@@ -266,6 +266,29 @@ fn name_of(format: TableFormat) -> &'static str
     }
 }
 
+// Writes the members that tell how a table is written.
+fn write_form_members(writer: &mut Writer, table: &TableReceipt) -> Result<(), AllocError>
+    ensures { Appends result writer.old writer.new
+        (member_tokens (form_members (table_value table.now))) }
+{
+    write_text_member(writer, "format", name_of(table.format))?;
+    write_number_member(writer, "time", u128::from(table.time))
+}
+
+// Writes the members that tell into what the rows of a table were merged, if they were.
+fn write_into_members(writer: &mut Writer, into: &Option<MergedInto>) -> Result<(), AllocError>
+    ensures { Appends result writer.old writer.new
+        (member_tokens (into_members (option_map into_value into.now))) }
+{
+    match into {
+        None => Ok(()),
+        Some(merged) => {
+            write_text_member(writer, "into", merged.interval.name())?;
+            write_text_member(writer, "zone", merged.zone.as_str())
+        }
+    }
+}
+
 // Writes the members that tell the text of a table.
 fn write_text_members(
     alloc: Global,
@@ -275,8 +298,6 @@ fn write_text_members(
     ensures { Appends result writer.old writer.new
         (member_tokens (text_members (table_value table.now))) }
 {
-    write_text_member(writer, "format", name_of(table.format))?;
-    write_number_member(writer, "time", u128::from(table.time))?;
     write_number_member(writer, "octets", u128::from(table.octets))?;
     write_digest_member(alloc, writer, "sha256", &table.sha256)
 }
@@ -303,6 +324,8 @@ pub fn write_table(
 {
     writer.key("table")?;
     writer.begin_object()?;
+    write_form_members(writer, table)?;
+    write_into_members(writer, &table.into)?;
     write_text_members(alloc, writer, table)?;
     write_row_members(writer, table)?;
     writer.end_object()

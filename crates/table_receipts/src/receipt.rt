@@ -1,5 +1,8 @@
 //! What a receipt tells.
 
+ghost use Rattle.std.specs.Prelude.{◌≡◌};
+ghost use Rattle.table_receipts.specs.Objects.{interval_name};
+
 /// A file that was read: an input, a file of elements, or one of a map.
 #[derive(Drop)]
 pub struct FileReceipt {
@@ -76,6 +79,35 @@ pub enum TableFormat {
     Json,
 }
 
+/// Into what the rows of a table were merged.
+#[derive(Drop)]
+pub struct MergedInto {
+    pub interval: MergedInterval,
+    /// The name of the zone whose days or months they are, as it was given.
+    pub zone: String,
+}
+
+/// The intervals that rows were merged into.
+#[derive(Clone, Copy, Debug, PartialEq, Eq)]
+pub enum MergedInterval {
+    /// Local days.
+    Day,
+    /// Local months.
+    Month,
+}
+
+impl MergedInterval {
+    /// Its name in a receipt, which is the word that `merge --into` takes.
+    pub fn name(self) -> &'static str
+        ensures { result.now ≡ interval_name self }
+    {
+        match self {
+            MergedInterval::Day => "day",
+            MergedInterval::Month => "month",
+        }
+    }
+}
+
 /// The sum of a counter over all rows of a table.
 #[derive(Drop)]
 pub struct CounterSum {
@@ -90,6 +122,8 @@ pub struct TableReceipt {
     pub format: TableFormat,
     /// The export time of its messages, in seconds since 1970-01-01 UTC.
     pub time: u32,
+    /// Into what its rows were merged; without it they have the plan's intervals.
+    pub into: Option<MergedInto>,
     /// How many octets its text has.
     pub octets: u64,
     /// The SHA-256 of its text.

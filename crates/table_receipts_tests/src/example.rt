@@ -2,8 +2,8 @@
 
 use std::alloc::{AllocError, Global};
 use table_receipts::{
-    CounterSum, DomainReceipt, ExporterReceipt, FileReceipt, InputReceipt, Receipt, RecordCounts,
-    TableFormat, TableReceipt,
+    CounterSum, DomainReceipt, ExporterReceipt, FileReceipt, InputReceipt, MergedInterval,
+    MergedInto, Receipt, RecordCounts, TableFormat, TableReceipt,
 };
 
 /// The text of the receipt.
@@ -13,6 +13,14 @@ pub const TEXT: &str =
 /// The text of the receipt that says of two inputs that they were left out.
 pub const TEXT_OF_THE_REST: &str =
     "{\"receipt\":1,\"collectd\":\"1.2.3\",\"plan\":{\"text\":\"keys = [\\\"sourceIPv4Address\\\"]\\ncounters = [\\\"octetDeltaCount\\\"]\\n\",\"sha256\":\"28fce7cafeca2a590dced55c4ae543f79c3b5cc80353f9c2a2ad33adac2eda8b\"},\"elements\":[{\"name\":\"site.csv\",\"octets\":5,\"sha256\":\"ba1759da69db12eb17bd9914d1f27d9674eae0e2c47ea5fadef5bdf07de02d53\"}],\"maps\":[{\"name\":\"plans/customers.csv\",\"octets\":33,\"sha256\":\"3f2714a4b79a100b88a7943bea47872580884a1c397f5aae849dcdf645badf39\"}],\"inputs\":[{\"name\":\"a.ipfix\",\"octets\":68,\"sha256\":\"ca978112ca1bbdcafac231b39a23dc4da786eff8147c4e72b9807785afee48bb\",\"messages\":1,\"records\":1,\"fault\":null,\"domains\":[{\"domain\":1,\"lost\":0,\"backward\":0,\"unaccounted\":0,\"unknown_sets\":0}]},{\"name\":\"b \\\"q\\\" é.ipfix\",\"octets\":0,\"sha256\":\"e3b0c44298fc1c149afbf4c8996fb92427ae41e4649b934ca495991b7852b855\",\"messages\":0,\"records\":0,\"fault\":\"ReadFailed\",\"domains\":[],\"exporter\":null},{\"name\":\"192.0.2.1:40000\",\"octets\":\"18446744073709551615\",\"sha256\":\"2e7d2c03a9507ae265ecf5b5356885a53393a2029d241394997265a1a25aefc6\",\"messages\":9007199254740991,\"records\":\"9007199254740992\",\"fault\":\"Truncated\",\"domains\":[{\"domain\":4294967295,\"lost\":7,\"backward\":1,\"unaccounted\":2,\"unknown_sets\":3},{\"domain\":0,\"lost\":0,\"backward\":0,\"unaccounted\":0,\"unknown_sets\":1}],\"exporter\":\"2001:0db8:0000:0000:0000:0000:0000:0001\"}],\"records\":{\"used\":1,\"options\":2,\"untimed\":3,\"backward\":4,\"unkeyed\":5,\"too_long\":6},\"table\":{\"format\":\"ipfix\",\"time\":1700000000,\"octets\":100,\"sha256\":\"e3b98a4da31a127d4bde6e43033f66ba274cab0eb7eb1c70ec41402bf6273dd8\",\"rows\":1,\"sums\":[{\"name\":\"octetDeltaCount\",\"sum\":1500},{\"name\":\"packetDeltaCount\",\"sum\":\"340282366920938463463374607431768211455\"}],\"flows\":1},\"left_out\":[\"second \\\"one\\\"\",\"first\"],\"complete\":false,\"sha256\":\"c174d844021f717b150f88d735d9fd4661a5db6234bddf2795932da9b9fc01b2\"}";
+
+/// The text of the receipt whose rows were merged into months.
+pub const TEXT_OF_MONTHS: &str =
+    "{\"receipt\":1,\"collectd\":\"1.2.3\",\"plan\":{\"text\":\"keys = [\\\"sourceIPv4Address\\\"]\\ncounters = [\\\"octetDeltaCount\\\"]\\n\",\"sha256\":\"28fce7cafeca2a590dced55c4ae543f79c3b5cc80353f9c2a2ad33adac2eda8b\"},\"elements\":[{\"name\":\"site.csv\",\"octets\":5,\"sha256\":\"ba1759da69db12eb17bd9914d1f27d9674eae0e2c47ea5fadef5bdf07de02d53\"}],\"maps\":[{\"name\":\"plans/customers.csv\",\"octets\":33,\"sha256\":\"3f2714a4b79a100b88a7943bea47872580884a1c397f5aae849dcdf645badf39\"}],\"inputs\":[{\"name\":\"a.ipfix\",\"octets\":68,\"sha256\":\"ca978112ca1bbdcafac231b39a23dc4da786eff8147c4e72b9807785afee48bb\",\"messages\":1,\"records\":1,\"fault\":null,\"domains\":[{\"domain\":1,\"lost\":0,\"backward\":0,\"unaccounted\":0,\"unknown_sets\":0}]},{\"name\":\"b \\\"q\\\" é.ipfix\",\"octets\":0,\"sha256\":\"e3b0c44298fc1c149afbf4c8996fb92427ae41e4649b934ca495991b7852b855\",\"messages\":0,\"records\":0,\"fault\":\"ReadFailed\",\"domains\":[],\"exporter\":null},{\"name\":\"192.0.2.1:40000\",\"octets\":\"18446744073709551615\",\"sha256\":\"2e7d2c03a9507ae265ecf5b5356885a53393a2029d241394997265a1a25aefc6\",\"messages\":9007199254740991,\"records\":\"9007199254740992\",\"fault\":\"Truncated\",\"domains\":[{\"domain\":4294967295,\"lost\":7,\"backward\":1,\"unaccounted\":2,\"unknown_sets\":3},{\"domain\":0,\"lost\":0,\"backward\":0,\"unaccounted\":0,\"unknown_sets\":1}],\"exporter\":\"2001:0db8:0000:0000:0000:0000:0000:0001\"}],\"records\":{\"used\":1,\"options\":2,\"untimed\":3,\"backward\":4,\"unkeyed\":5,\"too_long\":6},\"table\":{\"format\":\"ipfix\",\"time\":1700000000,\"into\":\"month\",\"zone\":\"Europe/Zurich\",\"octets\":100,\"sha256\":\"e3b98a4da31a127d4bde6e43033f66ba274cab0eb7eb1c70ec41402bf6273dd8\",\"rows\":1,\"sums\":[{\"name\":\"octetDeltaCount\",\"sum\":1500},{\"name\":\"packetDeltaCount\",\"sum\":\"340282366920938463463374607431768211455\"}],\"flows\":1},\"complete\":false,\"sha256\":\"451c2179a88601acff231e9e4c7dc3bc6017c6d72fa3fc83e385626ae1c8720c\"}";
+
+/// The same of weeks, into which no rows are merged, with its own SHA-256.
+pub const TEXT_OF_WEEKS: &str =
+    "{\"receipt\":1,\"collectd\":\"1.2.3\",\"plan\":{\"text\":\"keys = [\\\"sourceIPv4Address\\\"]\\ncounters = [\\\"octetDeltaCount\\\"]\\n\",\"sha256\":\"28fce7cafeca2a590dced55c4ae543f79c3b5cc80353f9c2a2ad33adac2eda8b\"},\"elements\":[{\"name\":\"site.csv\",\"octets\":5,\"sha256\":\"ba1759da69db12eb17bd9914d1f27d9674eae0e2c47ea5fadef5bdf07de02d53\"}],\"maps\":[{\"name\":\"plans/customers.csv\",\"octets\":33,\"sha256\":\"3f2714a4b79a100b88a7943bea47872580884a1c397f5aae849dcdf645badf39\"}],\"inputs\":[{\"name\":\"a.ipfix\",\"octets\":68,\"sha256\":\"ca978112ca1bbdcafac231b39a23dc4da786eff8147c4e72b9807785afee48bb\",\"messages\":1,\"records\":1,\"fault\":null,\"domains\":[{\"domain\":1,\"lost\":0,\"backward\":0,\"unaccounted\":0,\"unknown_sets\":0}]},{\"name\":\"b \\\"q\\\" é.ipfix\",\"octets\":0,\"sha256\":\"e3b0c44298fc1c149afbf4c8996fb92427ae41e4649b934ca495991b7852b855\",\"messages\":0,\"records\":0,\"fault\":\"ReadFailed\",\"domains\":[],\"exporter\":null},{\"name\":\"192.0.2.1:40000\",\"octets\":\"18446744073709551615\",\"sha256\":\"2e7d2c03a9507ae265ecf5b5356885a53393a2029d241394997265a1a25aefc6\",\"messages\":9007199254740991,\"records\":\"9007199254740992\",\"fault\":\"Truncated\",\"domains\":[{\"domain\":4294967295,\"lost\":7,\"backward\":1,\"unaccounted\":2,\"unknown_sets\":3},{\"domain\":0,\"lost\":0,\"backward\":0,\"unaccounted\":0,\"unknown_sets\":1}],\"exporter\":\"2001:0db8:0000:0000:0000:0000:0000:0001\"}],\"records\":{\"used\":1,\"options\":2,\"untimed\":3,\"backward\":4,\"unkeyed\":5,\"too_long\":6},\"table\":{\"format\":\"ipfix\",\"time\":1700000000,\"into\":\"week\",\"zone\":\"Europe/Zurich\",\"octets\":100,\"sha256\":\"e3b98a4da31a127d4bde6e43033f66ba274cab0eb7eb1c70ec41402bf6273dd8\",\"rows\":1,\"sums\":[{\"name\":\"octetDeltaCount\",\"sum\":1500},{\"name\":\"packetDeltaCount\",\"sum\":\"340282366920938463463374607431768211455\"}],\"flows\":1},\"complete\":false,\"sha256\":\"19a2cdd01161828bd822fb236abc29256e442b8277aa42702102f10907b0a92d\"}";
 
 const PLAN: &str = "keys = [\"sourceIPv4Address\"]\ncounters = [\"octetDeltaCount\"]\n";
 
@@ -128,6 +136,7 @@ fn table(alloc: Global) -> Result<TableReceipt, AllocError> {
     Ok(TableReceipt {
         format: TableFormat::Ipfix,
         time: 1700000000,
+        into: None,
         octets: 100,
         sha256: T,
         rows: 1,
@@ -172,5 +181,15 @@ pub fn receipt_of_the_rest(alloc: Global) -> Result<Receipt, AllocError> {
     for name in ["second \"one\"", "first"] {
         receipt.left_out.push(String::from_str(alloc, name)?)?;
     }
+    Ok(receipt)
+}
+
+/// The receipt whose rows were merged into months.
+pub fn receipt_of_months(alloc: Global) -> Result<Receipt, AllocError> {
+    let mut receipt = receipt(alloc)?;
+    receipt.table.into = Some(MergedInto {
+        interval: MergedInterval::Month,
+        zone: String::from_str(alloc, "Europe/Zurich")?,
+    });
     Ok(receipt)
 }

@@ -1,10 +1,15 @@
 //! A receipt is written as its text, and that reads back; a text that is changed anywhere is refused.
 
-use crate::example::{TEXT, TEXT_OF_THE_REST, receipt, receipt_of_the_rest};
+use crate::example::{
+    TEXT, TEXT_OF_MONTHS, TEXT_OF_THE_REST, TEXT_OF_WEEKS, receipt, receipt_of_months,
+    receipt_of_the_rest,
+};
 use std::alloc::{AllocError, Global};
 use std::str;
 use std::test::*;
-use table_receipts::{ExporterReceipt, ReceiptFault, TableFormat, read_receipt, write_receipt};
+use table_receipts::{
+    ExporterReceipt, MergedInterval, ReceiptFault, TableFormat, read_receipt, write_receipt,
+};
 
 #[test]
 fn is_written_as_its_text(rt: HostRuntime) -> Result<(), Fail> {
@@ -75,6 +80,31 @@ fn names_what_was_left_out(rt: HostRuntime) -> Result<(), Fail> {
     }
     assert_eq!(rt; names.as_slice(), ["second \"one\"", "first"].as_slice());
     Ok(())
+}
+
+#[test]
+fn tells_into_what_rows_were_merged(rt: HostRuntime) -> Result<(), Fail> {
+    let alloc: Global = rt.alloc();
+    let text = write_receipt(alloc, &receipt_of_months(alloc)?)?;
+    assert!(rt; text.as_slice() == TEXT_OF_MONTHS.as_bytes());
+    let Ok(receipt) = read_receipt(alloc, TEXT_OF_MONTHS) else {
+        return Err("the text was not read".into());
+    };
+    let into = receipt
+        .table
+        .into
+        .as_ref()
+        .map(|into| (into.interval, into.zone.as_str()));
+    assert_eq!(rt; into, Some((MergedInterval::Month, "Europe/Zurich")));
+    Ok(())
+}
+
+// With a SHA-256 of its own.
+#[test]
+fn refuses_intervals_that_there_are_not(rt: HostRuntime) {
+    let alloc: Global = rt.alloc();
+    let refused = read_receipt(alloc, TEXT_OF_WEEKS).err();
+    assert_eq!(rt; refused, Some(ReceiptFault::NotAReceipt));
 }
 
 // The text with one bit of an octet turned.
