@@ -1,5 +1,7 @@
 -- The table of the last of several runs, before each of which a lot more was left out.
-use Rattle.std.proofs.Common.{◌≡◌, ◌<◌, ℕ, List, [], ◌∷◌, ◌++◌, length, Bool, Option, None, Some, inl, inr, refl, sym, ap, subst, ◌∙◌, append-nil, append_assoc}
+use Rattle.std.proofs.Common.{◌≡◌, ◌<◌, ℕ, List, [], ◌∷◌, ◌++◌, length, Bool, Option, None, Some, inl, inr, refl, sym, ap, subst, ◌∙◌, append-nil, append_assoc, arith}
+use Rattle.std.specs.Prelude.{◌==◌, true, false}
+use Rattle.std.proofs.lemmas.Bool.{eqb-true}
 use Rattle.std.proofs.lemmas.Grind.{flat_map-append}
 use Rattle.std.specs.declared.alloc.Global.{Global}
 use Rattle.std.specs.declared.io.ErrorKind.{ErrorKind}
@@ -19,6 +21,15 @@ use Rattle.period_collect.specs.MadeTables.{EndsWithout, EndsWithoutSome, HasNoR
 
 all_out_more : (lots : List (List ℕ)) (lot : List ℕ) → all_out (lots ++ lot ∷ []) ≡ all_out lots ++ lot
 all_out_more lots lot = flat_map-append (λ (l : List ℕ). l) lots (lot ∷ []) ∙ ap (λ (last : List ℕ). all_out lots ++ last) (append-nil lot)
+
+-- a lot of none, and one of some
+pub none_in : (lot : List ℕ) → (length lot == 0) ≡ true → lot ≡ []
+none_in [] is = refl
+none_in (place ∷ lot) is = absurd (omega (arith, eqb-true (length (place ∷ lot)) 0 is))
+
+pub some_in : (lot : List ℕ) → (length lot == 0) ≡ false → 0 < length lot
+some_in [] is = absurd cc
+some_in (place ∷ lot) is = omega arith
 
 module _ {S O E : Type 0} (seen : S → SourceView) (failure : S → Option ErrorKind) (opens : O → List ℕ → S → Type 0) (sizes : O → List ℕ → Option ℕ → Type 0) (refuses : O → List ℕ → Reason → Type 0) (coming : O → Option (List S))
     (contents : E → Option (List ℕ)) (failed : E → Type 0) (begins : ℕ) (files : List (String Global)) where
