@@ -1,18 +1,35 @@
 -- The table of the last of several runs, before each of which a lot more was left out.
-use Rattle.std.proofs.Common.{◌≡◌, ℕ, List, [], ◌∷◌, ◌++◌, Bool, Option, inr, refl, sym, ap, subst, ◌∙◌, append-nil, append_assoc}
+use Rattle.std.proofs.Common.{◌≡◌, ◌<◌, ℕ, List, [], ◌∷◌, ◌++◌, length, Bool, Option, None, Some, inl, inr, refl, sym, ap, subst, ◌∙◌, append-nil, append_assoc, arith}
+use Rattle.std.specs.Prelude.{◌==◌, true, false}
+use Rattle.std.proofs.lemmas.Bool.{eqb-true}
 use Rattle.std.proofs.lemmas.Grind.{flat_map-append}
 use Rattle.std.specs.declared.alloc.Global.{Global}
 use Rattle.std.specs.declared.io.ErrorKind.{ErrorKind}
 use Rattle.std.specs.declared.string.String.{String}
+use Rattle.std.specs.declared.vec.Vec.{Vec}
 use Rattle.ipfix_session.specs.Sources.{SourceView}
 use Rattle.report_writing.specs.declared.reason.Reason.{Reason}
 use Rattle.report_writing.specs.declared.status.Status.{Status}
 use Rattle.report_writing.specs.declared.status.Status.TheVariants.{Failed}
+use Rattle.command_receipt.specs.declared.run.Ended.{Ended}
+use Rattle.command_receipt.specs.declared.run.Hindrance.{Hindrance}
+use Rattle.period_collect.specs.declared.kept_receipt.KeptReceipt.{KeptReceipt}
+use Rattle.period_collect.specs.declared.maker.MadeTable.{MadeTable}
 use Rattle.period_collect.specs.declared.maker.TableMaker.{TableMaker}
-use Rattle.period_collect.specs.MadeTables.{HasNoTable, IsNotMade, IsStanding, IsTableOf, LeaveLots, LeavesLot, all_out}
+use Rattle.period_collect.specs.ManyRows.{LeavesOutForRows}
+use Rattle.period_collect.specs.MadeTables.{EndsWithout, EndsWithoutSome, HasNoRest, HasNoTable, IsNotMade, IsRun, IsRunWith, IsStanding, IsTableOf, LacksRows, LeaveLots, LeavesLot, LeavesOutMore, all_out}
 
 all_out_more : (lots : List (List ℕ)) (lot : List ℕ) → all_out (lots ++ lot ∷ []) ≡ all_out lots ++ lot
 all_out_more lots lot = flat_map-append (λ (l : List ℕ). l) lots (lot ∷ []) ∙ ap (λ (last : List ℕ). all_out lots ++ last) (append-nil lot)
+
+-- a lot of none, and one of some
+pub none_in : (lot : List ℕ) → (length lot == 0) ≡ true → lot ≡ []
+none_in [] is = refl
+none_in (place ∷ lot) is = absurd (omega (arith, eqb-true (length (place ∷ lot)) 0 is))
+
+pub some_in : (lot : List ℕ) → (length lot == 0) ≡ false → 0 < length lot
+some_in [] is = absurd cc
+some_in (place ∷ lot) is = omega arith
 
 module _ {S O E : Type 0} (seen : S → SourceView) (failure : S → Option ErrorKind) (opens : O → List ℕ → S → Type 0) (sizes : O → List ℕ → Option ℕ → Type 0) (refuses : O → List ℕ → Reason → Type 0) (coming : O → Option (List S))
     (contents : E → Option (List ℕ)) (failed : E → Type 0) (begins : ℕ) (files : List (String Global)) where
@@ -30,6 +47,56 @@ module _ {S O E : Type 0} (seen : S → SourceView) (failure : S → Option Erro
     lots_more all.0 between after (out ++ first) lots lot all.2
         (subst (λ (o : List ℕ). LeavesLot seen failure opens sizes refuses coming contents failed between after begins files o lot) (sym (append_assoc out first (all_out lots))) is),
   )
+
+  -- ---- what a run gave
+
+  module _ (before ran after : TableMaker S O E) (out : List ℕ) (ended : Ended (Vec ℕ Global) KeptReceipt) (run : IsRun seen failure opens sizes refuses coming contents failed before ran begins files out ended) where
+    pub lot_of_hindered : (lot : List ℕ) (hindrance : Hindrance) → ended.hindrance ≡ Some hindrance → LeavesOutMore seen failure opens sizes refuses coming contents failed ran after begins files out lot hindrance
+        → LeavesLot seen failure opens sizes refuses coming contents failed before after begins files out lot
+    lot_of_hindered lot hindrance is leaves = inl (record { tried = ran; hindrance = hindrance; hindered = record { ended = ended; run = run; is = is }; leaves_out = leaves })
+
+    pub none_of_rest : (hindrance : Hindrance) → ended.hindrance ≡ Some hindrance → (status : Status) → HasNoRest status → HasNoTable seen failure opens sizes refuses coming contents failed before after begins files out status
+    none_of_rest hindrance is status none = inr (inl (ran, hindrance, record { ended = ended; run = run; is = is }, none))
+
+    pub none_of_run : ended.hindrance ≡ None → (status : Status) → EndsWithout ended status → HasNoTable seen failure opens sizes refuses coming contents failed before ran begins files out status
+    none_of_run free status ends = inl (record { ended = ended; run = run; free = free; ends = ends })
+
+    module _ (free : ended.hindrance ≡ None) (table : MadeTable) (ends : EndsWithoutSome ended out table.text.items table.receipt.items table.had_fault) (told : List ℕ) (is : told ≡ table.receipt.items) where
+      run_with : IsRunWith seen failure opens sizes refuses coming contents failed before ran begins files out table.text.items table.receipt.items table.had_fault
+      run_with = record { ended = ended; run = run; free = free; ends = ends }
+
+      pub not_looked_at : (status : Status) → LacksRows ran after told status → HasNoTable seen failure opens sizes refuses coming contents failed before after begins files out status
+      not_looked_at status lacks = inr (inr (inl (record {
+        ran = ran;
+        text = table.text.items;
+        receipt = table.receipt.items;
+        fault = table.had_fault;
+        run = run_with;
+        why = subst (λ (receipt : List ℕ). LacksRows ran after receipt status) is lacks;
+      })))
+
+      pub standing : (lot : List ℕ) → LeavesOutForRows seen opens sizes coming contents failed ran after begins files out told lot → lot ≡ []
+          → IsStanding seen failure opens sizes refuses coming contents failed before after begins files out table.text.items table.receipt.items table.had_fault
+      standing lot leaves none = record {
+        ran = ran;
+        run = run_with;
+        none_goes = subst (λ (lot : List ℕ). LeavesOutForRows seen opens sizes coming contents failed ran after begins files out table.receipt.items lot) none
+            (subst (λ (receipt : List ℕ). LeavesOutForRows seen opens sizes coming contents failed ran after begins files out receipt lot) is leaves);
+      }
+
+      pub lot_of_large : (lot : List ℕ) → LeavesOutForRows seen opens sizes coming contents failed ran after begins files out told lot → 0 < length lot
+          → LeavesLot seen failure opens sizes refuses coming contents failed before after begins files out lot
+      lot_of_large lot leaves some = inr (record {
+        tried = ran;
+        text = table.text.items;
+        receipt = table.receipt.items;
+        fault = table.had_fault;
+        run = run_with;
+        leaves_out = subst (λ (receipt : List ℕ). LeavesOutForRows seen opens sizes coming contents failed ran after begins files out receipt lot) is leaves;
+        some = some;
+      })
+
+  -- ---- run after run
 
   -- what was left out so far
   pub record LeftOut (before between : TableMaker S O E) (out : List ℕ) : Type 0 where
