@@ -59,8 +59,8 @@ AreLocalOf read output None None = Unit {0}
 AreLocalOf read output (Some zone) (Some local) = AreIn read output zone local
 AreLocalOf read output other local = ⊥
 
--- it has the plan's name, and makes tables in IPFIX of what was read of that plan, of sessions with at most so many rows as was given,
--- their texts, and those of days and months
+-- it has the plan's name, and makes tables in IPFIX of what was read of that plan, with as many rows of a session as were given for a
+-- limit, their texts, and those of days and months
 pub record IsWorkOf (read : ReadPlan) (arguments : TablesArguments) (zone : Option TimeZone) (plan : PlanWork) : Type 0 where
   pub name_is : plan.name ≡ read.named.name
   pub elements : plan.work.desk.maker.job.collect.elements.now ≡ read.made.loaded.elements
