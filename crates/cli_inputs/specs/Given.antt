@@ -113,6 +113,7 @@ module _ (chosen : Chosen) where
     pub every : IsNumberGiven chosen (codes "every") (Some told.every)
     pub grace : IsNumberGiven chosen (codes "grace") (Some told.grace)
     pub days : option_map (λ zone. zone.now) told.days ≡ text_given chosen (codes "days")
+    pub rows_of_a_session : IsNumberGiven chosen (codes "rows-of-a-session") (Some told.rows_of_a_session)
     pub keep_days : IsNumberGiven chosen (codes "keep-recordings") told.keep_days
     pub follow : IsFlagGiven chosen (codes "follow") told.follow
 

@@ -10,8 +10,8 @@ use cli_words::{
     FILES_FROM, FLOW_FILES, FOLDER, FOLLOW, FROM, GRACE, IDLE, INCOMPLETE, INTO, KEEP_RECORDINGS,
     LISTEN, MERGE_INTO, PEERS, PERIODS_FROM, PLAN, PLANS, PROGRESS, RECEIPT, RECEIPT_FILE,
     RECEIPT_OF, RECEIPTS, RECORD_IDLE, RECORD_LISTEN, RECORD_SESSIONS, RECORD_VERBOSE,
-    RECORDED_EVERY, REORDER, RING, SESSIONS, STRICT, Subcommand, TABLE, TABLE_FILES, TABLE_FORMAT,
-    TABLES_INTO, TEMPLATES, TIME, UDP, VERBOSE, WORD, WORKERS, ZONE,
+    RECORDED_EVERY, REORDER, RING, ROWS_OF_A_SESSION, SESSIONS, STRICT, Subcommand, TABLE,
+    TABLE_FILES, TABLE_FORMAT, TABLES_INTO, TEMPLATES, TIME, UDP, VERBOSE, WORD, WORKERS, ZONE,
 };
 use flow_collect::Pool;
 use ipfix_dump::Form;
@@ -151,6 +151,8 @@ pub struct TablesArguments<'m, 'w> {
     pub grace: u64,
     /// The name of the time zone whose days and months have tables, too, if there is one.
     pub days: Option<&'w str>,
+    /// How many rows a session may have by itself.
+    pub rows_of_a_session: u64,
     /// For how many days from its begin on the recordings of a period are kept, if not for ever.
     pub keep_days: Option<u32>,
     /// Whether it goes on for ever.
@@ -374,6 +376,7 @@ fn read_tables<'m, 'w>(chosen: Chosen<'m, 'w>) -> Option<TablesArguments<'m, 'w>
     let workers = chosen.number(WORKERS)?;
     let every = chosen.number(RECORDED_EVERY)?;
     let grace = chosen.number(GRACE)?;
+    let rows = chosen.number(ROWS_OF_A_SESSION)?;
     Some(TablesArguments {
         from: chosen.text(PERIODS_FROM)?,
         into: chosen.text(TABLES_INTO)?,
@@ -385,6 +388,7 @@ fn read_tables<'m, 'w>(chosen: Chosen<'m, 'w>) -> Option<TablesArguments<'m, 'w>
         every: u64::from(every),
         grace: u64::from(grace),
         days: chosen.text(DAYS),
+        rows_of_a_session: u64::from(rows),
         keep_days: chosen.number(KEEP_RECORDINGS),
         follow: chosen.is_given(FOLLOW),
     })

@@ -12,7 +12,8 @@ use crate::options::{
     TABLE, TABLE_FORMAT, TIME, VERBOSE, WORKERS, ZONE,
 };
 use crate::period_options::{
-    DAYS, FOLLOW, GRACE, KEEP_RECORDINGS, PERIODS_FROM, PLANS, RECORDED_EVERY, TABLES_INTO,
+    DAYS, FOLLOW, GRACE, KEEP_RECORDINGS, PERIODS_FROM, PLANS, RECORDED_EVERY, ROWS_OF_A_SESSION,
+    TABLES_INTO,
 };
 
 /// A command.
@@ -116,6 +117,7 @@ pub const TABLES: CommandWords = CommandWords {
         RECORDED_EVERY,
         GRACE,
         DAYS,
+        ROWS_OF_A_SESSION,
         KEEP_RECORDINGS,
         FOLLOW,
         VERBOSE,

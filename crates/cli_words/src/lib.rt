@@ -27,7 +27,8 @@ pub use options::{
     WORKERS, ZONE,
 };
 pub use period_options::{
-    DAYS, FOLLOW, GRACE, KEEP_RECORDINGS, PERIODS_FROM, PLANS, RECORDED_EVERY, TABLES_INTO,
+    DAYS, FOLLOW, GRACE, KEEP_RECORDINGS, PERIODS_FROM, PLANS, RECORDED_EVERY, ROWS_OF_A_SESSION,
+    TABLES_INTO,
 };
 pub use showing::show;
 pub use subcommands::Subcommand;

@@ -58,6 +58,14 @@ pub const KEEP_RECORDINGS: Argument = Argument {
     help: "Remove the recordings of each period that began so many days ago and has its table of exactly its files",
 };
 
+/// How many rows a session may have by itself.
+pub const ROWS_OF_A_SESSION: Argument = Argument {
+    word: "rows-of-a-session",
+    takes: Takes::Number("N", 1, LARGEST),
+    due: Due::Default("1000000"),
+    help: "How many rows a session may have by itself: if a table has more, those that have more are left out",
+};
+
 /// Whose local days and months have tables, too.
 pub const DAYS: Argument = Argument {
     word: "days",

@@ -1,6 +1,7 @@
 -- The work on the tables of plans.
 use Rattle.std.specs.Prelude.{◌≡◌, ◌≢◌, Option, None, Some}
 use Rattle.cli_inputs.specs.Formats.{format_word}
+use Rattle.cli_inputs.specs.declared.arguments.TablesArguments.{TablesArguments}
 use Rattle.flow_export.specs.declared.format.Format.TheVariants.{Ipfix}
 use Rattle.jiff.specs.declared.tz.timezone.TimeZone.{TimeZone}
 use Rattle.local_days.specs.declared.local_interval.LocalInterval.{LocalInterval}
@@ -58,13 +59,15 @@ AreLocalOf read output None None = Unit {0}
 AreLocalOf read output (Some zone) (Some local) = AreIn read output zone local
 AreLocalOf read output other local = ⊥
 
--- it has the plan's name, and makes tables in IPFIX of what was read of that plan, their texts, and those of days and months
-pub record IsWorkOf (read : ReadPlan) (output : Output) (zone : Option TimeZone) (plan : PlanWork) : Type 0 where
+-- it has the plan's name, and makes tables in IPFIX of what was read of that plan, with as many rows of a session as were given for a
+-- limit, their texts, and those of days and months
+pub record IsWorkOf (read : ReadPlan) (arguments : TablesArguments) (zone : Option TimeZone) (plan : PlanWork) : Type 0 where
   pub name_is : plan.name ≡ read.named.name
   pub elements : plan.work.desk.maker.job.collect.elements.now ≡ read.made.loaded.elements
   pub plan_is : plan.work.desk.maker.job.collect.plan.now ≡ read.made.loaded.read.plan
   pub made : plan.work.desk.maker.job.made.now ≡ read.made.made
-  pub output_is : plan.work.desk.maker.job.collect.output ≡ record output { format = Ipfix }
+  pub output_is : plan.work.desk.maker.job.collect.output ≡ record arguments.output { format = Ipfix }
+  pub rows_of_a_session : plan.work.desk.maker.job.rows_of_a_session ≡ arguments.rows_of_a_session
   pub place : HasTablesOf Periods (format_word Ipfix) plan.work.desk.tables
-  pub texts : AreTextsOf read output plan.texts
-  pub local : AreLocalOf read output zone plan.local
+  pub texts : AreTextsOf read arguments.output plan.texts
+  pub local : AreLocalOf read arguments.output zone plan.local

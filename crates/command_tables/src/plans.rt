@@ -107,7 +107,7 @@ pub(crate) fn open_plans<'a>(
     err: &mut Stderr,
 ) -> Result<Vec<PlanWork<'a>>, Status>
     ensures { IfOk result (λ plans.
-        AllZip (λ read plan. IsWorkOf read arguments.now.output zone.entry plan) read.now plans.items) }
+        AllZip (λ read plan. IsWorkOf read arguments.now zone.entry plan) read.now plans.items) }
 {
     let mut plans = Vec::new(rt.alloc());
     for plan in read {
@@ -128,7 +128,7 @@ fn open_plan<'a>(
     zone: Option<TimeZone<'a>>,
     err: &mut Stderr,
 ) -> Result<PlanWork<'a>, Status>
-    ensures ok { IfOk result (IsWorkOf plan.now arguments.now.output zone.entry) }
+    ensures ok { IfOk result (IsWorkOf plan.now arguments.now zone.entry) }
     ensures err { IfErr result (λ status. status ≡ Status.NotOpened) }
 {
     let NamedPlan { path, name } = plan.named;
@@ -142,6 +142,7 @@ fn open_plan<'a>(
         recordings: arguments.from,
         collect: collect_job(loaded, maps.as_ref(), &table, engine, &[]),
         made,
+        rows_of_a_session: arguments.rows_of_a_session,
     };
     Ok(PlanWork {
         name,

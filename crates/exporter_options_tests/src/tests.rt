@@ -47,9 +47,12 @@ fn at(selected: u32, population: u64) -> Option<Sampling> {
 fn counts_an_interval_and_its_space(rt: HostRuntime) -> Result<(), Fail> {
     let alloc = rt.alloc();
     let told: [(u16, &[u8]); 3] = [(304, &[0, 1]), (305, &[0, 0, 0, 1]), (306, &[0, 0, 0, 9])];
-    assert_eq!(rt; sampling(alloc, &told)?, at(1, 10));
-    assert_eq!(rt; sampling(alloc, &told[1..])?, at(1, 10));
-    assert_eq!(rt; sampling(alloc, &told[..2])?, Some(Sampling::Unusable));
+    let found = [
+        sampling(alloc, &told)?,
+        sampling(alloc, &told[1..])?,
+        sampling(alloc, &told[..2])?,
+    ];
+    assert_eq!(rt; found, [at(1, 10), at(1, 10), Some(Sampling::Unusable)]);
     Ok(())
 }
 
@@ -58,8 +61,8 @@ fn counts_an_interval_and_its_space(rt: HostRuntime) -> Result<(), Fail> {
 fn counts_a_size_and_its_population(rt: HostRuntime) -> Result<(), Fail> {
     let alloc = rt.alloc();
     let told: [(u16, &[u8]); 3] = [(304, &[3]), (309, &[2]), (310, &[100])];
-    assert_eq!(rt; sampling(alloc, &told)?, at(2, 100));
-    assert_eq!(rt; sampling(alloc, &told[1..])?, None);
+    let found = [sampling(alloc, &told)?, sampling(alloc, &told[1..])?];
+    assert_eq!(rt; found, [at(2, 100), None]);
     Ok(())
 }
 
@@ -68,8 +71,8 @@ fn counts_a_size_and_its_population(rt: HostRuntime) -> Result<(), Fail> {
 fn takes_older_elements_after_the_algorithm(rt: HostRuntime) -> Result<(), Fail> {
     let alloc = rt.alloc();
     let told: [(u16, &[u8]); 4] = [(304, &[2]), (305, &[1]), (34, &[3, 232]), (50, &[100])];
-    assert_eq!(rt; sampling(alloc, &told)?, at(1, 100));
-    assert_eq!(rt; sampling(alloc, &told[..3])?, at(1, 1000));
+    let found = [sampling(alloc, &told)?, sampling(alloc, &told[..3])?];
+    assert_eq!(rt; found, [at(1, 100), at(1, 1000)]);
     Ok(())
 }
 
@@ -78,13 +81,13 @@ fn takes_older_elements_after_the_algorithm(rt: HostRuntime) -> Result<(), Fail>
 fn refuses_zeros_and_rates_above_a_million(rt: HostRuntime) -> Result<(), Fail> {
     let alloc = rt.alloc();
     let unusable = Some(Sampling::Unusable);
-    assert_eq!(rt; sampling(alloc, &[(34, &[0])])?, unusable);
-    assert_eq!(rt; sampling(alloc, &[(305, &[0]), (306, &[9])])?, unusable);
-    assert_eq!(rt;
+    let found = [
+        sampling(alloc, &[(34, &[0])])?,
+        sampling(alloc, &[(305, &[0]), (306, &[9])])?,
         sampling(alloc, &[(34, &[0x0f, 0x42, 0x40])])?,
-        at(1, 1_000_000)
-    );
-    assert_eq!(rt; sampling(alloc, &[(34, &[0x0f, 0x42, 0x41])])?, unusable);
+        sampling(alloc, &[(34, &[0x0f, 0x42, 0x41])])?,
+    ];
+    assert_eq!(rt; found, [unusable, unusable, at(1, 1_000_000), unusable]);
     Ok(())
 }
 
@@ -101,9 +104,12 @@ fn domain_told(alloc: Global, of: &Record) -> Result<Option<u32>, AllocError> {
 fn speaks_of_the_domain_in_the_scope(rt: HostRuntime) -> Result<(), Fail> {
     let alloc = rt.alloc();
     let fields: [(u16, &[u8]); 3] = [(143, &[0, 0, 0, 1]), (149, &[0, 0, 0, 5]), (34, &[10])];
-    assert_eq!(rt; domain_told(alloc, &(7, 1, &fields))?, Some(7));
-    assert_eq!(rt; domain_told(alloc, &(7, 2, &fields))?, Some(5));
-    assert_eq!(rt; domain_told(alloc, &(7, 0, &fields))?, None);
+    let found = [
+        domain_told(alloc, &(7, 1, &fields))?,
+        domain_told(alloc, &(7, 2, &fields))?,
+        domain_told(alloc, &(7, 0, &fields))?,
+    ];
+    assert_eq!(rt; found, [Some(7), Some(5), None]);
     Ok(())
 }
 
@@ -154,9 +160,12 @@ fn keeps_what_was_told_last(rt: HostRuntime) -> Result<(), Fail> {
         (7, 1, &[(149, &[0]), (34, &[20])]),
         (7, 1, &[(143, &[1]), (34, &[30])]),
     ];
-    assert_eq!(rt; sampling_after(alloc, &told[..2], 7, None)?, at(1, 10));
-    assert_eq!(rt; sampling_after(alloc, &told[..2], 8, None)?, at(1, 20));
-    assert_eq!(rt; sampling_after(alloc, &told, 7, None)?, at(1, 30));
+    let found = [
+        sampling_after(alloc, &told[..2], 7, None)?,
+        sampling_after(alloc, &told[..2], 8, None)?,
+        sampling_after(alloc, &told, 7, None)?,
+    ];
+    assert_eq!(rt; found, [at(1, 10), at(1, 20), at(1, 30)]);
     Ok(())
 }
 
@@ -167,10 +176,13 @@ fn keeps_selectors_apart(rt: HostRuntime) -> Result<(), Fail> {
         (7, 1, &[(302, &[1]), (34, &[10])]),
         (7, 1, &[(302, &[2]), (34, &[20])]),
     ];
-    assert_eq!(rt; sampling_after(alloc, &told, 7, Some(1))?, at(1, 10));
-    assert_eq!(rt; sampling_after(alloc, &told, 7, Some(2))?, at(1, 20));
-    assert_eq!(rt; sampling_after(alloc, &told, 7, Some(3))?, None);
-    assert_eq!(rt; sampling_after(alloc, &told, 7, None)?, at(1, 20));
+    let found = [
+        sampling_after(alloc, &told, 7, Some(1))?,
+        sampling_after(alloc, &told, 7, Some(2))?,
+        sampling_after(alloc, &told, 7, Some(3))?,
+        sampling_after(alloc, &told, 7, None)?,
+    ];
+    assert_eq!(rt; found, [at(1, 10), at(1, 20), None, at(1, 20)]);
     Ok(())
 }
 
@@ -192,11 +204,16 @@ const SOFTFLOWD: Record<'static> = (
 fn reads_what_softflowd_tells(rt: HostRuntime) -> Result<(), Fail> {
     let alloc = rt.alloc();
     let told = [SOFTFLOWD];
-    let started = Some(1_700_000_000_000);
-    assert_eq!(rt; init_time_after(alloc, &told, 7)?, started);
-    assert_eq!(rt; sampling_after(alloc, &told, 7, None)?, at(1, 10));
-    assert_eq!(rt; init_time_after(alloc, &told, 8)?, None);
-    assert_eq!(rt; sampling_after(alloc, &told, 8, None)?, None);
+    let started = [
+        init_time_after(alloc, &told, 7)?,
+        init_time_after(alloc, &told, 8)?,
+    ];
+    let sampled = [
+        sampling_after(alloc, &told, 7, None)?,
+        sampling_after(alloc, &told, 8, None)?,
+    ];
+    assert_eq!(rt; started, [Some(1_700_000_000_000), None]);
+    assert_eq!(rt; sampled, [at(1, 10), None]);
     Ok(())
 }
 
@@ -222,9 +239,12 @@ fn reads_what_nfprobe_tells(rt: HostRuntime) -> Result<(), Fail> {
     let alloc = rt.alloc();
     let told = [NFPROBE];
     let named = selector(alloc, &[(48, &[1]), (1, &[0, 0, 5, 220])])?;
-    assert_eq!(rt; sampling_after(alloc, &told, 7, named)?, at(1, 2));
-    assert_eq!(rt; sampling_after(alloc, &told, 7, Some(2))?, None);
-    assert_eq!(rt; sampling_after(alloc, &told, 7, None)?, at(1, 2));
+    let sampled = [
+        sampling_after(alloc, &told, 7, named)?,
+        sampling_after(alloc, &told, 7, Some(2))?,
+        sampling_after(alloc, &told, 7, None)?,
+    ];
+    assert_eq!(rt; sampled, [at(1, 2), None, at(1, 2)]);
     assert_eq!(rt; init_time_after(alloc, &told, 7)?, None);
     Ok(())
 }
@@ -251,8 +271,11 @@ fn keeps_that_a_rate_is_of_no_use(rt: HostRuntime) -> Result<(), Fail> {
         (7, 1, &[(34, &[0])]),
     ];
     let unusable = Some(Sampling::Unusable);
-    assert_eq!(rt; sampling_after(alloc, &told, 7, None)?, unusable);
-    assert_eq!(rt; sampling_after(alloc, &told, 6, None)?, at(1, 20));
+    let found = [
+        sampling_after(alloc, &told, 7, None)?,
+        sampling_after(alloc, &told, 6, None)?,
+    ];
+    assert_eq!(rt; found, [unusable, at(1, 20)]);
     Ok(())
 }
 
@@ -282,10 +305,13 @@ fn sampling_after_many(
 fn forgets_what_was_told_longest_ago(rt: HostRuntime) -> Result<(), Fail> {
     let alloc = rt.alloc();
     let more: [Record; 1] = [(7, 1, &[(149, &[0x10, 0]), (34, &[10])])];
-    assert_eq!(rt; sampling_after_many(alloc, &[], 1)?, at(1, 10));
-    assert_eq!(rt; sampling_after_many(alloc, &more, 1)?, None);
-    assert_eq!(rt; sampling_after_many(alloc, &more, 2)?, at(1, 10));
-    assert_eq!(rt; sampling_after_many(alloc, &more, 4096)?, at(1, 10));
+    let found = [
+        sampling_after_many(alloc, &[], 1)?,
+        sampling_after_many(alloc, &more, 1)?,
+        sampling_after_many(alloc, &more, 2)?,
+        sampling_after_many(alloc, &more, 4096)?,
+    ];
+    assert_eq!(rt; found, [at(1, 10), None, at(1, 10), at(1, 10)]);
     Ok(())
 }
 
@@ -337,10 +363,13 @@ fn appends_what_was_told_before(rt: HostRuntime) -> Result<(), Fail> {
     let own: [(u16, &[u8]); 1] = [(1, &[9])];
     let rate: (u16, &[u8]) = (SAMPLING_RATE.number, &[0, 0, 0, 1, 0, 0, 0, 0, 0, 0, 0, 10]);
     let records: [Record; 4] = [(7, 0, &own), (7, 1, &tells), (7, 0, &own), (8, 0, &own)];
-    assert!(rt; ends_with(alloc, wanted, &records[..1], &own)?);
-    assert!(rt; ends_with(alloc, wanted, &records[..2], &tells)?);
-    assert!(rt; ends_with(alloc, wanted, &records[..3], &[own[0], STARTED, rate])?);
-    assert!(rt; ends_with(alloc, wanted, &records, &own)?);
+    let found = [
+        ends_with(alloc, wanted, &records[..1], &own)?,
+        ends_with(alloc, wanted, &records[..2], &tells)?,
+        ends_with(alloc, wanted, &records[..3], &[own[0], STARTED, rate])?,
+        ends_with(alloc, wanted, &records, &own)?,
+    ];
+    assert_eq!(rt; found, [true; 4]);
     Ok(())
 }
 
@@ -354,7 +383,10 @@ fn appends_only_what_is_wanted(rt: HostRuntime) -> Result<(), Fail> {
     };
     let own: [(u16, &[u8]); 1] = [(160, &[0, 0, 0, 0, 0, 0, 0, 9])];
     let records: [Record; 2] = [(7, 1, &[(143, &[1]), (34, &[10]), STARTED]), (7, 0, &own)];
-    assert!(rt; ends_with(alloc, NOTHING_WANTED, &records, &own)?);
-    assert!(rt; ends_with(alloc, time, &records, &[own[0], STARTED])?);
+    let found = [
+        ends_with(alloc, NOTHING_WANTED, &records, &own)?,
+        ends_with(alloc, time, &records, &[own[0], STARTED])?,
+    ];
+    assert_eq!(rt; found, [true; 2]);
     Ok(())
 }

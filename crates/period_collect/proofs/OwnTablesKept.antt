@@ -52,7 +52,7 @@ without_more place (None ∷ alone) a n is =
     let same : n ≡ suc place + length alone = omega (arith, is) in ap (λ (places : List ℕ). place ∷ places) (without_more (suc place) alone a n same)
 without_more place (Some rs ∷ alone) a n is = let same : n ≡ suc place + length alone = omega (arith, is) in without_more (suc place) alone a n same
 
-zip_more : {X Y : Type 0} (R : X → Y → Type 0) (xs : List X) (ys : List Y) (x : X) (y : Y) → AllZip R xs ys → R x y → AllZip R (xs ++ x ∷ []) (ys ++ y ∷ [])
+pub zip_more : {X Y : Type 0} (R : X → Y → Type 0) (xs : List X) (ys : List Y) (x : X) (y : Y) → AllZip R xs ys → R x y → AllZip R (xs ++ x ∷ []) (ys ++ y ∷ [])
 zip_more R [] [] x y all one = (one, tt)
 zip_more R [] (z ∷ ys) x y all one = absurd all
 zip_more R (z ∷ xs) [] x y all one = absurd all

@@ -1,5 +1,7 @@
 -- The table of the last of several runs, before each of which a lot more was left out.
-use Rattle.std.proofs.Common.{◌≡◌, ℕ, List, [], ◌∷◌, ◌++◌, None, Some, Option, Result, Ok, Err, IfErr, IfOk, inl, inr, refl, sym, ap, subst, ◌∙◌, append-nil, append_assoc}
+use Rattle.std.proofs.Common.{◌≡◌, ◌<◌, ℕ, List, [], ◌∷◌, ◌++◌, length, Bool, Option, None, Some, inl, inr, refl, sym, ap, subst, ◌∙◌, append-nil, append_assoc, arith}
+use Rattle.std.specs.Prelude.{◌==◌, true, false}
+use Rattle.std.proofs.lemmas.Bool.{eqb-true}
 use Rattle.std.proofs.lemmas.Grind.{flat_map-append}
 use Rattle.std.specs.declared.alloc.Global.{Global}
 use Rattle.std.specs.declared.io.ErrorKind.{ErrorKind}
@@ -11,13 +13,23 @@ use Rattle.report_writing.specs.declared.status.Status.{Status}
 use Rattle.report_writing.specs.declared.status.Status.TheVariants.{Failed}
 use Rattle.command_receipt.specs.declared.run.Ended.{Ended}
 use Rattle.command_receipt.specs.declared.run.Hindrance.{Hindrance}
+use Rattle.period_collect.specs.declared.kept_receipt.KeptReceipt.{KeptReceipt}
 use Rattle.period_collect.specs.declared.maker.MadeTable.{MadeTable}
 use Rattle.period_collect.specs.declared.maker.TableMaker.{TableMaker}
-use Rattle.period_collect.specs.declared.kept_receipt.KeptReceipt.{KeptReceipt}
-use Rattle.period_collect.specs.MadeTables.{EndsWithout, EndsWithoutSome, HasNoRest, HasNoTable, IsNotMade, IsRun, IsTableOf, LeaveLots, LeavesLot, LeavesOutMore, all_out}
+use Rattle.period_collect.specs.ManyRows.{LeavesOutForRows}
+use Rattle.period_collect.specs.MadeTables.{EndsWithout, EndsWithoutSome, HasNoRest, HasNoTable, IsNotMade, IsRun, IsRunWith, IsStanding, IsTableOf, LacksRows, LeaveLots, LeavesLot, LeavesOutMore, all_out}
 
 all_out_more : (lots : List (List ℕ)) (lot : List ℕ) → all_out (lots ++ lot ∷ []) ≡ all_out lots ++ lot
 all_out_more lots lot = flat_map-append (λ (l : List ℕ). l) lots (lot ∷ []) ∙ ap (λ (last : List ℕ). all_out lots ++ last) (append-nil lot)
+
+-- a lot of none, and one of some
+pub none_in : (lot : List ℕ) → (length lot == 0) ≡ true → lot ≡ []
+none_in [] is = refl
+none_in (place ∷ lot) is = absurd (omega (arith, eqb-true (length (place ∷ lot)) 0 is))
+
+pub some_in : (lot : List ℕ) → (length lot == 0) ≡ false → 0 < length lot
+some_in [] is = absurd cc
+some_in (place ∷ lot) is = omega arith
 
 module _ {S O E : Type 0} (seen : S → SourceView) (failure : S → Option ErrorKind) (opens : O → List ℕ → S → Type 0) (sizes : O → List ℕ → Option ℕ → Type 0) (refuses : O → List ℕ → Reason → Type 0) (coming : O → Option (List S))
     (contents : E → Option (List ℕ)) (failed : E → Type 0) (begins : ℕ) (files : List (String Global)) where
@@ -36,36 +48,80 @@ module _ {S O E : Type 0} (seen : S → SourceView) (failure : S → Option Erro
         (subst (λ (o : List ℕ). LeavesLot seen failure opens sizes refuses coming contents failed between after begins files o lot) (sym (append_assoc out first (all_out lots))) is),
   )
 
+  -- ---- what a run gave
+
+  module _ (before ran after : TableMaker S O E) (out : List ℕ) (ended : Ended (Vec ℕ Global) KeptReceipt) (run : IsRun seen failure opens sizes refuses coming contents failed before ran begins files out ended) where
+    pub lot_of_hindered : (lot : List ℕ) (hindrance : Hindrance) → ended.hindrance ≡ Some hindrance → LeavesOutMore seen failure opens sizes refuses coming contents failed ran after begins files out lot hindrance
+        → LeavesLot seen failure opens sizes refuses coming contents failed before after begins files out lot
+    lot_of_hindered lot hindrance is leaves = inl (record { tried = ran; hindrance = hindrance; hindered = record { ended = ended; run = run; is = is }; leaves_out = leaves })
+
+    pub none_of_rest : (hindrance : Hindrance) → ended.hindrance ≡ Some hindrance → (status : Status) → HasNoRest status → HasNoTable seen failure opens sizes refuses coming contents failed before after begins files out status
+    none_of_rest hindrance is status none = inr (inl (ran, hindrance, record { ended = ended; run = run; is = is }, none))
+
+    pub none_of_run : ended.hindrance ≡ None → (status : Status) → EndsWithout ended status → HasNoTable seen failure opens sizes refuses coming contents failed before ran begins files out status
+    none_of_run free status ends = inl (record { ended = ended; run = run; free = free; ends = ends })
+
+    module _ (free : ended.hindrance ≡ None) (table : MadeTable) (ends : EndsWithoutSome ended out table.text.items table.receipt.items table.had_fault) (told : List ℕ) (is : told ≡ table.receipt.items) where
+      run_with : IsRunWith seen failure opens sizes refuses coming contents failed before ran begins files out table.text.items table.receipt.items table.had_fault
+      run_with = record { ended = ended; run = run; free = free; ends = ends }
+
+      pub not_looked_at : (status : Status) → LacksRows ran after told status → HasNoTable seen failure opens sizes refuses coming contents failed before after begins files out status
+      not_looked_at status lacks = inr (inr (inl (record {
+        ran = ran;
+        text = table.text.items;
+        receipt = table.receipt.items;
+        fault = table.had_fault;
+        run = run_with;
+        why = subst (λ (receipt : List ℕ). LacksRows ran after receipt status) is lacks;
+      })))
+
+      pub standing : (lot : List ℕ) → LeavesOutForRows seen opens sizes coming contents failed ran after begins files out told lot → lot ≡ []
+          → IsStanding seen failure opens sizes refuses coming contents failed before after begins files out table.text.items table.receipt.items table.had_fault
+      standing lot leaves none = record {
+        ran = ran;
+        run = run_with;
+        none_goes = subst (λ (lot : List ℕ). LeavesOutForRows seen opens sizes coming contents failed ran after begins files out table.receipt.items lot) none
+            (subst (λ (receipt : List ℕ). LeavesOutForRows seen opens sizes coming contents failed ran after begins files out receipt lot) is leaves);
+      }
+
+      pub lot_of_large : (lot : List ℕ) → LeavesOutForRows seen opens sizes coming contents failed ran after begins files out told lot → 0 < length lot
+          → LeavesLot seen failure opens sizes refuses coming contents failed before after begins files out lot
+      lot_of_large lot leaves some = inr (record {
+        tried = ran;
+        text = table.text.items;
+        receipt = table.receipt.items;
+        fault = table.had_fault;
+        run = run_with;
+        leaves_out = subst (λ (receipt : List ℕ). LeavesOutForRows seen opens sizes coming contents failed ran after begins files out receipt lot) is leaves;
+        some = some;
+      })
+
+  -- ---- run after run
+
   -- what was left out so far
   pub record LeftOut (before between : TableMaker S O E) (out : List ℕ) : Type 0 where
     pub lots : List (List ℕ)
     pub left_out : LeaveLots seen failure opens sizes refuses coming contents failed before between begins files [] lots
     pub all : out ≡ all_out lots
 
-  pub lot_out : (before between tried after : TableMaker S O E) (out lot longer : List ℕ) (hindrance : Hindrance) (ended : Ended (Vec ℕ Global) KeptReceipt) → LeftOut before between out
-      → IsRun seen failure opens sizes refuses coming contents failed between tried begins files out ended → ended.hindrance ≡ Some hindrance
-      → LeavesOutMore seen failure opens sizes refuses coming contents failed tried after begins files out lot hindrance → longer ≡ out ++ lot → LeftOut before after longer
-  lot_out before between tried after out lot longer hindrance ended left run is leaves longer_is = record {
+  pub lot_out : (before between after : TableMaker S O E) (out lot longer : List ℕ) → LeftOut before between out
+      → LeavesLot seen failure opens sizes refuses coming contents failed between after begins files out lot → longer ≡ out ++ lot → LeftOut before after longer
+  lot_out before between after out lot longer left leaves longer_is = record {
     lots = left.lots ++ lot ∷ [];
     left_out = lots_more before between after [] left.lots lot left.left_out
-        (subst (λ (o : List ℕ). LeavesLot seen failure opens sizes refuses coming contents failed between after begins files o lot) left.all
-        (record { tried = tried; hindrance = hindrance; hindered = record { ended = ended; run = run; is = is }; leaves_out = leaves }));
+        (subst (λ (o : List ℕ). LeavesLot seen failure opens sizes refuses coming contents failed between after begins files o lot) left.all leaves);
     all = longer_is ∙ ap (λ (o : List ℕ). o ++ lot) left.all ∙ sym (all_out_more left.lots lot);
   }
 
   module _ (before between after : TableMaker S O E) (out : List ℕ) (left : LeftOut before between out) where
-    module _ (ended : Ended (Vec ℕ Global) KeptReceipt) (run : IsRun seen failure opens sizes refuses coming contents failed between after begins files out ended) where
-      pub table_of_run : (r : Result MadeTable Status) → IfOk r (λ t. EndsWithoutSome ended out t.text.items t.receipt.items t.had_fault)
-          → IfOk r (λ t. IsTableOf seen failure opens sizes refuses coming contents failed before after begins files t.text.items t.receipt.items t.had_fault)
-      table_of_run (Ok t) ends = record {
-        lots = left.lots;
-        between = between;
-        ended = ended;
-        left_out = left.left_out;
-        run = subst (λ (o : List ℕ). IsRun seen failure opens sizes refuses coming contents failed between after begins files o ended) left.all run;
-        ends = subst (λ (o : List ℕ). EndsWithoutSome ended o t.text.items t.receipt.items t.had_fault) left.all ends;
-      }
-      table_of_run (Err status) ends = ends
+    pub table_of : (text receipt : List ℕ) (fault : Bool) → IsStanding seen failure opens sizes refuses coming contents failed between after begins files out text receipt fault
+        → IsTableOf seen failure opens sizes refuses coming contents failed before after begins files text receipt fault
+    table_of text receipt fault stands = record {
+      lots = left.lots;
+      between = between;
+      left_out = left.left_out;
+      stands = subst (λ (o : List ℕ). IsStanding seen failure opens sizes refuses coming contents failed between after begins files o text receipt fault) left.all stands;
+    }
 
     pub not_made : (status : Status) → HasNoTable seen failure opens sizes refuses coming contents failed between after begins files out status → IsNotMade seen failure opens sizes refuses coming contents failed before after begins files status
     not_made status lacks = record {
@@ -75,16 +131,5 @@ module _ {S O E : Type 0} (seen : S → SourceView) (failure : S → Option Erro
       ends = subst (λ (o : List ℕ). HasNoTable seen failure opens sizes refuses coming contents failed between after begins files o status) left.all lacks;
     }
 
-  pub no_table_of_run : (before between after : TableMaker S O E) (out : List ℕ) → LeftOut before between out → (ended : Ended (Vec ℕ Global) KeptReceipt) → IsRun seen failure opens sizes refuses coming contents failed between after begins files out ended
-      → ended.hindrance ≡ None → (r : Result MadeTable Status) → IfErr r (EndsWithout ended) → IfErr r (IsNotMade seen failure opens sizes refuses coming contents failed before after begins files)
-  no_table_of_run before between after out left ended run free (Ok t) ends = ends
-  no_table_of_run before between after out left ended run free (Err status) ends =
-      not_made before between after out left status (inl (record { ended = ended; run = run; free = free; ends = ends }))
-
-  pub no_table_of_rest : (before between tried after : TableMaker S O E) (out : List ℕ) → LeftOut before between out → (ended : Ended (Vec ℕ Global) KeptReceipt) (hindrance : Hindrance) → IsRun seen failure opens sizes refuses coming contents failed between tried begins files out ended
-      → ended.hindrance ≡ Some hindrance → (status : Status) → HasNoRest status → IsNotMade seen failure opens sizes refuses coming contents failed before after begins files status
-  no_table_of_rest before between tried after out left ended hindrance run is status none =
-      not_made before between after out left status (inr (inl (tried, hindrance, record { ended = ended; run = run; is = is }, none)))
-
-  pub no_run : (before between after : TableMaker S O E) (out : List ℕ) → LeftOut before between out → after ≡ between → IsNotMade seen failure opens sizes refuses coming contents failed before after begins files Failed
-  no_run before between after out left same = not_made before between after out left Failed (inr (inr (refl, same)))
+  pub no_run : (before between : TableMaker S O E) (out : List ℕ) → LeftOut before between out → IsNotMade seen failure opens sizes refuses coming contents failed before between begins files Failed
+  no_run before between out left = not_made before between between out left Failed (inr (inr (inr (refl, refl))))

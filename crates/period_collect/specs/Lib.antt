@@ -3,4 +3,5 @@ pub mod Paths
 pub mod Exporters
 pub mod LeftOutFiles
 pub mod Parting
+pub mod ManyRows
 pub mod MadeTables

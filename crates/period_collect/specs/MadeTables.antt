@@ -1,5 +1,5 @@
 -- The table of the files of a period, and its receipt.
-use Rattle.std.specs.Prelude.{◌≡◌, ◌⊎◌, ◌||◌, ℕ, Bool, true, false, List, [], ◌∷◌, ◌++◌, Option, None, Some, IfSome, option_map, map, string_bytes}
+use Rattle.std.specs.Prelude.{◌≡◌, ◌<◌, ◌⊎◌, ◌||◌, ℕ, Bool, true, false, List, [], ◌∷◌, ◌++◌, Option, None, Some, IfSome, length, option_map, map, string_bytes}
 use Rattle.std.specs.List.{flat_map}
 use Rattle.std.specs.Borrow.{Bor}
 use Rattle.std.specs.declared.alloc.Global.{Global}
@@ -21,10 +21,13 @@ use Rattle.command_receipt.specs.declared.run.Hindrance.TheVariants.{SumTooLarge
 use Rattle.command_receipt.specs.declared.run.Receipted.{Receipted}
 use Rattle.period_collect.specs.Exporters.{IsJobWith}
 use Rattle.period_collect.specs.LeftOutFiles.{has_any, kept_of, paths_at}
+use Rattle.period_collect.specs.ManyRows.{LeavesOutForRows, SaysRows}
 use Rattle.period_collect.specs.Parting.{IsParted, IsSameLeftOut}
 use Rattle.period_collect.specs.Paths.{AreFilePaths}
 use Rattle.period_collect.specs.declared.kept_receipt.KeptReceipt.{KeptReceipt}
 use Rattle.period_collect.specs.declared.maker.TableMaker.{TableMaker}
+use Rattle.period_collect.specs.declared.table_maker.Tried.{Tried}
+use Rattle.period_collect.specs.declared.table_maker.Tried.TheVariants.{Stands, Without}
 
 -- both name the same maker of a table, the same plan and the same files
 pub record IsSameMade (one other : MadeWith) : Type 0 where
@@ -62,6 +65,11 @@ EndsWithout ended status = ⊥
 abbrev pub HasNoRest : Status → Type 0
 HasNoRest status = (status ≡ NotOpened) ⊎ (status ≡ Failed)
 
+-- which files of a table with this receipt have too many rows isn't known for this reason
+abbrev pub LacksRows : {S O E : Type 0} → TableMaker S O E → TableMaker S O E → List ℕ → Status → Type 0
+LacksRows before after receipt status =
+    ((status ≡ Failed) × (after ≡ before)) ⊎ ((rows : ℕ) × SaysRows receipt rows × (before.job.rows_of_a_session < rows) × HasNoRest status)
+
 -- all that is left out, one lot after another
 abbrev pub all_out : List (List ℕ) → List ℕ
 all_out lots = flat_map (λ (lot : List ℕ). lot) lots
@@ -84,6 +92,7 @@ module _ {S O E : Type 0} (seen : S → SourceView) (failure : S → Option Erro
     pub left_out : map string_bytes to.made.left_out.items ≡ paths_at out (map string_bytes paths)
     pub runs : ReceiptedFiles (λ v. Some v.items) Holds to ended seen failure with_exporters opens sizes refuses coming before.opening after.opening words (AreToldTo contents failed before.err after.err)
     pub hindered : IfSome ended.hindrance (HinderFiles seen with_exporters opens sizes coming before.opening after.opening words)
+    pub same_job : after.job ≡ before.job
 
   -- ---- what is left out, run by run
 
@@ -99,11 +108,31 @@ module _ {S O E : Type 0} (seen : S → SourceView) (failure : S → Option Erro
   LeavesOutMore tried after begins files out lot (InputTwice first second) = IsSameLeftOut contents failed tried after begins files out lot first second
 
   -- after such a run a lot more is left out
-  pub record LeavesLot (before after : TableMaker S O E) (begins : ℕ) (files : List (String Global)) (out lot : List ℕ) : Type 0 where
+  pub record LeavesHindering (before after : TableMaker S O E) (begins : ℕ) (files : List (String Global)) (out lot : List ℕ) : Type 0 where
     pub tried : TableMaker S O E
     pub hindrance : Hindrance
     pub hindered : IsHindered before tried begins files out hindrance
     pub leaves_out : LeavesOutMore tried after begins files out lot hindrance
+
+  -- a run of all but those at some places ended with this table and this receipt, and whether a session had a fault or some are left out
+  pub record IsRunWith (before after : TableMaker S O E) (begins : ℕ) (files : List (String Global)) (out text receipt : List ℕ) (fault : Bool) : Type 0 where
+    pub ended : Ended (Vec ℕ Global) KeptReceipt
+    pub run : IsRun before after begins files out ended
+    pub free : ended.hindrance ≡ None
+    pub ends : EndsWithoutSome ended out text receipt fault
+
+  -- after such a run those are left out that have too many rows, at least one
+  pub record LeavesLarge (before after : TableMaker S O E) (begins : ℕ) (files : List (String Global)) (out lot : List ℕ) : Type 0 where
+    pub tried : TableMaker S O E
+    pub text : List ℕ
+    pub receipt : List ℕ
+    pub fault : Bool
+    pub run : IsRunWith before tried begins files out text receipt fault
+    pub leaves_out : LeavesOutForRows seen opens sizes coming contents failed tried after begins files out receipt lot
+    pub some : 0 < length lot
+
+  abbrev pub LeavesLot : TableMaker S O E → TableMaker S O E → ℕ → List (String Global) → List ℕ → List ℕ → Type 0
+  LeavesLot before after begins files out lot = LeavesHindering before after begins files out lot ⊎ LeavesLarge before after begins files out lot
 
   -- one lot after another, beside those at some places
   abbrev pub LeaveLots : TableMaker S O E → TableMaker S O E → ℕ → List (String Global) → List ℕ → List (List ℕ) → Type 0
@@ -113,14 +142,18 @@ module _ {S O E : Type 0} (seen : S → SourceView) (failure : S → Option Erro
 
   -- ---- the table
 
+  -- the run of all but those at some places ended with this table, and none of its files has too many rows
+  pub record IsStanding (before after : TableMaker S O E) (begins : ℕ) (files : List (String Global)) (out text receipt : List ℕ) (fault : Bool) : Type 0 where
+    pub ran : TableMaker S O E
+    pub run : IsRunWith before ran begins files out text receipt fault
+    pub none_goes : LeavesOutForRows seen opens sizes coming contents failed ran after begins files out receipt []
+
   -- the table and the receipt of the run of all but what was left out before, and whether a session had a fault
   pub record IsTableOf (before after : TableMaker S O E) (begins : ℕ) (files : List (String Global)) (text receipt : List ℕ) (fault : Bool) : Type 0 where
     pub lots : List (List ℕ)
     pub between : TableMaker S O E
-    pub ended : Ended (Vec ℕ Global) KeptReceipt
     pub left_out : LeaveLots before between begins files [] lots
-    pub run : IsRun between after begins files (all_out lots) ended
-    pub ends : EndsWithoutSome ended (all_out lots) text receipt fault
+    pub stands : IsStanding between after begins files (all_out lots) text receipt fault
 
   -- a run ended without a table, and its files did not hinder one
   pub record IsWithoutTable (before after : TableMaker S O E) (begins : ℕ) (files : List (String Global)) (out : List ℕ) (status : Status) : Type 0 where
@@ -129,12 +162,23 @@ module _ {S O E : Type 0} (seen : S → SourceView) (failure : S → Option Erro
     pub free : ended.hindrance ≡ None
     pub ends : EndsWithout ended status
 
+  -- a run ended with a table, and which of its files have too many rows isn't known: memory ran out; or the table has more rows than a
+  -- session may have, and a file could not be opened again
+  pub record IsNotLookedAt (before after : TableMaker S O E) (begins : ℕ) (files : List (String Global)) (out : List ℕ) (status : Status) : Type 0 where
+    pub ran : TableMaker S O E
+    pub text : List ℕ
+    pub receipt : List ℕ
+    pub fault : Bool
+    pub run : IsRunWith before ran begins files out text receipt fault
+    pub why : LacksRows ran after receipt status
+
   -- why there is no table after some were left out: their run ended without one; or its files hinder one, and there is no table of the
-  -- rest; or all are left out, or memory ran out, and there was no run
+  -- rest; or its files with too many rows aren't known; or all are left out, or memory ran out, and there was no run
   abbrev pub HasNoTable : TableMaker S O E → TableMaker S O E → ℕ → List (String Global) → List ℕ → Status → Type 0
   HasNoTable between after begins files out status =
       IsWithoutTable between after begins files out status
       ⊎ ((tried : TableMaker S O E) × (hindrance : Hindrance) × IsHindered between tried begins files out hindrance × HasNoRest status)
+      ⊎ IsNotLookedAt between after begins files out status
       ⊎ ((status ≡ Failed) × (after ≡ between))
 
   pub record IsNotMade (before after : TableMaker S O E) (begins : ℕ) (files : List (String Global)) (status : Status) : Type 0 where
@@ -142,6 +186,11 @@ module _ {S O E : Type 0} (seen : S → SourceView) (failure : S → Option Erro
     pub between : TableMaker S O E
     pub left_out : LeaveLots before between begins files [] lots
     pub ends : HasNoTable between after begins files (all_out lots) status
+
+  -- the table of all but those at some places stands, or a lot more is left out, of at least one
+  abbrev pub IsTried : TableMaker S O E → TableMaker S O E → ℕ → List (String Global) → List ℕ → Tried → Type 0
+  IsTried before after begins files out (Stands table) = IsStanding before after begins files out table.text.items table.receipt.items table.had_fault
+  IsTried before after begins files out (Without lot) = LeavesLot before after begins files out lot.items × (0 < length lot.items)
 
 -- what contracts see of what makes tables: the state before a table was made, and after
 pub record Makes (M : Type 0) : Type 1 where

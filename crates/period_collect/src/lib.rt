@@ -3,6 +3,8 @@
 
 mod exporters;
 mod kept_receipt;
+mod large_files;
+mod made_again;
 mod maker;
 mod parting;
 mod paths;

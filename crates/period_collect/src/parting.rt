@@ -72,8 +72,8 @@ fn places_out(alloc: Global, plan: &Plan, own: OwnTables) -> Result<Vec<usize>, 
     add_places(others, &places, &left)
 }
 
-// These places, and then those at some indices.
-fn add_places(
+/// These places, and then those at some indices.
+pub(crate) fn add_places(
     mut all: Vec<usize>,
     places: &[usize],
     indices: &[usize],
@@ -127,8 +127,9 @@ fn keep(own: &mut OwnTables, place: usize, table: Option<FlatTable>) -> Result<(
     Ok(())
 }
 
-// The table of a file by itself, unless a sum is too large.
-fn own_table<
+/// The table of a file by itself, unless a sum is too large. `NotOpened` if it can't be opened, which a line says; `Failed`
+/// if it can't be collected, or memory runs out.
+pub(crate) fn own_table<
     S: Source + Send + Drop,
     O: OpenSource<S>,
     E: WriteLines,

@@ -12,4 +12,6 @@ pub struct PeriodJob<'a> {
     pub collect: CollectJob<'a>,
     /// Who makes the tables, and under which plan.
     pub made: &'a MadeWith,
+    /// How many rows a session may have by itself: if there are more in a table, those that have more are left out.
+    pub rows_of_a_session: u64,
 }

@@ -1,20 +1,20 @@
 //! Making the table of files, as `files --direct --receipt` does.
 
-ghost use Rattle.std.specs.Prelude.{◌≡◌, ◌<◌, length, map, string_bytes, IfErr, IfOk, OnErr};
-ghost use Rattle.table_receipts.specs.Values.{file_value};
-ghost use Rattle.period_collect.specs.LeftOutFiles.{paths_at};
-ghost use Rattle.period_collect.specs.MadeTables.{EndsWith, EndsWithout, EndsWithoutSome, HasNoRest, IsNotMade, IsRun, IsSameMade, IsTableOf, LeavesOutMore};
+ghost use Rattle.std.specs.Prelude.{◌≡◌, ◌<◌, length, IfErr, IfOk, OnErr};
+ghost use Rattle.period_collect.specs.MadeTables.{EndsWith, EndsWithout, EndsWithoutSome, HasNoRest, HasNoTable, IsNotMade, IsRun, IsTableOf, IsTried, LeavesOutMore};
 ghost use Rattle.period_collect.specs.Parting.{IsParted, IsSameLeftOut};
 
 use crate::exporters::exporters_of;
 use crate::kept_receipt::KeptReceipt;
+use crate::large_files::leave_out_large;
+use crate::made_again::same_made;
 use crate::maker::{MadeTable, TableMaker};
 use crate::parting::files_left_out;
 use crate::paths::{paths_of, words_of};
-use crate::places::{kept_of, kept_places, names_at, path_at, place_at};
+use crate::places::{kept_of, kept_places, path_at, place_at};
 use crate::telling::{tell_left_out, write_same};
 use command_collect::CollectJob;
-use command_receipt::{Ended, Hindrance, MadeWith, Receipted, run_files_receipted};
+use command_receipt::{Ended, Hindrance, Receipted, run_files_receipted};
 use input_sources::OpenSource;
 use ipfix_session::Source;
 use recording_names::Period;
@@ -25,12 +25,12 @@ use std::net::IpAddr;
 use std::rt::Clock;
 use std::sync::Wait;
 use std::thread::Threads;
-use table_receipts::FileReceipt;
 
 /// The table of these files of a period, and its receipt, as [`run_files_receipted`] makes them, where the exporters are
 /// those that the names of the files say. If the files hinder a table, it is that of the rest: those that have most of a
-/// sum which is too large are left out, and the later of two with the same octets. Lines and the receipt name them, and
-/// the table has a fault, since it isn't complete. The files are in the order of their names.
+/// sum which is too large are left out, and the later of two with the same octets. If it has more rows than a session may
+/// have, those that have more by themselves are left out, too. Lines and the receipt name them, and the table has a
+/// fault, since it isn't complete. The files are in the order of their names.
 ///
 /// An `Err` is the status with which that ended; then `err` has the lines that say why, unless memory ran out before.
 pub fn make_table<
@@ -54,18 +54,61 @@ pub fn make_table<
 {
     let mut out = Vec::new(maker.alloc);
     while out.is_empty() || out.len() < files.len() {
-        let Ok(ended) = run_period(threads, maker, period, files, &out) else {
-            return Err(Status::Failed);
-        };
-        let Some(hindrance) = ended.hindrance else {
-            return table_without(ended, &out);
-        };
-        let mut lot = leave_out(threads, maker, period, files, &out, hindrance)?;
-        let Ok(()) = out.append(&mut lot) else {
-            return Err(Status::Failed);
-        };
+        match table_of_rest(threads, maker, period, files, &out)? {
+            Tried::Stands(table) => return Ok(table),
+            Tried::Without(mut lot) => {
+                let Ok(()) = out.append(&mut lot) else {
+                    return Err(Status::Failed);
+                };
+            }
+        }
     }
     Err(Status::Failed)
+}
+
+/// What a run gave.
+#[derive(Drop)]
+pub(crate) enum Tried {
+    /// The table that stands.
+    Stands(MadeTable),
+    /// The places of files without which it is made again.
+    Without(Vec<usize>),
+}
+
+// Makes the table without the files of some places.
+fn table_of_rest<
+    S: Source + Send + Drop,
+    O: OpenSource<S>,
+    E: WriteLines,
+    R: Clock + Threads + Wait + Sync,
+>(
+    threads: &R,
+    maker: &mut TableMaker<'_, S, O, E>,
+    period: Period,
+    files: &[String],
+    out: &[usize],
+) -> Result<Tried, Status>
+    ensures tried { IfOk result (IsTried S.seen S.failure
+        O.opens O.sizes O.refuses O.coming E.contents E.failed maker.old maker.new
+        period.begins files.now out.now) }
+    ensures err { IfErr result (HasNoTable S.seen S.failure
+        O.opens O.sizes O.refuses O.coming E.contents E.failed maker.old maker.new
+        period.begins files.now out.now) }
+    ensures job { maker.new.job ≡ maker.old.job }
+{
+    let Ok(ended) = run_period(threads, maker, period, files, out) else {
+        return Err(Status::Failed);
+    };
+    if let Some(hindrance) = ended.hindrance {
+        let lot = leave_out(threads, maker, period, files, out, hindrance)?;
+        return Ok(Tried::Without(lot));
+    }
+    let table = table_without(ended, out)?;
+    let lot = leave_out_large(threads, maker, period, files, out, &table.receipt)?;
+    if lot.is_empty() {
+        return Ok(Tried::Stands(table));
+    }
+    Ok(Tried::Without(lot))
 }
 
 // The places of the files that are left out beside those of some places, of which lines tell: at least one.
@@ -245,46 +288,4 @@ fn made_table(ended: Ended<Vec<u8>, KeptReceipt>) -> Result<MadeTable, Status>
         (Status::NotOpened, _) => Err(Status::NotOpened),
         (Status::Failed, _) | (_, None) => Err(Status::Failed),
     }
-}
-
-// The same again, without the inputs of these places.
-fn same_made(
-    alloc: Global,
-    made: &MadeWith,
-    paths: &[&str],
-    out: &[usize],
-) -> Result<MadeWith, AllocError>
-    ensures same { IfOk result (λ same. IsSameMade same made.now) }
-    ensures left_out { IfOk result (λ same. map string_bytes same.left_out.items
-        ≡ paths_at out.now (map (λ path. path.now) paths.now)) }
-{
-    Ok(MadeWith {
-        collectd: made.collectd.clone()?,
-        plan: made.plan.clone()?,
-        elements: same_files(alloc, &made.elements)?,
-        maps: same_files(alloc, &made.maps)?,
-        left_out: names_at(alloc, paths, out)?,
-    })
-}
-
-fn same_files(alloc: Global, files: &[FileReceipt]) -> Result<Vec<FileReceipt>, AllocError>
-    ensures { IfOk result (λ same. map file_value same.items ≡ map file_value files.now) }
-{
-    let mut same = Vec::new(alloc);
-    let mut left = files;
-    while let Some((file, rest)) = left.split_first() {
-        same.push(same_file(file)?)?;
-        left = rest;
-    }
-    Ok(same)
-}
-
-fn same_file(file: &FileReceipt) -> Result<FileReceipt, AllocError>
-    ensures { IfOk result (λ same. file_value same ≡ file_value file.now) }
-{
-    Ok(FileReceipt {
-        name: file.name.clone()?,
-        octets: file.octets,
-        sha256: file.sha256,
-    })
 }

@@ -4,6 +4,7 @@ ghost use Rattle.std.specs.Prelude.{◌≡◌, map};
 ghost use Rattle.report_writing.specs.Told.{AreToldTo};
 ghost use Rattle.report_writing.specs.Writing.{Tells};
 ghost use Rattle.period_collect.specs.LeftOutFiles.{left_out_line, left_out_lines, paths_at, same_line};
+ghost use Rattle.period_collect.specs.ManyRows.{large_line, large_lines};
 
 use crate::places::path_at;
 use report_writing::WriteLines;
@@ -39,5 +40,28 @@ pub(crate) fn write_same<E: WriteLines>(other: &str, path: &str, err: &mut E) ->
     writeln!(
         err,
         "collectd: tables: left out, since its octets are those of {other}: {path}"
+    )
+}
+
+/// Writes that the files at these places of the paths are left out of a table, since they have more rows than this limit, in the
+/// order of the places.
+pub(crate) fn tell_large<E: WriteLines>(limit: u64, paths: &[&str], out: &[usize], err: &mut E)
+    ensures told { AreToldTo E.contents E.failed err.old err.new
+        (large_lines limit (paths_at out.now (map (λ path. path.now) paths.now))) }
+    ensures kept { E.failed err.old → E.failed err.new }
+{
+    for place in out {
+        let _ = write_large(limit, path_at(paths, *place), err);
+    }
+}
+
+// Writes that the file of a path is left out of a table, since it has more rows than this limit.
+#[tactic(auto, unfolding(crate::specs::ManyRows::large_line))]
+fn write_large<E: WriteLines>(limit: u64, path: &str, err: &mut E) -> io::Result<()>
+    ensures { Tells E.contents E.failed err.old err.new result (large_line limit path.now) }
+{
+    writeln!(
+        err,
+        "collectd: tables: left out, since it has more than {limit} rows: {path}"
     )
 }

@@ -142,6 +142,7 @@ fn job_of<'a>(elements: &'a Elements, plan: &'a Plan, made: &'a MadeWith) -> Per
         recordings: "recordings",
         collect: CollectJob::plain(elements, plan, Engine::Lots(1), CSV),
         made,
+        rows_of_a_session: 1_000_000,
     }
 }
 

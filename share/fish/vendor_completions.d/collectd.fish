@@ -55,5 +55,6 @@ complete -c collectd -n '__fish_seen_subcommand_from tables' -l into -x -a '(__f
 complete -c collectd -n '__fish_seen_subcommand_from tables' -l follow -d 'Go on for ever'
 complete -c collectd -n '__fish_seen_subcommand_from tables' -l grace -x -d 'How many seconds after its end a period is left alone'
 complete -c collectd -n '__fish_seen_subcommand_from tables' -l days -x -d 'The time zone whose days and months have tables, too'
+complete -c collectd -n '__fish_seen_subcommand_from tables' -l rows-of-a-session -x -d 'How many rows a session may have by itself'
 complete -c collectd -n '__fish_seen_subcommand_from tables' -l keep-recordings -x -d 'For how many days recordings with tables are kept'
 complete -c collectd -n '__fish_seen_subcommand_from finish' -x -a '(__fish_complete_directories)' -d 'A folder of recordings'

@@ -1,4 +1,4 @@
-use Rattle.std.proofs.Common.{◌≡◌, ℕ, List, ap, ◌∙◌, map, sym, subst, string_bytes}
+use Rattle.std.proofs.Common.{◌≡◌, ℕ, List, ap, ◌∙◌, map, refl, sym, subst, string_bytes}
 use Rattle.std.specs.Borrow.{Bor}
 use Rattle.period_collect.specs.Exporters.{AreExportersOf}
 use Rattle.period_collect.specs.LeftOutFiles.{kept_of, paths_at}
@@ -26,4 +26,5 @@ returns-clause-run g c =
       left_out = c.in_ok-made.ensures.left_out ∙ ap (paths_at c.args.out.now) (ap (map (λ (w : Bor (List ℕ)). w.now)) c.deref-4.ensures.value ∙ texts);
       runs = c.run_files_receipted-ended.ensures.collects;
       hindered = c.run_files_receipted-ended.ensures.hindered;
+      same_job = refl;
     }

@@ -1,6 +1,6 @@
 use Rattle.std.proofs.Common.{◌≡◌, ◌++◌, length, map}
 use Rattle.table_receipts.specs.Values.{file_value}
-use Rattle.period_collect.proofs.table_maker.same_files.Given as goal
+use Rattle.period_collect.proofs.made_again.same_files.Given as goal
 
 -- those that are left come after those that are there
 abbrev pub invariant-loop-file : goal.invariant-loop-file
