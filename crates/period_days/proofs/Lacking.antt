@@ -1,5 +1,5 @@
 -- A receipt that has an input which the receipts of its parts don't have.
-use Rattle.std.proofs.Common.{◌≡◌, ℕ, List, Option, Some, Result, Ok, Err, map, string_bytes, ap, sym, ◌∙◌}
+use Rattle.std.proofs.Common.{◌≡◌, ℕ, List, Option, None, Some, Result, Ok, Err, map, string_bytes, ap, subst, sym, ◌∙◌}
 use Rattle.std.specs.Prelude.{IfOk}
 use Rattle.std.specs.Borrow.{Bor}
 use Rattle.std.specs.Option.{option_map}
@@ -8,10 +8,10 @@ use Rattle.std.specs.declared.string.String.{String}
 use Rattle.report_writing.specs.declared.reason.Reason.{Reason}
 use Rattle.receipt_merging.specs.Parts.{PartValue}
 use Rattle.table_receipts.specs.Texts.{receipt_text}
-use Rattle.table_receipts.specs.Values.{InputValue, ReceiptValue, input_value}
+use Rattle.table_receipts.specs.Values.{FitsReceipt, InputValue, ReceiptValue, input_value}
 use Rattle.table_receipts.specs.declared.receipt.InputReceipt.{InputReceipt}
 use Rattle.period_days.specs.GoneInputs.{first_gone, not_left_out}
-use Rattle.period_days.specs.SaidTogether.{IsLacking, IsSettled, gone_from}
+use Rattle.period_days.specs.SaidTogether.{IsLacking, IsSettled, SaysOther, gone_from, said_together}
 use Rattle.period_days.specs.declared.standing.Standing.{Standing}
 use Rattle.period_days.specs.declared.standing.Standing.TheVariants.{Theirs, Others, Lacking}
 
@@ -34,3 +34,24 @@ gone_of own merged left right out outs others names found input lefts rights sam
     ∙ (ap (λ (n : List (List ℕ)). first_gone (not_left_out n (map input_value left)) (map input_value right)) (sym are_names)
     ∙ (ap (λ (n : List (String Global)). first_gone (not_left_out (map string_bytes n) (map input_value left)) (map input_value right)) (sym same)
     ∙ (sym first ∙ ap (λ (o : Option (Bor InputReceipt)). option_map (λ (i : Bor InputReceipt). input_value i.now) o) is)))))
+
+pub none_gone : (own merged left right : List InputReceipt) (out outs : List (String Global)) (others : List InputValue) (names : List (List ℕ)) (found : Option (Bor InputReceipt))
+    → left ≡ own → right ≡ merged → outs ≡ out → map input_value merged ≡ others → map string_bytes out ≡ names
+    → option_map (λ (i : Bor InputReceipt). input_value i.now) found ≡ first_gone (not_left_out (map string_bytes outs) (map input_value left)) (map input_value right) → found ≡ None
+    → first_gone (not_left_out names (map input_value own)) others ≡ None
+none_gone own merged left right out outs others names found lefts rights same values are_names first is =
+    ap (λ (l : List InputReceipt). first_gone (not_left_out names (map input_value l)) others) (sym lefts)
+    ∙ (ap (λ (l : List InputValue). first_gone (not_left_out names (map input_value left)) l) (sym values)
+    ∙ (ap (λ (l : List InputReceipt). first_gone (not_left_out names (map input_value left)) (map input_value l)) (sym rights)
+    ∙ (ap (λ (n : List (List ℕ)). first_gone (not_left_out n (map input_value left)) (map input_value right)) (sym are_names)
+    ∙ (ap (λ (n : List (String Global)). first_gone (not_left_out (map string_bytes n) (map input_value left)) (map input_value right)) (sym same)
+    ∙ (sym first ∙ ap (λ (o : Option (Bor InputReceipt)). option_map (λ (i : Bor InputReceipt). input_value i.now) o) is)))))
+
+-- all its inputs are among theirs, and its text isn't the one that says what they do
+pub says_other : (own : List ℕ) (parts : List PartValue) (receipt : ReceiptValue) (text : List ℕ) → ((r : ReceiptValue) → FitsReceipt r → receipt_text r ≡ own → receipt ≡ r)
+    → text ≡ receipt_text (said_together parts receipt) → (text ≡ own → ⊥) → gone_from parts receipt ≡ None → SaysOther own parts
+says_other own parts receipt text back is other none =
+    record {
+      differs = λ r fits own_is same. other (is ∙ (ap (λ (x : ReceiptValue). receipt_text (said_together parts x)) (back r fits own_is) ∙ same));
+      lacks_none = λ r fits own_is. subst (λ (x : ReceiptValue). gone_from parts x ≡ None) (back r fits own_is) none;
+    }
