@@ -23,35 +23,15 @@ lacks_it own parts receipt is input gone (Ok Others) says = absurd says
 lacks_it own parts receipt is input gone (Ok (Lacking name)) says = record { receipt = receipt; is = is; input = input; gone = gone; named = sym says }
 lacks_it own parts receipt is input gone (Err reason) says = tt
 
-pub gone_of : (own merged left right : List InputReceipt) (out outs : List (String Global)) (others : List InputValue) (names : List (List ℕ)) (found : Option (Bor InputReceipt)) (input : Bor InputReceipt)
+-- what is found among lists that stand for others is what is found among these
+pub gone_of : (own merged left right : List InputReceipt) (out outs : List (String Global)) (others : List InputValue) (names : List (List ℕ)) (found is : Option (Bor InputReceipt))
     → left ≡ own → right ≡ merged → outs ≡ out → map input_value merged ≡ others → map string_bytes out ≡ names
-    → option_map (λ (i : Bor InputReceipt). input_value i.now) found ≡ first_gone (not_left_out (map string_bytes outs) (map input_value left)) (map input_value right) → found ≡ Some input
-    → first_gone (not_left_out names (map input_value own)) others ≡ Some (input_value input.now)
-gone_of own merged left right out outs others names found input lefts rights same values are_names first is =
+    → option_map (λ (i : Bor InputReceipt). input_value i.now) found ≡ first_gone (not_left_out (map string_bytes outs) (map input_value left)) (map input_value right) → found ≡ is
+    → first_gone (not_left_out names (map input_value own)) others ≡ option_map (λ (i : Bor InputReceipt). input_value i.now) is
+gone_of own merged left right out outs others names found is lefts rights same values are_names first found_is =
     ap (λ (l : List InputReceipt). first_gone (not_left_out names (map input_value l)) others) (sym lefts)
     ∙ (ap (λ (l : List InputValue). first_gone (not_left_out names (map input_value left)) l) (sym values)
     ∙ (ap (λ (l : List InputReceipt). first_gone (not_left_out names (map input_value left)) (map input_value l)) (sym rights)
     ∙ (ap (λ (n : List (List ℕ)). first_gone (not_left_out n (map input_value left)) (map input_value right)) (sym are_names)
     ∙ (ap (λ (n : List (String Global)). first_gone (not_left_out (map string_bytes n) (map input_value left)) (map input_value right)) (sym same)
-    ∙ (sym first ∙ ap (λ (o : Option (Bor InputReceipt)). option_map (λ (i : Bor InputReceipt). input_value i.now) o) is)))))
-
-pub none_gone : (own merged left right : List InputReceipt) (out outs : List (String Global)) (others : List InputValue) (names : List (List ℕ)) (found : Option (Bor InputReceipt))
-    → left ≡ own → right ≡ merged → outs ≡ out → map input_value merged ≡ others → map string_bytes out ≡ names
-    → option_map (λ (i : Bor InputReceipt). input_value i.now) found ≡ first_gone (not_left_out (map string_bytes outs) (map input_value left)) (map input_value right) → found ≡ None
-    → first_gone (not_left_out names (map input_value own)) others ≡ None
-none_gone own merged left right out outs others names found lefts rights same values are_names first is =
-    ap (λ (l : List InputReceipt). first_gone (not_left_out names (map input_value l)) others) (sym lefts)
-    ∙ (ap (λ (l : List InputValue). first_gone (not_left_out names (map input_value left)) l) (sym values)
-    ∙ (ap (λ (l : List InputReceipt). first_gone (not_left_out names (map input_value left)) (map input_value l)) (sym rights)
-    ∙ (ap (λ (n : List (List ℕ)). first_gone (not_left_out n (map input_value left)) (map input_value right)) (sym are_names)
-    ∙ (ap (λ (n : List (String Global)). first_gone (not_left_out (map string_bytes n) (map input_value left)) (map input_value right)) (sym same)
-    ∙ (sym first ∙ ap (λ (o : Option (Bor InputReceipt)). option_map (λ (i : Bor InputReceipt). input_value i.now) o) is)))))
-
--- all its inputs are among theirs, and its text isn't the one that says what they do
-pub says_other : (own : List ℕ) (parts : List PartValue) (receipt : ReceiptValue) (text : List ℕ) → ((r : ReceiptValue) → FitsReceipt r → receipt_text r ≡ own → receipt ≡ r)
-    → text ≡ receipt_text (said_together parts receipt) → (text ≡ own → ⊥) → gone_from parts receipt ≡ None → SaysOther own parts
-says_other own parts receipt text back is other none =
-    record {
-      differs = λ r fits own_is same. other (is ∙ (ap (λ (x : ReceiptValue). receipt_text (said_together parts x)) (back r fits own_is) ∙ same));
-      lacks_none = λ r fits own_is. subst (λ (x : ReceiptValue). gone_from parts x ≡ None) (back r fits own_is) none;
-    }
+    ∙ (sym first ∙ ap (λ (o : Option (Bor InputReceipt)). option_map (λ (i : Bor InputReceipt). input_value i.now) o) found_is)))))
