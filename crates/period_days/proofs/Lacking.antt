@@ -1,5 +1,5 @@
 -- A receipt that has an input which the receipts of its parts don't have.
-use Rattle.std.proofs.Common.{◌≡◌, ℕ, List, Option, None, Some, Result, Ok, Err, map, string_bytes, ap, subst, sym, ◌∙◌}
+use Rattle.std.proofs.Common.{◌≡◌, ℕ, List, Option, Some, Result, Ok, Err, map, string_bytes, ap, sym, ◌∙◌}
 use Rattle.std.specs.Prelude.{IfOk}
 use Rattle.std.specs.Borrow.{Bor}
 use Rattle.std.specs.Option.{option_map}
@@ -8,10 +8,10 @@ use Rattle.std.specs.declared.string.String.{String}
 use Rattle.report_writing.specs.declared.reason.Reason.{Reason}
 use Rattle.receipt_merging.specs.Parts.{PartValue}
 use Rattle.table_receipts.specs.Texts.{receipt_text}
-use Rattle.table_receipts.specs.Values.{FitsReceipt, InputValue, ReceiptValue, input_value}
+use Rattle.table_receipts.specs.Values.{InputValue, ReceiptValue, input_value}
 use Rattle.table_receipts.specs.declared.receipt.InputReceipt.{InputReceipt}
 use Rattle.period_days.specs.GoneInputs.{first_gone, not_left_out}
-use Rattle.period_days.specs.SaidTogether.{IsLacking, IsSettled, SaysOther, gone_from, said_together}
+use Rattle.period_days.specs.SaidTogether.{IsLacking, IsSettled, gone_from}
 use Rattle.period_days.specs.declared.standing.Standing.{Standing}
 use Rattle.period_days.specs.declared.standing.Standing.TheVariants.{Theirs, Others, Lacking}
 
