@@ -179,13 +179,19 @@ fn paths_of(rt: &HostRuntime, names: &[&str]) -> Result<Vec<String>, AllocError>
 #[test]
 fn recordings_go_after_a_day(rt: HostRuntime) -> Result<(), Fail> {
     let table: Option<&[&str]> = Some(&[ONE]);
-    assert!(rt; may_go(&rt, OLD, &[], &[ONE], &[table, table])?);
-    assert!(rt; !may_go(&rt, OLD - 1, &[], &[ONE], &[table, table])?);
-    assert!(rt; !may_go(&rt, 0, &[], &[ONE], &[table])?);
+    let found = [
+        may_go(&rt, OLD, &[], &[ONE], &[table, table])?,
+        may_go(&rt, OLD - 1, &[], &[ONE], &[table, table])?,
+        may_go(&rt, 0, &[], &[ONE], &[table])?,
+    ];
+    assert_eq!(rt; found, [true, false, false]);
     let later = ["1795614000-192.0.2.1-40012-7", "notes"];
-    assert!(rt; may_go(&rt, OLD, &later, &[ONE], &[table])?);
     let before = ["1795613400-192.0.2.1-40012-3"];
-    assert!(rt; !may_go(&rt, OLD, &before, &[ONE], &[table])?);
+    let beside = [
+        may_go(&rt, OLD, &later, &[ONE], &[table])?,
+        may_go(&rt, OLD, &before, &[ONE], &[table])?,
+    ];
+    assert_eq!(rt; beside, [true, false]);
     Ok(())
 }
 
@@ -193,13 +199,19 @@ fn recordings_go_after_a_day(rt: HostRuntime) -> Result<(), Fail> {
 fn recordings_go_if_each_plan_has_their_table(rt: HostRuntime) -> Result<(), Fail> {
     let table: Option<&[&str]> = Some(&[ONE]);
     let both: Option<&[&str]> = Some(&[ONE, OTHER]);
-    assert!(rt; !may_go(&rt, OLD, &[], &[ONE], &[])?);
-    assert!(rt; !may_go(&rt, OLD, &[], &[ONE], &[table, None])?);
-    assert!(rt; !may_go(&rt, OLD, &[], &[ONE], &[None, table])?);
-    assert!(rt; !may_go(&rt, OLD, &[], &[ONE], &[both])?);
-    assert!(rt; !may_go(&rt, OLD, &[], &[ONE, OTHER], &[both, table])?);
-    assert!(rt; may_go(&rt, OLD, &[], &[ONE, OTHER], &[both])?);
-    assert!(rt; !may_go(&rt, OLD, &[], &[ONE, "notes"], &[table])?);
-    assert!(rt; !may_go(&rt, OLD, &[], &[], &[None])?);
+    let found = [
+        may_go(&rt, OLD, &[], &[ONE], &[])?,
+        may_go(&rt, OLD, &[], &[ONE], &[table, None])?,
+        may_go(&rt, OLD, &[], &[ONE], &[None, table])?,
+        may_go(&rt, OLD, &[], &[ONE], &[both])?,
+        may_go(&rt, OLD, &[], &[ONE, OTHER], &[both, table])?,
+        may_go(&rt, OLD, &[], &[ONE, OTHER], &[both])?,
+        may_go(&rt, OLD, &[], &[ONE, "notes"], &[table])?,
+        may_go(&rt, OLD, &[], &[], &[None])?,
+    ];
+    assert_eq!(rt;
+        found,
+        [false, false, false, false, false, true, false, false]
+    );
     Ok(())
 }
