@@ -1,6 +1,6 @@
 //! The commands. Each answers how it ended; an error says how if the library was not called.
 
-ghost use Rattle.std.specs.Prelude.{◌≡◌, MatchBool};
+ghost use Rattle.std.specs.Prelude.{◌≡◌, MatchBool, false};
 ghost use Rattle.std.specs.Option.{ForSome};
 ghost use Rattle.flow_merge.specs.RowRecords.{AreOrdered, CanTakeRows};
 
