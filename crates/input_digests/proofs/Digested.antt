@@ -6,17 +6,18 @@ use Rattle.std.proofs.lemmas.List.{length-append, take-append-le, take_at}
 use Rattle.ipfix_wire.specs.Numbers.{IsOctets}
 use Rattle.ipfix_session.specs.declared.report.FullReport.{FullReport}
 use Rattle.ipfix_session.specs.declared.report.MessagePlace.{MessagePlace}
+use Rattle.ipfix_session.specs.declared.session_limits.SessionLimits.{SessionLimits}
 use Rattle.ipfix_session.specs.declared.fault.SessionFault.{SessionFault}
 use Rattle.ipfix_session.specs.declared.fault.SessionFault.TheVariants as faults
 use Rattle.ipfix_message.specs.declared.fault.MessageFault.TheVariants.{OutOfMemory}
-use Rattle.ipfix_session.specs.Drives.{IsDue}
+use Rattle.ipfix_session.specs.Drives.{IsDueWithin}
 use Rattle.ipfix_session.specs.Faults.{ends_open}
-use Rattle.ipfix_session.specs.Given.{gives, stop_of, IsOpen}
+use Rattle.ipfix_session.specs.Given.{given_within, stop_within, IsOpen}
 use Rattle.ipfix_session.specs.MessageCounts.{CounterView}
 use Rattle.ipfix_session.specs.Places.{place_after}
 use Rattle.ipfix_session.specs.Sources.{SourceView}
 use Rattle.ipfix_session.specs.WholeMessages.{whole_octets}
-use Rattle.ipfix_session.proofs.Places.{place_is}
+use Rattle.ipfix_session.proofs.Places.{place_is_within}
 use Rattle.sha2.specs.Sha256.{sha256}
 use Rattle.input_digests.specs.declared.front_digest.FrontDigest.{FrontDigest}
 use Rattle.input_digests.specs.FrontDigests.{HasRead, MayBeUnknown}
@@ -57,17 +58,17 @@ pub record CountedOf (digest : FrontDigest) (text : List ℕ) (full : FullReport
   pub settled : full.stopped_at.octet < sure → (now.ended ≡ true) × (ends_open full.report.fault ≡ false)
 
 -- no message that counts is after those that are whole, if the session could have gone on
-all_if_open : (fault : Option SessionFault) (limit : ℕ) (gave : List ℕ) (before after : SourceView) → IsDue fault limit gave before after → ends_open fault ≡ true → IsOpen (stop_of gave) × (fault ≢ Some (faults.Message OutOfMemory))
-all_if_open None limit gave before after due goes = (subst IsOpen (sym due.0) tt, λ is. absurd cc)
-all_if_open (Some faults.Truncated) limit gave before after due goes = (subst IsOpen (sym due.0) tt, λ is. absurd cc)
-all_if_open (Some faults.ReadFailed) limit gave before after due goes = (due.0, λ is. absurd cc)
-all_if_open (Some faults.TooManyReads) limit gave before after due goes = (due.0, λ is. absurd cc)
-all_if_open (Some (faults.Message e)) limit gave before after due goes = absurd cc
-all_if_open (Some faults.SinkClosed) limit gave before after due goes = absurd cc
+all_if_open : (fault : Option SessionFault) (limits : SessionLimits) (gave : List ℕ) (before after : SourceView) → IsDueWithin fault limits gave before after → ends_open fault ≡ true → IsOpen (stop_within limits.templates gave) × (fault ≢ Some (faults.Message OutOfMemory))
+all_if_open None limits gave before after due goes = (subst IsOpen (sym due.0) tt, λ is. absurd cc)
+all_if_open (Some faults.Truncated) limits gave before after due goes = (subst IsOpen (sym due.0) tt, λ is. absurd cc)
+all_if_open (Some faults.ReadFailed) limits gave before after due goes = (due.0, λ is. absurd cc)
+all_if_open (Some faults.TooManyReads) limits gave before after due goes = (due.0, λ is. absurd cc)
+all_if_open (Some (faults.Message e)) limits gave before after due goes = absurd cc
+all_if_open (Some faults.SinkClosed) limits gave before after due goes = absurd cc
 
-pub counted_of : {S : Type 0} (seen : S → SourceView) (limit : ℕ) (before after : S) (full : FullReport) (digest : FrontDigest) (messages : CounterView) (text : List ℕ)
-    → IsCut → length text < 2 ^ 64 → (seen before).text ≡ Some text → TellsSession seen limit before after full → HasHashed digest messages (Some text) (seen after) → CountedOf digest text full (seen after)
-counted_of seen limit before after full digest messages text is_cut small start t h =
+pub counted_of : {S : Type 0} (seen : S → SourceView) (limits : SessionLimits) (before after : S) (full : FullReport) (digest : FrontDigest) (messages : CounterView) (text : List ℕ)
+    → IsCut → length text < 2 ^ 64 → (seen before).text ≡ Some text → TellsSession seen limits before after full → HasHashed digest messages (Some text) (seen after) → CountedOf digest text full (seen after)
+counted_of seen limits before after full digest messages text is_cut small start t h =
     let g = t.given in
     let stops = g.given.stops in
     let given : Consumes (Some text) (seen after).text g.gave = subst (λ (o : Option (List ℕ)). Consumes o (seen after).text g.gave) start g.given.octets in
@@ -75,7 +76,7 @@ counted_of seen limit before after full digest messages text is_cut small start 
     let same : h.gave ≡ g.gave = both_given text h.gave g.gave (seen after).text h.given given in
     let octets : IsOctets g.gave = subst IsOctets same (are_octets h.gave h.octets) in
     let less : length g.gave < 2 ^ 64 = omega (arith, ap length of.whole, length-append g.gave of.left, small) in
-    let c : Counted (gives stops.earlier).messages (gives g.gave).messages full.stopped_at = record { messages = g.counted; from = g.earlier; up_to = g.first; is = t.told.counts.stopped_at } in
+    let c : Counted (given_within limits.templates stops.earlier).messages (given_within limits.templates g.gave).messages full.stopped_at = record { messages = g.counted; from = g.earlier; up_to = g.first; is = t.told.counts.stopped_at } in
     record {
       gave = g.gave;
       left = of.left;
@@ -83,7 +84,7 @@ counted_of seen limit before after full digest messages text is_cut small start 
       sure = h.sure;
       read = subst (HasRead digest h.sure) same h.read;
       small = less;
-      counts = counts_in is_cut g.gave stops.earlier stops.last full.stopped_at octets less stops.is stops.size stops.no_fault c;
+      counts = counts_in limits.templates is_cut g.gave stops.earlier stops.last full.stopped_at octets less stops.is stops.size stops.no_fault c;
       settled = by_end same less h.settled;
     }
   where
@@ -91,11 +92,11 @@ counted_of seen limit before after full digest messages text is_cut small start 
     by_fault less few more false is = is
     by_fault less few more true is =
         let g = t.given in
-        let goes = all_if_open full.report.fault limit g.gave (seen before) (seen after) g.given.fault_is_due is in
+        let goes = all_if_open full.report.fault limits g.gave (seen before) (seen after) g.given.fault_is_due is in
         let all = g.all goes.1 in
-        let place = ap (λ (p : MessagePlace). p.octet) (t.told.counts.stopped_at ∙ ap place_after all ∙ place_is g.gave) in
-        let whole = whole_before is_cut g.gave goes.0 in
-        let long = octets_fit is_cut g.gave in
+        let place = ap (λ (p : MessagePlace). p.octet) (t.told.counts.stopped_at ∙ ap place_after all ∙ place_is_within limits.templates g.gave) in
+        let whole = whole_before limits.templates is_cut g.gave goes.0 in
+        let long = octets_fit limits.templates is_cut g.gave in
         absurd (omega (arith, few, more, place, whole, long, less))
 
     by_end : h.gave ≡ t.given.gave → length t.given.gave < 2 ^ 64 → (h.sure ≡ 0) ⊎ (((seen after).ended ≡ true) × (h.sure ≤ whole_octets h.gave)) → full.stopped_at.octet < h.sure → ((seen after).ended ≡ true) × (ends_open full.report.fault ≡ false)

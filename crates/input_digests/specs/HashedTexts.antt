@@ -2,8 +2,9 @@
 use Rattle.std.specs.Prelude.{◌≡◌, ◌<◌, ◌≤◌, ◌^◌, ◌⊎◌, ℕ, All, Bool, true, false, List, Option, Some, length, take}
 use Rattle.std.specs.Io.KnownBytes.{Consumes}
 use Rattle.ipfix_session.specs.declared.report.FullReport.{FullReport}
+use Rattle.ipfix_session.specs.declared.session_limits.SessionLimits.{SessionLimits}
 use Rattle.ipfix_message.specs.declared.record.DataRecord.{DataRecord}
-use Rattle.ipfix_session.specs.Drives.{IsGiven}
+use Rattle.ipfix_session.specs.Drives.{IsGivenWithin}
 use Rattle.ipfix_session.specs.Places.{ReportsInFull}
 use Rattle.ipfix_session.specs.Sources.{SourceView}
 use Rattle.ipfix_session.specs.MessageCounts.{CounterView}
@@ -34,19 +35,19 @@ IsOfCounted start report digest = (text : List ℕ) → start ≡ Some text → 
 abbrev pub AllCount : Option (List ℕ) → FullReport → Type 0
 AllCount start report = (text digest : List ℕ) → start ≡ Some text → length text < 2 ^ 64 → IsOfCounted start report digest → digest ≡ sha256 text
 
--- a session of a source gave records, and its full report tells of all its messages that count
-pub record TellsSession {S : Type 0} (seen : S → SourceView) (limit : ℕ) (before after : S) (full : FullReport) : Type 0 where
+-- a session of a source, which has such limits, gave records, and its full report tells of all its messages that count
+pub record TellsSession {S : Type 0} (seen : S → SourceView) (limits : SessionLimits) (before after : S) (full : FullReport) : Type 0 where
   pub records : List DataRecord
-  pub given : IsGiven seen limit before after full.report records
+  pub given : IsGivenWithin seen limits before after full.report records
   pub told : ReportsInFull full given.counted (length records)
 
 -- a digest is that of the messages that count of any session that brought a source, which held the one at the start, to where it is now
 abbrev pub IsOfSession : {S : Type 0} → (S → SourceView) → Option (List ℕ) → S → FullReport → List ℕ → Type 0
 IsOfSession {S} seen start now full digest =
-    (limit : ℕ) (before : S) → (seen before).text ≡ start → TellsSession seen limit before now full → IsOfCounted start full digest
+    (limits : SessionLimits) (before : S) → (seen before).text ≡ start → TellsSession seen limits before now full → IsOfCounted start full digest
 
 -- the digest of any such session is lost, or the session ended at a message though the source has shown its end
 abbrev pub LacksDigest : {S : Type 0} → (S → SourceView) → Option (List ℕ) → Bool → S → FullReport → Type 0
 LacksDigest {S} seen start lost now full =
-    (limit : ℕ) (before : S) (text : List ℕ) → (seen before).text ≡ start → start ≡ Some text → length text < 2 ^ 64 → TellsSession seen limit before now full
+    (limits : SessionLimits) (before : S) (text : List ℕ) → (seen before).text ≡ start → start ≡ Some text → length text < 2 ^ 64 → TellsSession seen limits before now full
     → lost ≡ false → ((seen now).ended ≡ true) × (ends_open full.report.fault ≡ false)

@@ -4,7 +4,9 @@
 ghost use Rattle.std.specs.Prelude.{◌≡◌};
 
 use input_digests::{HashedSource, Start};
-use ipfix_session::{FullReport, ScriptSource, SessionFault, Source, VecSink, drive_in_full};
+use ipfix_session::{
+    FullReport, ScriptSource, SessionFault, SessionLimits, Source, VecSink, drive_in_full,
+};
 use std::alloc::{AllocError, Global};
 use std::marker::Brand;
 use std::test::*;
@@ -49,7 +51,11 @@ fn drive_from<S: Source + Drop, T: Start>(
     requires { (S.seen source).text ≡ T.texts 0 }
 {
     let mut hashed: HashedSource<S, T> = HashedSource::new(alloc, source, 0);
-    let full = drive_in_full(alloc, &mut hashed, &mut VecSink::new(alloc), 1000);
+    let limits = SessionLimits {
+        reads: 1000,
+        templates: None,
+    };
+    let full = drive_in_full(alloc, &mut hashed, &mut VecSink::new(alloc), limits);
     let sha256 = hashed.finish(&full)?.sha256;
     Ok(HashedSession { full, sha256 })
 }

@@ -90,6 +90,7 @@ fails_or faults.TemplateChanged read h = inr h
 fails_or faults.RecordCut read h = inr h
 fails_or faults.TooManyDomains read h = inr h
 fails_or faults.Spent read h = inr h
+fails_or faults.TooManyFields read h = inr h
 
 -- where reading gives a value, only memory can fail
 pub only_memory : {X : Type 0} (fault : MessageFault) (read : Read X) (x : X) → Fails fault read → read ≡ Ok x → fault ≡ OutOfMemory

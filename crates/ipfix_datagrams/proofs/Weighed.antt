@@ -17,7 +17,8 @@ use Rattle.std.proofs.lemmas.Map.Views.{btree_map_contains_key_iff, list_any-fro
 use Rattle.ipfix_message.specs.declared.record.Template.{Template}
 use Rattle.ipfix_message.specs.Domains.{History, Message, template_for}
 use Rattle.ipfix_message.specs.Alike.{knows}
-use Rattle.ipfix_datagrams.specs.Datagrams.{AreWeighed, Basis, Fits, IsReadingOf, IsTaken, WeighAfter, barred_after, is_changed, Preparation, Weighs, WeighsIf, defined_before, fields_of, is_changed_by, known_in, last_definition, withdrawn_in}
+use Rattle.ipfix_message.specs.TemplateLimits.{fields_of}
+use Rattle.ipfix_datagrams.specs.Datagrams.{AreWeighed, Basis, Fits, IsReadingOf, IsTaken, WeighAfter, barred_after, is_changed, Preparation, Weighs, WeighsIf, defined_before, is_changed_by, known_in, last_definition, withdrawn_in}
 use Rattle.ipfix_datagrams.specs.declared.reading.DatagramReading.{DatagramReading}
 use Rattle.ipfix_datagrams.specs.Attempts.{kept_entries}
 use Rattle.ipfix_datagrams.proofs.InForce.{known_or}

@@ -24,13 +24,14 @@ use Rattle.ipfix_message.specs.TemplatesInForce.{in_force, is_of, is_other, same
 use Rattle.ipfix_message.specs.Sets.{Set, sets_of}
 use Rattle.ipfix_message.specs.Domains.{DomainsView, History, Message, StandsFor, events_in, with_events, template_for, message_header, message_gives}
 use Rattle.ipfix_message.specs.Alike.{knows}
+use Rattle.ipfix_message.specs.TemplateLimits.{fields_of}
+use Rattle.ipfix_message.specs.declared.template_limit.TheConstants.{DOMAIN_FIELDS}
 use Rattle.ipfix_session.specs.Ledger.{capped}
 use Rattle.ipfix_datagrams.specs.Withdrawals.{HasTemplateId, kind_withdrawn}
 use Rattle.ipfix_datagrams.specs.declared.withdrawn_template.WithdrawnTemplate.{WithdrawnTemplate}
 use Rattle.ipfix_datagrams.specs.declared.reading.DatagramReading.{DatagramReading}
 use Rattle.ipfix_datagrams.specs.declared.reading.Reading.{Reading}
 use Rattle.ipfix_datagrams.specs.declared.reading.Reading.TheVariants.{Ignored, TooMuch, Kept}
-use Rattle.ipfix_datagrams.specs.declared.weighing.TheConstants.{DOMAIN_FIELDS, TEMPLATE_FIELDS}
 use Rattle.ipfix_datagrams.specs.declared.known_templates.KnownTemplates.{KnownTemplates}
 
 -- ---- definitions
@@ -309,11 +310,7 @@ pub record IsReadingOf (basis : Basis) (ds : History) (m : List ℕ) (r : Datagr
 
 -- ---- what templates count, and the budget that a peer has for them
 
--- a template counts 8 and its field specifiers, those of its scope among them
-abbrev pub fields_of : Template → ℕ
-fields_of t = TEMPLATE_FIELDS + length t.specs
-
--- a domain counts 16 and the templates that are known in it over UDP, each once
+-- a domain counts 16 and the templates that are known in it over UDP, each once, as in a session
 pub record Weighs (n : ℕ) (ds : History) (domain : ℕ) : Type 0 where
   pub counts : List (ℕ × ℕ)
   pub ascending : IsStrictlySortedBy nat_cmp (keys_of counts)

@@ -33,7 +33,7 @@ pub use moment::Moment;
 pub use reach::Reach;
 pub use reading::{DatagramReading, Reading, read_datagram};
 pub use sequence_advances::SequenceAdvances;
-pub use weighing::{DOMAIN_FIELDS, TEMPLATE_FIELDS, Weights, count_of};
+pub use weighing::Weights;
 pub use withdrawal::{MOST_WITHDRAWN, append_withdrawals};
 pub use withdrawn_template::WithdrawnTemplate;
 pub use withdrawn_templates::{WithdrawnTemplates, keep_known};

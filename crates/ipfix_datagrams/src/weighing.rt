@@ -4,35 +4,23 @@ ghost use Rattle.std.specs.Prelude.{◌≡◌, ◌==◌, ◌+◌, ◌≤◌, ◌
 ghost use Rattle.std.specs.Option.{option_or};
 ghost use Rattle.std.specs.BTreeMap.{get, values, IsOrdered};
 ghost use Rattle.std.specs.Ordering.{nat_cmp};
-ghost use Rattle.ipfix_datagrams.specs.Datagrams.{Exceeds, Fits, KeepsKnown, fields_of, known_in, template_in};
+ghost use Rattle.ipfix_datagrams.specs.Datagrams.{Exceeds, Fits, KeepsKnown, known_in, template_in};
+ghost use Rattle.ipfix_message.specs.TemplateLimits.{fields_of};
+ghost use Rattle.ipfix_message.specs.declared.template_limit.TheConstants.{DOMAIN_FIELDS};
 ghost use Rattle.ipfix_datagrams.specs.Attempts.{kept_entries};
 ghost use Rattle.ipfix_datagrams.specs.Readings.{ReadSo};
 
 use crate::known_templates::KnownTemplates;
 use crate::reading::DatagramReading;
-use ipfix_message::{Domains, Template, Templates};
+use ipfix_message::{DOMAIN_FIELDS, Domains, Templates, count_of};
 use std::alloc::{AllocError, Global};
 use std::collections::BTreeMap;
-
-/// What a template counts beside its field specifiers.
-pub const TEMPLATE_FIELDS: u64 = 8;
-
-/// What a domain counts beside its templates.
-pub const DOMAIN_FIELDS: u64 = 16;
 
 /// What each domain counts.
 pub type Weights = BTreeMap<u32, u64>;
 
 // What the templates of a domain count, by id.
 type Counts = BTreeMap<u16, u64>;
-
-/// What a template counts.
-pub fn count_of(template: &Template) -> u64
-    ensures { result ≡ fields_of template.now }
-{
-    let specs = template.specs.as_slice();
-    TEMPLATE_FIELDS + specs.len() as u64
-}
 
 // Counts the template of an id, if it is there.
 fn count_one(templates: &Templates, id: u16, counts: &mut Counts) -> Result<(), AllocError>

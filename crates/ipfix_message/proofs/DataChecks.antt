@@ -1,5 +1,5 @@
 -- Sets that are only checked.
-use Rattle.std.proofs.Common.{◌≡◌, ℕ, ◌<◌, ◌≤◌, Bool, true, false, eqb, ltb, List, [], ◌∷◌, ◌++◌, length, map, Some, None, Result, Ok, Err, refl, sym, ap, subst, ◌∙◌, arith, cond}
+use Rattle.std.proofs.Common.{◌≡◌, ℕ, ◌<◌, ◌≤◌, Bool, true, false, eqb, ltb, List, ◌∷◌, ◌++◌, length, map, Some, None, Result, Ok, Err, refl, sym, ap, subst, ◌∙◌, cond}
 use Rattle.std.specs.Prelude.{◌≢◌, ◌||◌, IsOk, MatchResult}
 use Rattle.std.specs.List.{list_any}
 use Rattle.std.proofs.lemmas.Bool.{lt-ltb, le-ltb, eq-eqb}
@@ -68,6 +68,7 @@ fails_is faults.TemplateChanged read other fails = fails
 fails_is faults.RecordCut read other fails = fails
 fails_is faults.TooManyDomains read other fails = fails
 fails_is faults.Spent read other fails = fails
+fails_is faults.TooManyFields read other fails = fails
 
 pub cut_is : {X : Type 0} (e : MessageFault) (read : Result X MessageFault) → e ≡ faults.RecordCut → Fails e read → read ≡ Err e
 cut_is e read is fails = fails_is e read (λ memory. cut_is_no_lack e is memory) fails
@@ -194,3 +195,6 @@ pub template_set_none : (w : List ℕ) → length w ≡ 0 → has_template_set w
 template_set_none w none =
     let ended = next_set-nil w none in
     ap (λ (p : Parts Set). list_any is_template_set p.items) (parts_of-none next_set w ended.0 ended.1)
+
+pub template_set_cut : (w : List ℕ) (f : MessageFault) → f ≢ faults.OutOfMemory → Fails f (next_set w) → has_template_set w ≡ false
+template_set_cut w f memory fails = ap (λ (p : Parts Set). list_any is_template_set p.items) (parts_of-none next_set w f (fails_is f (next_set w) memory fails))

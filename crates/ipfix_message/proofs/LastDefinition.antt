@@ -22,7 +22,7 @@ not_both_ways : (b : Bool) → b ≡ true → b ≡ false → ⊥
 not_both_ways b p q = cc
 
 -- what a withdrawal left was in force, and is not of its kind
-unless_of-some : (kind : TemplateKind) (o : Option Template) (t : Template) → unless_of kind o ≡ some_template t → (o ≡ some_template t) × (is_of kind t ≡ false)
+pub unless_of-some : (kind : TemplateKind) (o : Option Template) (t : Template) → unless_of kind o ≡ some_template t → (o ≡ some_template t) × (is_of kind t ≡ false)
 unless_of-some kind None t h = absurd (none_is_not t h)
 unless_of-some kind (Some u) t h =
     elim (chosen (is_of kind u) None (some_template u) (some_template t) h) [

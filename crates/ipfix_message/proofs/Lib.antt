@@ -21,3 +21,4 @@ pub mod Alikes
 pub mod Tails
 pub mod PartsOf
 pub mod TemplateMessages
+pub mod TemplateLimits

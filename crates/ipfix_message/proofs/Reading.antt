@@ -46,6 +46,7 @@ Fails-of faults.TemplateChanged part whole h fails = h _ fails
 Fails-of faults.RecordCut part whole h fails = h _ fails
 Fails-of faults.TooManyDomains part whole h fails = h _ fails
 Fails-of faults.Spent part whole h fails = h _ fails
+Fails-of faults.TooManyFields part whole h fails = h _ fails
 
 -- ---- one after the other, as a loop reads
 

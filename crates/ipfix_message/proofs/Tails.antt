@@ -1,6 +1,6 @@
 -- Fields, and others after them.
 use Rattle.std.proofs.Common.{◌≡◌, ℕ, List, [], ◌∷◌, ◌++◌, None, Option, Some, refl, sym, ap, subst, ◌∙◌, append_assoc}
-use Rattle.std.specs.Prelude.{Bool, ◌&&◌, ◌==◌, find, option_map}
+use Rattle.std.specs.Prelude.{Bool, find, option_map}
 use Rattle.std.specs.Option.{option_or}
 use Rattle.std.proofs.lemmas.List.Folds.{find-append}
 use Rattle.ipfix_wire.specs.declared.specifier.ElementId.{ElementId}

@@ -12,6 +12,7 @@ pub mod TemplatesInForce
 pub mod Sets
 pub mod Messages
 pub mod Domains
+pub mod TemplateLimits
 pub mod Alike
 -- What only inner functions and proofs need.
 pub mod Layouts

@@ -51,6 +51,23 @@ fn is_template_set(id: u16) -> bool
     id == TEMPLATE_SET_ID || id == OPTIONS_TEMPLATE_SET_ID
 }
 
+/// Whether there is a template set in what follows a message's header.
+pub fn has_template_set(octets: &[u8]) -> bool
+    ensures { result ≡ specs.has_template_set octets.now }
+{
+    let mut rest = octets;
+    while !rest.is_empty() {
+        let Ok(((id, _), after)) = next_set(rest) else {
+            return false;
+        };
+        if is_template_set(id) {
+            return true;
+        }
+        rest = after;
+    }
+    false
+}
+
 /// Checks the sets in what follows a message's header, up to the first template set, and answers whether there
 /// is none. The fault is that of reading them.
 pub fn check_sets(octets: &[u8], templates: &Templates) -> Result<bool, MessageFault>

@@ -1,17 +1,19 @@
 //! The domains of a transport session, which decode its messages (RFC 7011, sections 3.1 and 8).
 
-ghost use Rattle.std.specs.Prelude.{[], ◌≡◌, false, true, IsTrue, ℕ, IsErrOf, IsOk, IfOk, OnOk, OnErr, Ok, Err, MatchBool, None, nat_eq, option_copied, option_map, option_and_then};
+ghost use Rattle.std.specs.Prelude.{[], ◌≡◌, ◌≤◌, ◌<◌, false, true, IsTrue, ℕ, IsErrOf, IsOk, IfOk, OnOk, OnErr, Ok, Err, MatchBool, None, nat_eq, option_copied, option_map, option_and_then};
 ghost use Rattle.std.specs.Map.{lookup};
 ghost use Rattle.std.specs.Ordering.{nat_cmp};
 ghost use Rattle.std.specs.BTreeMap.{get};
-ghost use Rattle.ipfix_message.specs.Domains.{History, StandsFor, Decodes, IsAdmitted, IsChecked, admit, message_header, message_gives, template_for, alone};
+ghost use Rattle.ipfix_message.specs.Domains.{History, Message, StandsFor, Decodes, IsAdmitted, IsChecked, admit, message_header, message_gives, template_for, alone};
+ghost use Rattle.ipfix_message.specs.TemplateLimits.{IsWithin, fields_in, message_within};
 ghost use Rattle.ipfix_message.specs.declared.fault.MessageFault.TheVariants.{OutOfMemory, Spent, TooManyDomains};
 
-use crate::data_check::check_sets;
+use crate::data_check::{check_sets, has_template_set};
 use crate::fault::MessageFault;
 use crate::in_force::Templates;
 use crate::message::{Decoded, MAX_DOMAINS, after_header, header_of, read_message};
 use crate::record::Template;
+use crate::template_limit::are_within;
 use indexmap::IndexMap;
 use ipfix_wire::Header;
 use std::alloc::{AllocError, Global};
@@ -98,6 +100,63 @@ impl Domains {
         let result = read_message(alloc, &mut self.known, header, message);
         self.spent = result.is_err();
         result
+    }
+
+    /// Decodes a message, as [`decode_with_header`](Self::decode_with_header) does, in a session whose templates
+    /// may count no more than this, if it has a limit ([`count_of`](crate::count_of); a domain counts
+    /// [`DOMAIN_FIELDS`](crate::DOMAIN_FIELDS) more). `TooManyFields` comes after all other faults of the message:
+    /// after it more would be in force.
+    pub fn decode_within(
+        &mut self,
+        alloc: Global,
+        header: &Header,
+        message: &[u8],
+        limit: Option<u64>,
+    ) -> Result<Decoded, MessageFault>
+        requires { message_header message.now ≡ Ok header.now }
+        ensures spent { IsTrue self.old.spent → result ≡ Err Spent }
+        ensures gives { self.old.spent ≡ false → (ds : History) → StandsFor self.old.domains ds
+            → IsWithin limit ds
+            → Decodes result self.new.domains (message_within limit ds message.now) }
+        ensures memory { IsErrOf result OutOfMemory → (ds : History) → StandsFor self.old.domains ds
+            → IsAdmitted ds message.now }
+        ensures ok { OnOk result (self.new.spent ≡ false) }
+        ensures err { OnErr result (self.new.spent ≡ true) }
+    {
+        let Some(limit) = limit else {
+            return self.decode_with_header(alloc, header, message);
+        };
+        let may_add = self.may_add(header, message);
+        let decoded = self.decode_with_header(alloc, header, message)?;
+        if self.is_left_within(may_add, limit) {
+            return Ok(decoded);
+        }
+        self.spent = true;
+        Err(MessageFault::TooManyFields)
+    }
+
+    // Whether a message may bring a template or a domain. It takes no memory.
+    fn may_add(&self, header: &Header, message: &[u8]) -> bool
+        requires { message_header message.now ≡ Ok header.now }
+        ensures { (ds : History) (m : Message) → StandsFor self.now.domains ds → result ≡ false
+            → message_gives ds message.now ≡ Ok m → fields_in m.domains ≡ fields_in ds }
+    {
+        if self.known.contains_key(&header.domain) {
+            return has_template_set(after_header(header, message));
+        }
+        true
+    }
+
+    // Whether the templates count no more than a limit, as they do if nothing was added.
+    fn is_left_within(&self, may_add: bool, limit: u64) -> bool
+        ensures { (ds : History) → StandsFor self.now.domains ds
+            → (may_add ≡ false → fields_in ds ≤ limit)
+            → MatchBool result (fields_in ds ≤ limit) (limit < fields_in ds) }
+    {
+        if may_add {
+            return are_within(&self.known, limit);
+        }
+        true
     }
 
     /// The template that is in force for an id in a domain, or `None` after a fault.

@@ -9,20 +9,21 @@ use Rattle.ipfix_message.specs.declared.record.DataRecord.{DataRecord}
 use Rattle.ipfix_session.specs.declared.fault.SessionFault.{SessionFault}
 use Rattle.ipfix_session.specs.declared.fault.SessionFault.TheVariants as faults
 use Rattle.ipfix_session.specs.declared.report.SessionReport.{SessionReport}
-use Rattle.ipfix_session.specs.Given.{gives, records_in, records_of, stop_of, AreAllOf, IsPrefix}
+use Rattle.ipfix_session.specs.declared.session_limits.SessionLimits.{SessionLimits}
+use Rattle.ipfix_session.specs.Given.{given_within, records_in, records_of, records_within, stop_of, AreAllOf, IsPrefix}
 use Rattle.ipfix_session.specs.Sources.{SourceView}
 use Rattle.ipfix_session.specs.Sinks.{SinkView, Takes}
 use Rattle.ipfix_session.specs.Feeding.{PutsWhole}
 use Rattle.ipfix_session.specs.Reports.{Reports}
-use Rattle.ipfix_session.specs.Drives.{IsDue, IsGiven, PutsUpTo, Drives, TakesGiven}
-use Rattle.ipfix_session.proofs.Giving.{gives-prefix}
+use Rattle.ipfix_session.specs.Drives.{Drives, DrivesWithin, IsDue, IsGiven, PutsUpTo, TakesGiven, TakesGivenWithin, unlimited}
+use Rattle.ipfix_session.proofs.Giving.{given_within-prefix}
 use Rattle.ipfix_session.proofs.Reaching.{takes-append}
 
-module _ {S K : Type 0} (seen : S → SourceView) (view : SinkView K) (limit : ℕ) (before after : S) (first last : K) (r : SessionReport) where
+module _ {S K : Type 0} (seen : S → SourceView) (view : SinkView K) (limits : SessionLimits) (before after : S) (first last : K) (r : SessionReport) where
   -- these messages count, and their records were put
-  given_whole : (d : Drives seen view limit before after first last r) (whole : List Message) → IsPrefix whole (gives d.gave).messages → (r.fault ≢ Some (faults.Message OutOfMemory) → whole ≡ (gives d.gave).messages)
-      → IsPrefix (gives d.given.stops.earlier).messages whole → r.fault ≢ Some faults.SinkClosed → PutsWhole view (gives d.given.stops.earlier).messages whole d.middle last (Reports r)
-      → TakesGiven seen view limit before after first last r
+  given_whole : (d : DrivesWithin seen view limits before after first last r) (whole : List Message) → IsPrefix whole (given_within limits.templates d.gave).messages → (r.fault ≢ Some (faults.Message OutOfMemory) → whole ≡ (given_within limits.templates d.gave).messages)
+      → IsPrefix (given_within limits.templates d.given.stops.earlier).messages whole → r.fault ≢ Some faults.SinkClosed → PutsWhole view (given_within limits.templates d.given.stops.earlier).messages whole d.middle last (Reports r)
+      → TakesGivenWithin seen view limits before after first last r
   given_whole d whole some all from taken p =
       record {
         records = records_in whole;
@@ -37,21 +38,21 @@ module _ {S K : Type 0} (seen : S → SourceView) (view : SinkView K) (limit : �
           report_is = p.tells;
           not_closed = taken;
         };
-        takes = subst (λ (rs : List DataRecord). Takes view first rs last) (sym p.records) (takes-append view first d.middle last (records_of d.given.stops.earlier) p.put d.earlier p.takes);
+        takes = subst (λ (rs : List DataRecord). Takes view first rs last) (sym p.records) (takes-append view first d.middle last (records_within limits.templates d.given.stops.earlier) p.put d.earlier p.takes);
       }
 
   -- all messages count
-  given_all : (d : Drives seen view limit before after first last r) → r.fault ≢ Some faults.SinkClosed → PutsWhole view (gives d.given.stops.earlier).messages (gives d.gave).messages d.middle last (Reports r)
-      → TakesGiven seen view limit before after first last r
+  given_all : (d : DrivesWithin seen view limits before after first last r) → r.fault ≢ Some faults.SinkClosed → PutsWhole view (given_within limits.templates d.given.stops.earlier).messages (given_within limits.templates d.gave).messages d.middle last (Reports r)
+      → TakesGivenWithin seen view limits before after first last r
   given_all d taken p =
-      let all = (gives d.gave).messages in
+      let all = (given_within limits.templates d.gave).messages in
       let stops = d.given.stops in
-      given_whole d all ([], sym (append-nil all)) (λ _. refl) (subst (λ (w : List ℕ). IsPrefix (gives stops.earlier).messages (gives w).messages) (sym stops.is) (gives-prefix stops.earlier stops.last)) taken p
+      given_whole d all ([], sym (append-nil all)) (λ _. refl) (subst (λ (w : List ℕ). IsPrefix (given_within limits.templates stops.earlier).messages (given_within limits.templates w).messages) (sym stops.is) (given_within-prefix limits.templates stops.earlier stops.last)) taken p
 
   -- by the fault
-  given_by : (d : Drives seen view limit before after first last r) (fault : Option SessionFault) → r.fault ≡ fault → r.fault ≢ Some faults.SinkClosed
-      → PutsUpTo view fault (gives d.given.stops.earlier).messages (gives d.gave).messages d.middle last (Reports r)
-      → TakesGiven seen view limit before after first last r
+  given_by : (d : DrivesWithin seen view limits before after first last r) (fault : Option SessionFault) → r.fault ≡ fault → r.fault ≢ Some faults.SinkClosed
+      → PutsUpTo view fault (given_within limits.templates d.given.stops.earlier).messages (given_within limits.templates d.gave).messages d.middle last (Reports r)
+      → TakesGivenWithin seen view limits before after first last r
   given_by d None is taken p = given_all d taken p
   given_by d (Some faults.Truncated) is taken p = given_all d taken p
   given_by d (Some faults.ReadFailed) is taken p = given_all d taken p
@@ -60,8 +61,8 @@ module _ {S K : Type 0} (seen : S → SourceView) (view : SinkView K) (limit : �
   given_by d (Some (faults.Message e)) is taken p = given_all d taken p
   given_by d (Some faults.SinkClosed) is taken p = absurd (taken is)
 
-  pub driven_is_given : Drives seen view limit before after first last r → r.fault ≢ Some faults.SinkClosed → TakesGiven seen view limit before after first last r
-  driven_is_given d taken = given_by d r.fault refl taken d.puts
+  pub driven_is_given_within : DrivesWithin seen view limits before after first last r → r.fault ≢ Some faults.SinkClosed → TakesGivenWithin seen view limits before after first last r
+  driven_is_given_within d taken = given_by d r.fault refl taken d.puts
 
   -- a sink that gave none back at all didn't close
   closed_not : (fault : Option SessionFault) (old all : List Message) (middle : K) (told : List Message → ℕ → Type 0) → view.refused last ≡ 0 → PutsUpTo view fault old all middle last told → fault ≢ Some faults.SinkClosed
@@ -72,8 +73,16 @@ module _ {S K : Type 0} (seen : S → SourceView) (view : SinkView K) (limit : �
   closed_not (Some (faults.Message e)) old all middle told none p = λ e. cc e
   closed_not (Some faults.SinkClosed) old all middle told none p = absurd (omega (arith, p.back, none))
 
+  pub driven_took_all_within : DrivesWithin seen view limits before after first last r → view.refused last ≡ 0 → TakesGivenWithin seen view limits before after first last r
+  driven_took_all_within d none = driven_is_given_within d (closed_not r.fault _ _ _ _ none d.puts)
+
+-- without a limit
+module _ {S K : Type 0} (seen : S → SourceView) (view : SinkView K) (limit : ℕ) (before after : S) (first last : K) (r : SessionReport) where
+  pub driven_is_given : Drives seen view limit before after first last r → r.fault ≢ Some faults.SinkClosed → TakesGiven seen view limit before after first last r
+  driven_is_given d taken = driven_is_given_within seen view (unlimited limit) before after first last r d taken
+
   pub driven_took_all : Drives seen view limit before after first last r → view.refused last ≡ 0 → TakesGiven seen view limit before after first last r
-  driven_took_all d none = driven_is_given d (closed_not r.fault _ _ _ _ none d.puts)
+  driven_took_all d none = driven_took_all_within seen view (unlimited limit) before after first last r d none
 
 -- ---- a session without a fault
 

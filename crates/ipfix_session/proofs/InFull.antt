@@ -6,9 +6,9 @@ use Rattle.ipfix_session.specs.declared.fault.SessionFault.{SessionFault}
 use Rattle.ipfix_session.specs.declared.report.FullReport.{FullReport}
 use Rattle.ipfix_session.specs.declared.stop.Stop.{Stop}
 use Rattle.ipfix_session.specs.declared.stop.Stop.TheVariants.{Clean, Short, Fault}
-use Rattle.ipfix_session.specs.Faults.{end_of, ends_open, fault_at_end}
+use Rattle.ipfix_session.specs.Faults.{end_within, ends_open, fault_at_end}
 use Rattle.ipfix_session.specs.Feeding.{State, StandsForText}
-use Rattle.ipfix_session.specs.Given.{gives, stop_of, IsOpen}
+use Rattle.ipfix_session.specs.Given.{given_within, stop_within, IsOpen}
 use Rattle.ipfix_session.specs.Places.{AreDomainsOf, CountsInFull, ReportsInFull}
 use Rattle.ipfix_session.specs.Reports.{ended_by}
 
@@ -32,8 +32,8 @@ still_refused None rest refused = absurd cc
 still_refused (Some fault) rest refused = refused
 
 -- the domains of a session that stands for a text without a fault
-pub domains_of_open : (s : State) (text : List ℕ) → StandsForText s text → IsOpen (stop_of text) → AreDomainsOf (gives text).messages s.domains
-domains_of_open s text stands is_open =
+pub domains_of_open : (limit : Option ℕ) (s : State) (text : List ℕ) → StandsForText limit s text → IsOpen (stop_within limit text) → AreDomainsOf (given_within limit text).messages s.domains
+domains_of_open limit s text stands is_open =
     let on = stands.goes_on is_open in
     record { not_spent = on.not_spent; stands = on.known }
 
@@ -42,5 +42,5 @@ open_end Clean e = tt
 open_end Short e = tt
 open_end (Fault fault) e = absurd cc
 
-pub domains_at_end : (s : State) (text : List ℕ) → StandsForText s text → ends_open (end_of text) ≡ true → AreDomainsOf (gives text).messages s.domains
-domains_at_end s text stands e = domains_of_open s text stands (open_end (stop_of text) e)
+pub domains_at_end : (limit : Option ℕ) (s : State) (text : List ℕ) → StandsForText limit s text → ends_open (end_within limit text) ≡ true → AreDomainsOf (given_within limit text).messages s.domains
+domains_at_end limit s text stands e = domains_of_open limit s text stands (open_end (stop_within limit text) e)

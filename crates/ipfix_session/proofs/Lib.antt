@@ -18,3 +18,4 @@ mod InFull
 pub mod Walks
 mod WholeTexts
 pub mod TemplateLists
+mod Limited

@@ -13,12 +13,12 @@ use Rattle.ipfix_session.specs.declared.stop.Stop.TheVariants.{Fault}
 use Rattle.ipfix_session.specs.declared.fault.SessionFault.{SessionFault}
 use Rattle.ipfix_session.specs.declared.fault.SessionFault.TheVariants as faults
 use Rattle.ipfix_session.specs.MessageStream.{next_message}
-use Rattle.ipfix_session.specs.Given.{Given, gives_after, behind, octets_of, IsOpen}
+use Rattle.ipfix_session.specs.Given.{Given, gives_within, behind, octets_of, IsOpen}
 use Rattle.ipfix_session.specs.Buffers.{IsFilled}
 use Rattle.ipfix_session.specs.MessageSinks.{MessageSinkView, known_behind, HasTaken, TakesOne, IsBetween, IsAtRest, TookFirst, Stops}
 use Rattle.ipfix_session.proofs.Chains.{known_after-push}
 use Rattle.ipfix_session.proofs.Cut.{found, none_at, next_begins, messages_shrink}
-use Rattle.ipfix_session.proofs.Giving.{stops, gives_after-stop, gives_after-next, gives_after-fault, behind-behind}
+use Rattle.ipfix_session.proofs.Giving.{stops, gives_within-stop, gives_within-next, gives_within-fault, behind-behind}
 
 -- from one place in a text to a later one
 abbrev pub GoesOver : {M T : Type 0} (view : MessageSinkView M T) (m n : M) (to later : T) (left rest : List ℕ) → Type 0
@@ -59,8 +59,8 @@ module _ {M T : Type 0} (view : MessageSinkView M T) (before : view.Before) (tex
         taken = t.2;
         octets = b.octets ∙ ap (λ (w : List ℕ). octets_of b.messages ++ w) (cut_at left octets rest begins) ∙ sym (append_assoc (octets_of b.messages) octets rest)
             ∙ ap (λ (w : List ℕ). w ++ rest) (sym (octets-push b.messages octets));
-        is = b.is ∙ ap (behind b.given) (gives_after-next (known_behind view before b.given) left octets rest next begins t.1) ∙ behind-behind b.given (next ∷ []) (gives_after next.domains rest)
-            ∙ ap (λ (ds : History). behind given (gives_after ds rest)) (sym now);
+        is = b.is ∙ ap (behind b.given) (gives_within-next (view.limit before) (known_behind view before b.given) left octets rest next begins t.1) ∙ behind-behind b.given (next ∷ []) (gives_within (view.limit before) next.domains rest)
+            ∙ ap (λ (ds : History). behind given (gives_within (view.limit before) ds rest)) (sym now);
         rest = b.rest ∙ ap (λ (p : Parts (List ℕ)). p.rest) (parts_of-next next_message messages_shrink left octets rest begins);
       }
 
@@ -73,11 +73,11 @@ module _ {M T : Type 0} (view : MessageSinkView M T) (before : view.Before) (tex
     left = left;
     took = took;
     octets = b.octets;
-    next = ((gives_after (known_behind view before b.given) left).messages, ap (λ (g : Given). g.messages) b.is);
+    next = ((gives_within (view.limit before) (known_behind view before b.given) left).messages, ap (λ (g : Given). g.messages) b.is);
   }
 
   took_up_to : (m n : M) (to later : T) (left : List ℕ) (e : MessageFault) (b : IsBetween view before text m to left) → view.took before n later b.messages b.given
-      → gives_after (known_behind view before b.given) left ≡ stops (Fault e) → Stops view before (faults.Message e) text n later
+      → gives_within (view.limit before) (known_behind view before b.given) left ≡ stops (Fault e) → Stops view before (faults.Message e) text n later
   took_up_to m n to later left OutOfMemory b took stop = took_first m n to later left b took
   took_up_to m n to later left e b took stop = record {
     first = took_first m n to later left b took;
@@ -90,19 +90,19 @@ module _ {M T : Type 0} (view : MessageSinkView M T) (before : view.Before) (tex
 
   -- a header is none of a message
   pub stops_at : (m : M) (to : T) (left : List ℕ) (e : MessageFault) → IsBetween view before text m to left → next_message left ≡ none_at (Fault e) → Stops view before (faults.Message e) text m to
-  stops_at m to left e b none = took_up_to m m to to left e b b.taken.took (gives_after-stop (known_behind view before b.given) left (Fault e) none)
+  stops_at m to left e b none = took_up_to m m to to left e b b.taken.took (gives_within-stop (view.limit before) (known_behind view before b.given) left (Fault e) none)
 
   -- the next message wasn't taken
   pub stops_taking : (m n : M) (to later : T) (left octets rest : List ℕ) (f : SessionFault) (b : IsBetween view before text m to left) → next_message left ≡ found octets rest
       → TakesOne view before (Err f) n later b.messages b.given octets → Stops view before f text n later
   stops_taking m n to later left octets rest (faults.Message OutOfMemory) b begins t = took_first m n to later left b t.0
   stops_taking m n to later left octets rest (faults.Message e) b begins t =
-      took_up_to m n to later left e b t.0 (gives_after-fault (known_behind view before b.given) left octets rest e begins t.1)
+      took_up_to m n to later left e b t.0 (gives_within-fault (view.limit before) (known_behind view before b.given) left octets rest e begins t.1)
   stops_taking m n to later left octets rest faults.SinkClosed b begins t = record {
     given = b.given;
     next = t.0;
-    more = (gives_after t.0.domains rest).messages;
-    are = ap (λ (g : Given). g.messages) (b.is ∙ ap (behind b.given) (gives_after-next (known_behind view before b.given) left octets rest t.0 begins t.1));
+    more = (gives_within (view.limit before) t.0.domains rest).messages;
+    are = ap (λ (g : Given). g.messages) (b.is ∙ ap (behind b.given) (gives_within-next (view.limit before) (known_behind view before b.given) left octets rest t.0 begins t.1));
     part = t.2;
   }
   stops_taking m n to later left octets rest faults.Truncated b begins t = absurd t

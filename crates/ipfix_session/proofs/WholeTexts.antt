@@ -1,5 +1,5 @@
 -- A text is its whole messages and the rest.
-use Rattle.std.proofs.Common.{◌≡◌, ℕ, zero, suc, ◌-◌, ◌≤◌, ◌++◌, List, length, take, drop, sym, ap, ◌∙◌, arith, length-append, append_assoc, inl, inr}
+use Rattle.std.proofs.Common.{◌≡◌, ℕ, zero, suc, ◌≤◌, ◌++◌, List, length, take, drop, sym, ap, ◌∙◌, arith, length-append, append_assoc, inl, inr}
 use Rattle.std.proofs.lemmas.List.{take-append-drop, take_at}
 use Rattle.ipfix_wire.specs.InTurn.{Parts}
 use Rattle.ipfix_wire.proofs.Parts.{cases_read, parts_of-next, parts_of-none}

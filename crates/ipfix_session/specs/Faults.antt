@@ -5,7 +5,7 @@ use Rattle.ipfix_session.specs.declared.stop.Stop.{Stop}
 use Rattle.ipfix_session.specs.declared.stop.Stop.TheVariants.{Clean, Short, Fault}
 use Rattle.ipfix_session.specs.declared.fault.SessionFault.{SessionFault}
 use Rattle.ipfix_session.specs.declared.fault.SessionFault.TheVariants.{Message, Truncated, ReadFailed, TooManyReads, SinkClosed}
-use Rattle.ipfix_session.specs.Given.{stop_of}
+use Rattle.ipfix_session.specs.Given.{stop_within}
 
 abbrev pub number_of : SessionFault → ℕ
 number_of (Message fault) = messages.number_of fault
@@ -36,5 +36,8 @@ ends_open (Some TooManyReads) = true
 ends_open (Some (Message fault)) = false
 ends_open (Some SinkClosed) = false
 
+abbrev pub end_within : Option ℕ → List ℕ → Option SessionFault
+end_within limit text = fault_at_end (stop_within limit text)
+
 abbrev pub end_of : List ℕ → Option SessionFault
-end_of text = fault_at_end (stop_of text)
+end_of text = end_within None text

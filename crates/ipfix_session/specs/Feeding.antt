@@ -10,7 +10,7 @@ use Rattle.ipfix_session.specs.declared.fault.SessionFault.{SessionFault}
 use Rattle.ipfix_session.specs.declared.fault.SessionFault.TheVariants as faults
 use Rattle.ipfix_session.specs.declared.account.Account.{Account}
 use Rattle.ipfix_session.specs.MessageStream.{cut}
-use Rattle.ipfix_session.specs.Given.{gives, known_after, records_in, records_of, stop_of, IsOpen, IsPrefix}
+use Rattle.ipfix_session.specs.Given.{given_within, known_after, records_in, records_within, stop_within, IsOpen, IsPrefix}
 use Rattle.ipfix_session.specs.Ledger.{capped}
 use Rattle.ipfix_session.specs.Accounts.{accounts_of}
 use Rattle.ipfix_session.specs.Reports.{passed_over_in}
@@ -30,6 +30,7 @@ pub record Counts : Type 0 where
 pub record State : Type 0 where
   pub counts : Counts
   pub domains : DomainsView
+  pub limit : Option ℕ
   pub buffer : List ℕ
   pub fault : Option SessionFault
 
@@ -52,16 +53,17 @@ fault_at Short = None
 fault_at (Fault e) = Some (faults.Message e)
 
 -- it goes on from the rest of a text, with the domains and events of its messages
-pub record GoesOnFrom (s : State) (text : List ℕ) : Type 0 where
+pub record GoesOnFrom (limit : Option ℕ) (s : State) (text : List ℕ) : Type 0 where
   pub rest : s.buffer ≡ (cut text).rest
   pub not_spent : s.domains.spent ≡ false
-  pub known : StandsFor s.domains.domains (known_after [] (gives text).messages)
+  pub has_limit : s.limit ≡ limit
+  pub known : StandsFor s.domains.domains (known_after [] (given_within limit text).messages)
 
--- a session stands for a text
-pub record StandsForText (s : State) (text : List ℕ) : Type 0 where
-  pub fault : s.fault ≡ fault_at (stop_of text)
-  pub tells : Tells s.counts (gives text).messages (length (records_of text))
-  pub goes_on : IsOpen (stop_of text) → GoesOnFrom s text
+-- a session whose templates may count so much, or anything, stands for a text
+pub record StandsForText (limit : Option ℕ) (s : State) (text : List ℕ) : Type 0 where
+  pub fault : s.fault ≡ fault_at (stop_within limit text)
+  pub tells : Tells s.counts (given_within limit text).messages (length (records_within limit text))
+  pub goes_on : IsOpen (stop_within limit text) → GoesOnFrom limit s text
 
 module _ {K : Type 0} (view : SinkView K) where
   -- the sink took the records by which those of some messages exceed those of the old ones, and that is reported
@@ -72,11 +74,11 @@ module _ {K : Type 0} (view : SinkView K) where
     pub tells : told whole (length (records_in whole))
 
   -- the sink took the records by which the longer text's exceed the shorter's, and the session stands for the longer
-  pub record PutsAll (text piece : List ℕ) (before after : K) (s : State) : Type 0 where
+  pub record PutsAll (limit : Option ℕ) (text piece : List ℕ) (before after : K) (s : State) : Type 0 where
     pub put : List DataRecord
     pub takes : Takes view before put after
-    pub records : records_of (text ++ piece) ≡ records_of text ++ put
-    pub stands : StandsForText s (text ++ piece)
+    pub records : records_within limit (text ++ piece) ≡ records_within limit text ++ put
+    pub stands : StandsForText limit s (text ++ piece)
 
   -- memory ran out after some messages, the old ones among them
   pub record RunsOut (old all : List Message) (before after : K) (told : List Message → ℕ → Type 0) : Type 0 where
@@ -104,18 +106,18 @@ module _ {K : Type 0} (view : SinkView K) where
     pub tells : told whole (length (records_in whole) + length first)
 
   -- what feeding a piece does to a session that stands for a text, by its answer
-  abbrev pub Feeds : Result (Unit {0}) SessionFault → List ℕ → List ℕ → K → K → State → Type 0
-  Feeds (Ok x) text piece before after s = IsOpen (stop_of (text ++ piece)) × PutsAll text piece before after s
-  Feeds (Err (faults.Message OutOfMemory)) text piece before after s = RunsOut (gives text).messages (gives (text ++ piece)).messages before after (Tells s.counts)
-  Feeds (Err (faults.Message e)) text piece before after s = (stop_of (text ++ piece) ≡ Fault e) × PutsAll text piece before after s
-  Feeds (Err faults.SinkClosed) text piece before after s = IsRefused (gives text).messages (gives (text ++ piece)).messages before after (Tells s.counts)
-  Feeds (Err faults.Truncated) text piece before after s = ⊥
-  Feeds (Err faults.ReadFailed) text piece before after s = ⊥
-  Feeds (Err faults.TooManyReads) text piece before after s = ⊥
+  abbrev pub Feeds : Option ℕ → Result (Unit {0}) SessionFault → List ℕ → List ℕ → K → K → State → Type 0
+  Feeds limit (Ok x) text piece before after s = IsOpen (stop_within limit (text ++ piece)) × PutsAll limit text piece before after s
+  Feeds limit (Err (faults.Message OutOfMemory)) text piece before after s = RunsOut (given_within limit text).messages (given_within limit (text ++ piece)).messages before after (Tells s.counts)
+  Feeds limit (Err (faults.Message e)) text piece before after s = (stop_within limit (text ++ piece) ≡ Fault e) × PutsAll limit text piece before after s
+  Feeds limit (Err faults.SinkClosed) text piece before after s = IsRefused (given_within limit text).messages (given_within limit (text ++ piece)).messages before after (Tells s.counts)
+  Feeds limit (Err faults.Truncated) text piece before after s = ⊥
+  Feeds limit (Err faults.ReadFailed) text piece before after s = ⊥
+  Feeds limit (Err faults.TooManyReads) text piece before after s = ⊥
 
   -- after a text a piece was fed without a fault, and then one more, with this answer
-  pub record FeedsInTurn (text piece more : List ℕ) (answer : Result (Unit {0}) SessionFault) (before after : K) (s : State) : Type 0 where
+  pub record FeedsInTurn (limit : Option ℕ) (text piece more : List ℕ) (answer : Result (Unit {0}) SessionFault) (before after : K) (s : State) : Type 0 where
     pub middle : K
     pub between : State
-    pub piece_fed : Feeds (Ok tt) text piece before middle between
-    pub more_fed : Feeds answer (text ++ piece) more middle after s
+    pub piece_fed : Feeds limit (Ok tt) text piece before middle between
+    pub more_fed : Feeds limit answer (text ++ piece) more middle after s

@@ -1,21 +1,25 @@
 -- What the messages of a session give (RFC 7011, sections 3.1 and 8).
 use Rattle.std.specs.Prelude.{◌≡◌, ℕ, List, [], ◌∷◌, ◌++◌, Option, Some, None, Ok, Err}
 use Rattle.std.specs.List.{flat_map}
-use Rattle.ipfix_message.specs.Domains.{History, Message, message_gives}
+use Rattle.ipfix_message.specs.Domains.{History, Message}
+use Rattle.ipfix_message.specs.TemplateLimits.{message_within}
 use Rattle.ipfix_message.specs.declared.fault.MessageFault.{MessageFault}
 use Rattle.ipfix_message.specs.declared.record.DataRecord.{DataRecord}
 use Rattle.ipfix_session.specs.declared.stop.Stop.{Stop}
 use Rattle.ipfix_session.specs.declared.stop.Stop.TheVariants.{Clean, Short, Fault}
 use Rattle.ipfix_session.specs.MessageStream.{cut, rest_stop}
 
--- messages in turn, each with the domains and events of those before it: what they give, up to the
--- first that has a fault, and that fault
-unfoldable pub messages_give : History → List (List ℕ) → List Message × Option MessageFault
-messages_give ds [] = ([], None)
-messages_give ds (m ∷ ms) = elim (message_gives ds m) [
+-- messages in turn, each with the domains and events of those before it, in a session whose templates may count so much, or
+-- anything: what they give, up to the first that has a fault, and that fault
+unfoldable pub messages_within : Option ℕ → History → List (List ℕ) → List Message × Option MessageFault
+messages_within limit ds [] = ([], None)
+messages_within limit ds (m ∷ ms) = elim (message_within limit ds m) [
   | Err e ↦ ([], Some e)
-  | Ok x ↦ let more = messages_give x.domains ms in (x ∷ more.0, more.1)
+  | Ok x ↦ let more = messages_within limit x.domains ms in (x ∷ more.0, more.1)
 ]
+
+abbrev pub messages_give : History → List (List ℕ) → List Message × Option MessageFault
+messages_give ds ms = messages_within None ds ms
 
 -- what a text gives: its messages before the first with a fault, and where it stops
 pub record Given : Type 0 where
@@ -27,15 +31,21 @@ abbrev pub stop_after : Option MessageFault → Stop → Stop
 stop_after None rest = rest
 stop_after (Some e) rest = Fault e
 
--- what a text gives after the domains of a session
-unfoldable pub gives_after : History → List ℕ → Given
-gives_after ds text =
-    let read = messages_give ds (cut text).items in
+-- what a text gives after the domains of a session whose templates may count so much, or anything
+unfoldable pub gives_within : Option ℕ → History → List ℕ → Given
+gives_within limit ds text =
+    let read = messages_within limit ds (cut text).items in
     record { messages = read.0; stop = stop_after read.1 (rest_stop (cut text).rest) }
 
+abbrev pub gives_after : History → List ℕ → Given
+gives_after ds text = gives_within None ds text
+
 -- what the whole text of a session gives
+abbrev pub given_within : Option ℕ → List ℕ → Given
+given_within limit text = gives_within limit [] text
+
 abbrev pub gives : List ℕ → Given
-gives text = gives_after [] text
+gives text = given_within None text
 
 -- ---- a session that goes on
 
@@ -70,11 +80,19 @@ octets_of ms = flat_map (λ m. m) ms
 abbrev pub records_in : List Message → List DataRecord
 records_in ms = flat_map (λ m. m.decoding.records) ms
 
+-- those of a text, whose templates may count so much, or anything
+abbrev pub records_within : Option ℕ → List ℕ → List DataRecord
+records_within limit text = records_in (given_within limit text).messages
+
 abbrev pub records_of : List ℕ → List DataRecord
-records_of text = records_in (gives text).messages
+records_of text = records_within None text
+
+-- and where it stops
+abbrev pub stop_within : Option ℕ → List ℕ → Stop
+stop_within limit text = (given_within limit text).stop
 
 abbrev pub stop_of : List ℕ → Stop
-stop_of text = (gives text).stop
+stop_of text = stop_within None text
 
 -- a text is whole messages without a fault, and these are all their records (RFC 7011, sections 3 and 3.4.3)
 abbrev pub AreAllOf : List ℕ → List DataRecord → Type 0

@@ -1,6 +1,7 @@
 -- What the messages of a session leave: what was counted of them, and what a sink took of their records.
-use Rattle.std.specs.Prelude.{◌≡◌, ◌+◌, false, List, [], ◌∷◌, ◌++◌, length}
+use Rattle.std.specs.Prelude.{◌≡◌, ℕ, ◌+◌, false, List, [], ◌∷◌, ◌++◌, length, Option}
 use Rattle.ipfix_message.specs.Domains.{History, Message, StandsFor}
+use Rattle.ipfix_message.specs.TemplateLimits.{IsWithin}
 use Rattle.ipfix_message.specs.declared.record.DataRecord.{DataRecord}
 use Rattle.ipfix_session.specs.declared.intake.Intake.{Intake}
 use Rattle.ipfix_session.specs.declared.tally.Tally.{Tally}
@@ -14,19 +15,22 @@ use Rattle.ipfix_session.specs.MessageSinks.{MessageSinkView}
 abbrev pub counts_of : Tally → Counts
 counts_of t = record { messages = t.messages; octets = t.octets; delivered = t.delivered; passed_over = t.passed_over; accounts = t.ledger.accounts.entries }
 
--- a session's messages before, and the sink after them
+-- a session's messages before, the limit of its templates, and the sink after these messages
 pub record Earlier (K : Type 0) : Type 0 where
   pub messages : List Message
+  pub limit : Option ℕ
   pub sink : K
 
 -- these messages, and those that were given since
 abbrev pub all_of : {K : Type 0} → Earlier K → List Message → List Message
 all_of before given = before.messages ++ given
 
--- these domains and events are known, and no message was refused
-pub record KnowsDomains (intake : Intake) (ds : History) : Type 0 where
+-- these domains and events are known, no message was refused, and the templates are within the limit
+pub record KnowsDomains (intake : Intake) (limit : Option ℕ) (ds : History) : Type 0 where
   pub not_spent : intake.domains.spent ≡ false
   pub stands : StandsFor intake.domains.domains ds
+  pub has_limit : intake.limit ≡ limit
+  pub within : IsWithin limit ds
 
 module _ {K : Type 0} (view : SinkView K) where
   -- the records of messages were put and counted
@@ -51,7 +55,8 @@ module _ {K : Type 0} (view : SinkView K) where
   record_intake = record {
     Before = Earlier K;
     known = λ before. known_after [] before.messages;
+    limit = λ before. before.limit;
     took = λ before intake after messages given. PutsGiven before (counts_of intake.tally) after given;
-    is_ready = λ before intake given. KnowsDomains intake (known_after (known_after [] before.messages) given);
+    is_ready = λ before intake given. KnowsDomains intake before.limit (known_after (known_after [] before.messages) given);
     gave_part = λ before intake after given next. GivesBackOf before (counts_of intake.tally) after given next;
   }

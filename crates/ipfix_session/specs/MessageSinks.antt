@@ -1,6 +1,7 @@
 -- What contracts see of what takes the messages of a session, and how far it has come in a text.
-use Rattle.std.specs.Prelude.{◌≡◌, List, [], ◌∷◌, ◌++◌, ℕ, Result, Ok, Err}
-use Rattle.ipfix_message.specs.Domains.{History, Message, message_gives}
+use Rattle.std.specs.Prelude.{◌≡◌, List, [], ◌∷◌, ◌++◌, ℕ, Option, Result, Ok, Err}
+use Rattle.ipfix_message.specs.Domains.{History, Message}
+use Rattle.ipfix_message.specs.TemplateLimits.{message_within}
 use Rattle.ipfix_message.specs.Outcome.{Fails}
 use Rattle.ipfix_message.specs.declared.fault.MessageFault.{MessageFault}
 use Rattle.ipfix_message.specs.declared.fault.MessageFault.TheVariants.{OutOfMemory}
@@ -8,7 +9,7 @@ use Rattle.ipfix_session.specs.declared.stop.Stop.TheVariants.{Fault}
 use Rattle.ipfix_session.specs.declared.fault.SessionFault.{SessionFault}
 use Rattle.ipfix_session.specs.declared.fault.SessionFault.TheVariants as faults
 use Rattle.ipfix_session.specs.MessageStream.{cut}
-use Rattle.ipfix_session.specs.Given.{gives_after, behind, known_after, octets_of, IsPrefix}
+use Rattle.ipfix_session.specs.Given.{gives_within, behind, known_after, octets_of, IsPrefix}
 use Rattle.ipfix_session.specs.Buffers.{IsRest}
 
 pub record MessageSinkView (M T : Type 0) : Type 1 where
@@ -16,6 +17,8 @@ pub record MessageSinkView (M T : Type 0) : Type 1 where
   pub Before : Type 0
   -- the domains and events of the session then
   pub known : Before → History
+  -- what the templates of the session may count, if they have a limit
+  pub limit : Before → Option ℕ
   -- these messages were taken since, and gave this, which was passed on
   pub took : Before → M → T → List (List ℕ) → List Message → Type 0
   -- and the next can be taken
@@ -35,10 +38,10 @@ module _ {M T : Type 0} (view : MessageSinkView M T) (before : view.Before) wher
   -- what became of the next message, by the answer
   abbrev pub TakesOne : Result (Unit {0}) SessionFault → M → T → List (List ℕ) → List Message → List ℕ → Type 0
   TakesOne (Ok x) m to messages given octets =
-      (next : Message) × (message_gives (known_behind given) octets ≡ Ok next) × HasTaken m to (messages ++ octets ∷ []) (given ++ next ∷ [])
-  TakesOne (Err (faults.Message e)) m to messages given octets = view.took before m to messages given × Fails e (message_gives (known_behind given) octets)
+      (next : Message) × (message_within (view.limit before) (known_behind given) octets ≡ Ok next) × HasTaken m to (messages ++ octets ∷ []) (given ++ next ∷ [])
+  TakesOne (Err (faults.Message e)) m to messages given octets = view.took before m to messages given × Fails e (message_within (view.limit before) (known_behind given) octets)
   TakesOne (Err faults.SinkClosed) m to messages given octets =
-      (next : Message) × (message_gives (known_behind given) octets ≡ Ok next) × view.gave_part before m to given next
+      (next : Message) × (message_within (view.limit before) (known_behind given) octets ≡ Ok next) × view.gave_part before m to given next
   TakesOne (Err faults.Truncated) m to messages given octets = ⊥
   TakesOne (Err faults.ReadFailed) m to messages given octets = ⊥
   TakesOne (Err faults.TooManyReads) m to messages given octets = ⊥
@@ -49,7 +52,7 @@ module _ {M T : Type 0} (view : MessageSinkView M T) (before : view.Before) wher
     pub given : List Message
     pub taken : HasTaken m to messages given
     pub octets : text ≡ octets_of messages ++ left
-    pub is : gives_after (view.known before) text ≡ behind given (gives_after (known_behind given) left)
+    pub is : gives_within (view.limit before) (view.known before) text ≡ behind given (gives_within (view.limit before) (known_behind given) left)
     pub rest : (cut text).rest ≡ (cut left).rest
 
   -- and no message begins there, but one may when the text goes on
@@ -64,19 +67,19 @@ module _ {M T : Type 0} (view : MessageSinkView M T) (before : view.Before) wher
     pub left : List ℕ
     pub took : view.took before m to messages given
     pub octets : text ≡ octets_of messages ++ left
-    pub next : IsPrefix given (gives_after (view.known before) text).messages
+    pub next : IsPrefix given (gives_within (view.limit before) (view.known before) text).messages
 
   -- all before the first that has this fault
   pub record TookUpTo (fault : MessageFault) (text : List ℕ) (m : M) (to : T) : Type 0 where
     pub first : TookFirst text m to
-    pub all : gives_after (view.known before) text ≡ record { messages = first.given; stop = Fault fault }
+    pub all : gives_within (view.limit before) (view.known before) text ≡ record { messages = first.given; stop = Fault fault }
 
   -- and then only a part of one was passed on
   pub record TookPart (text : List ℕ) (m : M) (to : T) : Type 0 where
     pub given : List Message
     pub next : Message
     pub more : List Message
-    pub are : (gives_after (view.known before) text).messages ≡ given ++ next ∷ more
+    pub are : (gives_within (view.limit before) (view.known before) text).messages ≡ given ++ next ∷ more
     pub part : view.gave_part before m to given next
 
   -- why no more of them can be taken

@@ -1,14 +1,14 @@
 -- Where a message begins in its session, and the full report, which says where the session stopped.
-use Rattle.std.specs.Prelude.{◌≡◌, ℕ, ◌+◌, false, List, [], length, map, take, sum_by, is_some, IfSome}
+use Rattle.std.specs.Prelude.{◌≡◌, ℕ, ◌+◌, false, List, [], length, map, take, sum_by, is_some, IfSome, Option, None}
 use Rattle.ipfix_message.specs.Domains.{DomainsView, Message, StandsFor}
 use Rattle.ipfix_session.specs.declared.report.MessagePlace.{MessagePlace}
 use Rattle.ipfix_session.specs.declared.report.FullReport.{FullReport}
 use Rattle.ipfix_session.specs.MessageStream.{cut}
-use Rattle.ipfix_session.specs.Given.{gives, known_after, records_of}
+use Rattle.ipfix_session.specs.Given.{given_within, known_after, records_within}
 use Rattle.ipfix_session.specs.Ledger.{capped, domains_of}
 use Rattle.ipfix_session.specs.Balances.{domain_balance}
 use Rattle.ipfix_session.specs.Reports.{Reports}
-use Rattle.ipfix_session.specs.Faults.{end_of, ends_open}
+use Rattle.ipfix_session.specs.Faults.{end_within, ends_open}
 
 -- a message's own length (RFC 7011, section 3.1)
 abbrev pub length_of : Message → ℕ
@@ -23,12 +23,18 @@ abbrev pub place_after : List Message → MessagePlace
 place_after ms = place_behind (length ms) (sum_by length_of ms)
 
 -- the messages of a text, as octets, that stand before the first with a fault
+abbrev pub messages_up_to : Option ℕ → List ℕ → List (List ℕ)
+messages_up_to limit text = take (length (given_within limit text).messages) (cut text).items
+
 abbrev pub messages_before_fault : List ℕ → List (List ℕ)
-messages_before_fault text = take (length (gives text).messages) (cut text).items
+messages_before_fault text = messages_up_to None text
 
 -- where the first message of a text with a fault begins; without one, where its whole messages end
+abbrev pub place_within : Option ℕ → List ℕ → MessagePlace
+place_within limit text = let ms = messages_up_to limit text in place_behind (length ms) (sum_by length ms)
+
 abbrev pub place_of_fault : List ℕ → MessagePlace
-place_of_fault text = let ms = messages_before_fault text in place_behind (length ms) (sum_by length ms)
+place_of_fault text = place_within None text
 
 -- the numbers of a full report are of these messages, and of that many records that were taken
 pub record CountsInFull (r : FullReport) (ms : List Message) (delivered : ℕ) : Type 0 where
@@ -48,8 +54,11 @@ pub record ReportsInFull (r : FullReport) (ms : List Message) (delivered : ℕ) 
   pub has_domains : is_some r.domains ≡ ends_open r.report.fault
   pub in_force : IfSome r.domains (AreDomainsOf ms)
 
--- the full report of a whole text
-pub record IsFullReport (r : FullReport) (text : List ℕ) : Type 0 where
-  pub reports : ReportsInFull r (gives text).messages (length (records_of text))
-  pub fault : r.report.fault ≡ end_of text
-  pub stopped_at : r.stopped_at ≡ place_of_fault text
+-- the full report of a whole text, whose templates may count so much, or anything
+pub record IsFullReportWithin (limit : Option ℕ) (r : FullReport) (text : List ℕ) : Type 0 where
+  pub reports : ReportsInFull r (given_within limit text).messages (length (records_within limit text))
+  pub fault : r.report.fault ≡ end_within limit text
+  pub stopped_at : r.stopped_at ≡ place_within limit text
+
+abbrev pub IsFullReport : FullReport → List ℕ → Type 0
+IsFullReport r text = IsFullReportWithin None r text

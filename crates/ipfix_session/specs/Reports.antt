@@ -5,9 +5,9 @@ use Rattle.ipfix_message.specs.declared.passed_over.PassedOver.{PassedOver}
 use Rattle.ipfix_session.specs.declared.report.SessionReport.{SessionReport}
 use Rattle.ipfix_session.specs.declared.fault.SessionFault.{SessionFault}
 use Rattle.ipfix_session.specs.declared.fault.SessionFault.TheVariants.{Truncated}
-use Rattle.ipfix_session.specs.Given.{gives, records_of}
+use Rattle.ipfix_session.specs.Given.{given_within, records_within}
 use Rattle.ipfix_session.specs.Ledger.{capped, domains_of, domain_report}
-use Rattle.ipfix_session.specs.Faults.{end_of}
+use Rattle.ipfix_session.specs.Faults.{end_within}
 
 -- what messages passed over (RFC 7011, sections 3.3.2, 8.1 and 9)
 abbrev pub passed_over_in : List Message → PassedOver
@@ -28,11 +28,14 @@ pub record Reports (r : SessionReport) (ms : List Message) (delivered : ℕ) : T
   pub passed_over : passed_over_reported r ≡ passed_over_in ms
   pub domains : r.domains.items ≡ map (domain_report ms) (domains_of ms)
 
--- the report of a whole text: its messages before the first with a fault, all their records, and the fault that it
--- ends with
-pub record IsReport (r : SessionReport) (text : List ℕ) : Type 0 where
-  pub reports : Reports r (gives text).messages (length (records_of text))
-  pub fault : r.fault ≡ end_of text
+-- the report of a whole text, whose templates may count so much, or anything: its messages before the first with a fault,
+-- all their records, and the fault that it ends with
+pub record IsReportWithin (limit : Option ℕ) (r : SessionReport) (text : List ℕ) : Type 0 where
+  pub reports : Reports r (given_within limit text).messages (length (records_within limit text))
+  pub fault : r.fault ≡ end_within limit text
+
+abbrev pub IsReport : SessionReport → List ℕ → Type 0
+IsReport r text = IsReportWithin None r text
 
 -- the fault of a session at its end: the one that it has, or that octets of a message are left
 abbrev pub ended_by : Option SessionFault → List ℕ → Option SessionFault

@@ -7,6 +7,7 @@ ghost use Rattle.ipfix_session.specs.declared.driver.TheConstants.{READ_SIZE};
 use crate::fault::SessionFault;
 use crate::report::{FullReport, SessionReport};
 use crate::session::Session;
+use crate::session_limits::SessionLimits;
 use crate::sink::Sink;
 use crate::source::{ReadError, Source};
 use ipfix_message::MessageFault;
@@ -34,24 +35,31 @@ pub fn drive<S: Source, K: Sink>(
 ) -> SessionReport
     ensures { Drives S.seen K.seen limit source.old source.new sink.old sink.new result }
 {
-    drive_in_full(alloc, source, sink, limit).report
+    let limits = SessionLimits {
+        reads: limit,
+        templates: None,
+    };
+    drive_in_full(alloc, source, sink, limits).report
 }
 
-/// Does what [`drive`] does, and reports in full: with the balances of the domains, and the place of the
-/// message that ended the session.
+/// Does what [`drive`] does within limits, and reports in full: with the balances of the domains, and the place of
+/// the message that ended the session. A message that leaves more templates in force than the limit allows ends it
+/// with `TooManyFields`.
 pub fn drive_in_full<S: Source, K: Sink>(
     alloc: Global,
     source: &mut S,
     sink: &mut K,
-    limit: u64,
+    limits: SessionLimits,
 ) -> FullReport
-    ensures { DrivesInFull S.seen K.seen limit source.old source.new sink.old sink.new
+    ensures { DrivesInFull S.seen K.seen limits source.old source.new sink.old sink.new
         result }
 {
     match vec![in alloc; 0; READ_SIZE] {
-        Ok(mut buffer) => drive_through(alloc, source, sink, limit, &mut buffer),
+        Ok(mut buffer) => drive_through(alloc, source, sink, limits, &mut buffer),
         Err(_) => {
-            Session::new(alloc).finish_after(SessionFault::Message(MessageFault::OutOfMemory))
+            Session::with_limit(alloc, limits.templates).finish_after(SessionFault::Message(
+                MessageFault::OutOfMemory,
+            ))
         }
     }
 }
@@ -61,15 +69,15 @@ fn drive_through<S: Source, K: Sink>(
     alloc: Global,
     source: &mut S,
     sink: &mut K,
-    limit: u64,
+    limits: SessionLimits,
     buffer: &mut [u8],
 ) -> FullReport
     requires { 0 < length buffer.old }
     ensures { length buffer.old ≤ READ_SIZE
-        → DrivesInFull S.seen K.seen limit source.old source.new sink.old sink.new result }
+        → DrivesInFull S.seen K.seen limits source.old source.new sink.old sink.new result }
 {
-    let mut session = Session::new(alloc);
-    for _ in 0..limit {
+    let mut session = Session::with_limit(alloc, limits.templates);
+    for _ in 0..limits.reads {
         match source.read(buffer) {
             Ok(0) => return session.finish_in_full(),
             Ok(count) => {

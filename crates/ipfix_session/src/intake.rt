@@ -21,6 +21,8 @@ use std::alloc::Global;
 pub struct Intake {
     pub domains: Domains,
     pub tally: Tally,
+    /// What the templates may count, if they have a limit.
+    pub limit: Option<u64>,
 }
 
 // Puts records one by one, up to the first that the sink gives back.
@@ -41,14 +43,16 @@ fn put_all<K: Sink>(
 }
 
 impl Intake {
-    pub fn new(alloc: Global) -> Self
+    pub fn new(alloc: Global, limit: Option<u64>) -> Self
         ensures counts { Tells (counts_of result.tally) [] 0 }
         ensures fresh { result.domains.spent ≡ false }
         ensures empty { StandsFor result.domains.domains [] }
+        ensures limit { result.limit ≡ limit }
     {
         Intake {
             domains: Domains::new(alloc),
             tally: Tally::new(alloc),
+            limit,
         }
     }
 
@@ -59,7 +63,11 @@ impl Intake {
         ensures domains { result.domains
             ≡ (if is_end_open fault then Some self.domains else None) }
     {
-        let Intake { domains, tally } = self;
+        let Intake {
+            domains,
+            tally,
+            limit: _,
+        } = self;
         let in_force = if ends_open(fault) {
             Some(domains)
         } else {
@@ -82,7 +90,9 @@ impl<K: Sink> MessageSink<K> for Intake {
         message: &[u8],
         to: &mut K,
     ) -> Result<(), SessionFault> {
-        let decoded = self.domains.decode_with_header(alloc, header, message)?;
+        let decoded = self
+            .domains
+            .decode_within(alloc, header, message, self.limit)?;
         self.tally.ledger.make_room(1)?;
         let passed_over = decoded.passed_over();
         let count = decoded.records.len() as u64;

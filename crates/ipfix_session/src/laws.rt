@@ -1,18 +1,19 @@
 //! Laws of the definitions. Each is a function that does nothing, and its contract is the theorem: a
 //! call brings that to the proof of its caller.
 
-ghost use Rattle.std.specs.Prelude.{◌≡◌, ◌≢◌, ◌++◌, [], ℕ, List, length, drop, sum_by, take, Some, None, Result, Err};
+ghost use Rattle.std.specs.Prelude.{◌≡◌, ◌≢◌, ◌≤◌, ◌++◌, [], ℕ, List, length, drop, sum_by, take, Option, Some, None, Result, Err};
 ghost use Rattle.ipfix_wire.specs.Numbers.{IsOctets};
 ghost use Rattle.ipfix_wire.specs.InTurn.{IsLongest};
 ghost use Rattle.ipfix_message.specs.declared.fault.MessageFault.{MessageFault};
 ghost use Rattle.ipfix_message.specs.Domains.{Message};
+ghost use Rattle.ipfix_message.specs.TemplateLimits.{fields_in};
 ghost use Rattle.ipfix_message.specs.declared.record.DataRecord.{DataRecord};
 ghost use Rattle.ipfix_session.specs.MessageStream.{SpellsMessage, cut};
 ghost use Rattle.ipfix_session.specs.WholeMessages.{whole_octets};
 ghost use Rattle.ipfix_session.specs.Ledger.{messages_of};
 ghost use Rattle.ipfix_session.specs.Balances.{accounted_for, AdvanceBy, KeepsCount};
 ghost use Rattle.ipfix_session.specs.Places.{messages_before_fault, place_after, place_of_fault};
-ghost use Rattle.ipfix_session.specs.Given.{gives, gives_after, behind, known_after, octets_of, records_of, stop_of, AreAllOf, IsOpen, IsPrefix};
+ghost use Rattle.ipfix_session.specs.Given.{gives, gives_after, given_within, behind, known_after, octets_of, records_of, stop_of, AreAllOf, IsOpen, IsPrefix};
 ghost use Rattle.ipfix_session.specs.Feeding.{State, Feeds, FeedsInTurn};
 ghost use Rattle.ipfix_session.specs.Drives.{Drives, IsGiven, TakesGiven};
 ghost use Rattle.ipfix_session.specs.declared.stop.Stop.TheVariants.{Fault};
@@ -58,12 +59,13 @@ pub fn goes_on()
 /// It doesn't matter how a text is cut into pieces: two that are fed in turn do what they do as one, and
 /// those after a fault change nothing.
 pub fn pieces_are_one<K: Sink>()
-    ensures both { (text piece more : List ℕ) (r : Result (Unit {0}) SessionFault)
-        (before after : K) (last : State) → FeedsInTurn K.seen text piece more r before after last
-        → Feeds K.seen r text (piece ++ more) before after last }
-    ensures fault { (text piece more : List ℕ) (last : State) (before after : K) (f : SessionFault)
-        → Feeds K.seen (Err f) text piece before after last
-        → Feeds K.seen (Err f) text (piece ++ more) before after last }
+    ensures both { (limit : Option ℕ) (text piece more : List ℕ) (r : Result (Unit {0}) SessionFault)
+        (before after : K) (last : State)
+        → FeedsInTurn K.seen limit text piece more r before after last
+        → Feeds K.seen limit r text (piece ++ more) before after last }
+    ensures fault { (limit : Option ℕ) (text piece more : List ℕ) (last : State) (before after : K)
+        (f : SessionFault) → Feeds K.seen limit (Err f) text piece before after last
+        → Feeds K.seen limit (Err f) text (piece ++ more) before after last }
 {}
 
 /// What [`drive`](crate::drive) says of a session whose sink gave no record back: the sink took the
@@ -109,6 +111,15 @@ pub fn place_is_of_fault()
     ensures begins { (text : List ℕ) → gives_after (known_after [] (gives text).messages)
         (drop (sum_by length (messages_before_fault text)) text)
         ≡ record { messages = []; stop = stop_of text } }
+{}
+
+/// The messages that count of a text leave no more templates in force than the limit allows.
+pub fn templates_are_within()
+    ensures within { (limit : ℕ) (text : List ℕ)
+        → fields_in (known_after [] (given_within (Some limit) text).messages) ≤ limit }
+    // The messages that count are the first of those that the text gives without a limit.
+    ensures first { (limit : Option ℕ) (text : List ℕ)
+        → IsPrefix (given_within limit text).messages (gives text).messages }
 {}
 
 /// A session makes at most 2^40 reads, and asks for 65,536 octets with each of them. A message has at most

@@ -1,13 +1,13 @@
 //! A transport session that is fed its octets in pieces (RFC 7011, section 3.1).
 
-ghost use Rattle.std.specs.Prelude.{◌≡◌, ◌≤◌, [], ℕ, length, List, Some, None, Err, IfErr, OnOk, false};
+ghost use Rattle.std.specs.Prelude.{◌≡◌, ◌≤◌, [], ℕ, length, List, Option, Some, None, Err, IfErr, OnOk, false};
 ghost use Rattle.std.specs.Option.{ForSome};
 ghost use Rattle.ipfix_session.specs.declared.message_stream.TheConstants.{LONGEST_MESSAGE};
 ghost use Rattle.ipfix_session.specs.Feeding.{AreToldAs, Feeds, StandsForText};
 ghost use Rattle.ipfix_session.specs.Faults.{ends_open};
-ghost use Rattle.ipfix_session.specs.Given.{gives, records_of};
-ghost use Rattle.ipfix_session.specs.Reports.{IsReport, Reports, ended_by};
-ghost use Rattle.ipfix_session.specs.Places.{CountsInFull, IsFullReport, ReportsInFull};
+ghost use Rattle.ipfix_session.specs.Given.{given_within, records_within};
+ghost use Rattle.ipfix_session.specs.Reports.{IsReportWithin, Reports, ended_by};
+ghost use Rattle.ipfix_session.specs.Places.{CountsInFull, IsFullReportWithin, ReportsInFull};
 
 use crate::buffer::read_on;
 use crate::fault::SessionFault;
@@ -37,6 +37,7 @@ impl Model for Session {
     ghost view = { λ s. record {
       counts = counts_of s.intake.tally;
       domains = s.intake.domains;
+      limit = s.intake.limit;
       buffer = s.buffer.items;
       fault = s.fault;
     } };
@@ -45,12 +46,20 @@ impl Model for Session {
 }
 
 impl Session {
-    /// A session of which nothing has come yet.
+    /// A session of which nothing has come yet. Its templates may count anything.
     pub fn new(alloc: Global) -> Self
-        ensures { StandsForText result [] }
+        ensures { StandsForText None result [] }
+    {
+        Session::with_limit(alloc, None)
+    }
+
+    /// A session of which nothing has come yet, and whose templates may count so much, if this is a limit
+    /// ([`SessionLimits::templates`](crate::SessionLimits)).
+    pub fn with_limit(alloc: Global, limit: Option<u64>) -> Self
+        ensures { StandsForText limit result [] }
     {
         Session {
-            intake: Intake::new(alloc),
+            intake: Intake::new(alloc, limit),
             buffer: Vec::new(alloc),
             fault: None,
         }
@@ -58,7 +67,8 @@ impl Session {
 
     /// Takes the next octets: the records of each message that is whole by now go to the sink, in order.
     ///
-    /// The fault is that of the first message that is refused, which gives none of its records; or
+    /// The fault is that of the first message that is refused, also since more templates would be in force after it
+    /// than the limit allows (`TooManyFields`), and which gives none of its records; or
     /// `SinkClosed` if the sink gives a record back. `OutOfMemory` may come in place of any other, after
     /// whole messages. After a fault each further call answers it again and puts nothing.
     pub fn feed<K: Sink>(
@@ -67,8 +77,8 @@ impl Session {
         piece: &[u8],
         sink: &mut K,
     ) -> Result<(), SessionFault>
-        ensures feeds { (text : List ℕ) → StandsForText self.old text
-            → Feeds K.seen result text piece.now sink.old sink.new self.new }
+        ensures feeds { (limit : Option ℕ) (text : List ℕ) → StandsForText limit self.old text
+            → Feeds K.seen limit result text piece.now sink.old sink.new self.new }
         ensures ok { OnOk result (self.new.fault ≡ None) }
         ensures err { IfErr result (λ fault. self.new.fault ≡ Some fault) }
         ensures buffer { length self.new.buffer ≤ LONGEST_MESSAGE }
@@ -86,7 +96,8 @@ impl Session {
     /// What the session gave, and why it ended early: its fault, or `Truncated` if its octets end
     /// within a message. This takes no memory.
     pub fn finish(self) -> SessionReport
-        ensures text { (text : List ℕ) → StandsForText self text → IsReport result text }
+        ensures text { (limit : Option ℕ) (text : List ℕ) → StandsForText limit self text
+            → IsReportWithin limit result text }
         ensures so_far { AreToldAs self.counts (Reports result) }
         ensures fault { ForSome self.fault (λ fault. result.fault ≡ Some fault) }
     {
@@ -96,7 +107,8 @@ impl Session {
     /// The same report, with the balances of the domains, the place of the message that ended the session,
     /// and the templates that are in force at its end. This takes no memory.
     pub fn finish_in_full(self) -> FullReport
-        ensures text { (text : List ℕ) → StandsForText self text → IsFullReport result text }
+        ensures text { (limit : Option ℕ) (text : List ℕ) → StandsForText limit self text
+            → IsFullReportWithin limit result text }
         ensures so_far { AreToldAs self.counts (CountsInFull result) }
         // After a fault with which it could not have gone on.
         ensures refused { ends_open self.fault ≡ false
@@ -114,8 +126,9 @@ impl Session {
     // What the session gave, which this fault ended: of all its text, if it has none itself, and of what was
     // counted, if this is one with which it could not have gone on.
     pub(crate) fn finish_after(self, fault: SessionFault) -> FullReport
-        ensures text { (text : List ℕ) → StandsForText self text → self.fault ≡ None
-            → ReportsInFull result (gives text).messages (length (records_of text)) }
+        ensures text { (limit : Option ℕ) (text : List ℕ) → StandsForText limit self text
+            → self.fault ≡ None → ReportsInFull result (given_within limit text).messages
+            (length (records_within limit text)) }
         ensures so_far { ends_open (Some fault) ≡ false
             → AreToldAs self.counts (ReportsInFull result) }
         ensures fault { result.report.fault ≡ Some fault }

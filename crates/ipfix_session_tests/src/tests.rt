@@ -9,6 +9,7 @@ mod limits;
 mod memory;
 mod narrow;
 mod runs;
+mod template_limits;
 mod texts;
 
 use ipfix_message::MessageFault;
@@ -58,6 +59,11 @@ fn sources_give_their_octets(rt: HostRuntime) -> Result<(), Fail> {
 fn faults_have_numbers_and_names(rt: HostRuntime) -> Result<(), Fail> {
     for (fault, number, name) in [
         (SessionFault::from(MessageFault::RecordCut), 10, "RecordCut"),
+        (
+            SessionFault::from(MessageFault::TooManyFields),
+            21,
+            "TooManyFields",
+        ),
         (SessionFault::Truncated, 14, "Truncated"),
         (SessionFault::ReadFailed, 15, "ReadFailed"),
         (SessionFault::TooManyReads, 17, "TooManyReads"),

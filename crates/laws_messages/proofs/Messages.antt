@@ -102,6 +102,7 @@ only_memory faults.TemplateChanged x fails = absurd (not_both x _ fails)
 only_memory faults.RecordCut x fails = absurd (not_both x _ fails)
 only_memory faults.TooManyDomains x fails = absurd (not_both x _ fails)
 only_memory faults.Spent x fails = absurd (not_both x _ fails)
+only_memory faults.TooManyFields x fails = absurd (not_both x _ fails)
 
 answers : (x : Message) (r : Result Decoded MessageFault) (kept : Kept) → Decodes r kept (Ok x) → Answers x r kept
 answers x (Ok decoded) kept decodes =

@@ -3,7 +3,7 @@
 use ipfix_message::PassedOver;
 use ipfix_session::{
     DomainBalance, DomainReport, FromReader, FullReport, MessagePlace, READ_LIMIT, Session,
-    VecSink, drive, drive_in_full,
+    SessionLimits, VecSink, drive, drive_in_full,
 };
 use std::alloc::Global;
 use std::test::*;
@@ -23,7 +23,11 @@ fn full_report(alloc: Global, parts: &[&[u8]]) -> Result<FullReport, Fail> {
     let text = text_of(alloc, parts)?;
     let mut sink = VecSink::new(alloc);
     let mut source = FromReader::new(text.as_slice());
-    Ok(drive_in_full(alloc, &mut source, &mut sink, READ_LIMIT))
+    let limits = SessionLimits {
+        reads: READ_LIMIT,
+        templates: None,
+    };
+    Ok(drive_in_full(alloc, &mut source, &mut sink, limits))
 }
 
 // A balance, by its domain, its skipped sets, unknown sets and ignored withdrawals, and its gaps.

@@ -2,7 +2,8 @@
 
 use super::narrow::Narrow;
 use ipfix_session::{
-    FromReader, FullReport, READ_LIMIT, ScriptSource, Session, SessionFault, VecSink, drive_in_full,
+    FromReader, FullReport, READ_LIMIT, ScriptSource, Session, SessionFault, SessionLimits,
+    VecSink, drive_in_full,
 };
 use std::alloc::Global;
 use std::test::*;
@@ -14,6 +15,14 @@ const TEMPLATE_257: [u8; 12] = [0, 2, 0, 12, 1, 1, 0, 1, 0, 2, 0, 4];
 
 // A template set of 8 octets that withdraws template 256.
 const WITHDRAWAL: [u8; 8] = [0, 2, 0, 8, 1, 0, 0, 0];
+
+// So many reads, and no limit of templates.
+fn reads(limit: u64) -> SessionLimits {
+    SessionLimits {
+        reads: limit,
+        templates: None,
+    }
+}
 
 // How many fields the template has that is told for an id of a domain, if one is.
 fn fields_told(full: &FullReport, domain: u32, id: u16) -> Option<usize> {
@@ -39,7 +48,7 @@ fn tells_the_templates_in_force_at_the_end(rt: HostRuntime) -> Result<(), Fail> 
     )?;
     let mut source = FromReader::new(text.as_slice());
     let mut sink = VecSink::new(rt.alloc());
-    let full = drive_in_full(rt.alloc(), &mut source, &mut sink, READ_LIMIT);
+    let full = drive_in_full(rt.alloc(), &mut source, &mut sink, reads(READ_LIMIT));
     assert_eq!(rt; full.report.fault, None);
     assert_eq!(rt; fields_told(&full, 1, 256), None);
     assert_eq!(rt; fields_told(&full, 1, 257), Some(1));
@@ -62,7 +71,7 @@ fn tells_domains_by_how_the_session_ended(rt: HostRuntime) -> Result<(), Fail> {
     ] {
         let text = text_of(alloc, &[TWO_AT_0, next])?;
         let mut source = ScriptSource::new(text, 64, None, fail_at);
-        let full = drive_in_full(alloc, &mut source, &mut VecSink::new(alloc), limit);
+        let full = drive_in_full(alloc, &mut source, &mut VecSink::new(alloc), reads(limit));
         assert_eq!(rt; full.report.fault.map(|fault| fault.number()), fault);
         assert_eq!(rt; fields_told(&full, 1, 256), told);
     }
@@ -73,7 +82,7 @@ fn tells_domains_by_how_the_session_ended(rt: HostRuntime) -> Result<(), Fail> {
 fn a_sink_that_takes_no_more_leaves_no_domains(rt: HostRuntime) -> Result<(), Fail> {
     let mut source = FromReader::new(TWO_AT_0);
     let mut sink = Narrow::new(rt.alloc(), 1);
-    let full = drive_in_full(rt.alloc(), &mut source, &mut sink, READ_LIMIT);
+    let full = drive_in_full(rt.alloc(), &mut source, &mut sink, reads(READ_LIMIT));
     assert_eq!(rt; full.report.fault, Some(SessionFault::SinkClosed));
     assert!(rt; full.domains.is_none());
     Ok(())

@@ -2,7 +2,7 @@ use Rattle.std.proofs.Common.{◌≡◌, List, ℕ, sym, subst, rules}
 use Rattle.std.specs.Prelude.{option_map}
 use Rattle.std.specs.Ordering.{nat_cmp}
 use Rattle.std.specs.BTreeMap.{get, keys}
-use Rattle.ipfix_datagrams.specs.Datagrams.{fields_of}
+use Rattle.ipfix_message.specs.TemplateLimits.{fields_of}
 use Rattle.ipfix_datagrams.proofs.Weighed.{Counting, counting_first}
 use Rattle.ipfix_datagrams.proofs.weighing.count_all.Goals as goal
 

@@ -1,7 +1,7 @@
 use Rattle.std.specs.Prelude.{option_map}
 use Rattle.std.specs.BTreeMap.{get}
 use Rattle.std.specs.Ordering.{nat_cmp}
-use Rattle.ipfix_datagrams.specs.Datagrams.{fields_of}
+use Rattle.ipfix_message.specs.TemplateLimits.{fields_of}
 use Rattle.ipfix_datagrams.proofs.Weighed.{Counting}
 use Rattle.ipfix_datagrams.proofs.weighing.count_all.Given as goal
 

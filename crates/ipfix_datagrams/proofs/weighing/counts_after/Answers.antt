@@ -4,7 +4,8 @@ use Rattle.std.specs.Option.{option_or}
 use Rattle.std.specs.BTreeMap.{BTreeMap, get}
 use Rattle.std.specs.Ordering.{nat_cmp}
 use Rattle.ipfix_message.specs.declared.record.Template.{Template}
-use Rattle.ipfix_datagrams.specs.Datagrams.{fields_of, preparation_of, template_in}
+use Rattle.ipfix_message.specs.TemplateLimits.{fields_of}
+use Rattle.ipfix_datagrams.specs.Datagrams.{preparation_of, template_in}
 use Rattle.ipfix_datagrams.proofs.Weighed.{counts_known}
 use Rattle.ipfix_datagrams.proofs.weighing.counts_after.Goals as goal
 

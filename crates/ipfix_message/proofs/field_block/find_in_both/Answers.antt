@@ -1,4 +1,4 @@
-use Rattle.std.proofs.Common.{◌≡◌, None, Some, sym, ap, ◌∙◌}
+use Rattle.std.proofs.Common.{sym, ◌∙◌}
 use Rattle.ipfix_message.specs.SetRecords.{fields_from}
 use Rattle.ipfix_message.proofs.Tails.{octets_of-append, octets_of-missing}
 use Rattle.ipfix_message.proofs.field_block.find_in_both.Goals as goal
