@@ -1,12 +1,12 @@
 -- All records of some sessions, by their texts and by their files.
-use Rattle.std.proofs.Common.{◌≡◌, ℕ, ◌+◌, cond, List, [], ◌∷◌, ◌++◌, sum_by, refl, sym, ap, ap₂, subst, ◌∙◌}
+use Rattle.std.proofs.Common.{◌≡◌, ℕ, ◌+◌, cond, List, [], ◌∷◌, ◌++◌, sum_by, Option, refl, sym, ap, ap₂, subst, ◌∙◌}
 use Rattle.std.specs.Prelude.{filter, flat_map}
 use Rattle.std.specs.List.{AllZip}
 use Rattle.std.proofs.lemmas.List.Sums.{sum_by-append, sum_by-cons}
 use Rattle.std.proofs.lemmas.List.Elements.{filter-append}
 use Rattle.std.proofs.lemmas.Grind.{flat_map-append}
 use Rattle.ipfix_message.specs.declared.record.DataRecord.{DataRecord}
-use Rattle.ipfix_session.specs.Given.{Given, records_in, records_of}
+use Rattle.ipfix_session.specs.Given.{Given, records_in, records_of, records_within}
 use Rattle.ipfix_session.proofs.Reaching.{gives_first}
 use Rattle.recording_files.specs.Sessions.{IsTold}
 use Rattle.recording_files.specs.Faithful.{is_flow}
@@ -21,26 +21,27 @@ use Rattle.flow_table.specs.declared.missing.Missing.{Missing}
 use Rattle.flow_table.specs.declared.table.Table.{Table}
 use Rattle.flow_table.specs.declared.tally.Tally.{Tally}
 use Rattle.flow_merge.specs.Merging.{all_of, HasRowsOf}
-use Rattle.laws_recordings.specs.RecordedFiles.{AreRecordedIn, IsRecordedIn, all_files, records_of_each, with_options}
+use Rattle.laws_recordings.specs.RecordedFiles.{AreRecordedIn, IsRecordedIn, all_files, records_of_all, records_of_each, with_options}
 use Rattle.laws_recordings.proofs.FlowBags.{SameFlows, table_flows, weighed as flow_weighed}
 
 -- the files of a session give the flow records of its text
-gives_records : (text : List ℕ) (files : List (List ℕ)) → IsRecordedIn text files → filter is_flow (flat_map records_of files) ≡ filter is_flow (records_of text)
-gives_records text files r =
+gives_records : (limit : Option ℕ) (text : List ℕ) (files : List (List ℕ)) → IsRecordedIn limit text files → filter is_flow (flat_map records_of files) ≡ filter is_flow (records_within limit text)
+gives_records limit text files r =
     let given = files_give (IsTold r.session) r.progress r.after r.start r.now r.holds r.seen r.none_before in
-    ap (λ (fs : List (List ℕ)). filter is_flow (flat_map records_of fs)) r.are ∙ all_flows (contents_of r.now) r.progress.text given ∙ ap (λ (w : List ℕ). filter is_flow (records_of w)) (sym r.text_is)
+    ap (λ (fs : List (List ℕ)). filter is_flow (flat_map records_of fs)) r.are ∙ all_flows r.progress.limit (contents_of r.now) r.progress.text given
+    ∙ ap (λ (w : List ℕ). filter is_flow (records_within r.progress.limit w)) (sym r.text_is) ∙ ap (λ (l : Option ℕ). filter is_flow (records_within l text)) r.limit_is
 
 -- and those of all sessions those of all texts
-give_all : (texts : List (List ℕ)) (recordings : List (List (List ℕ))) → AllZip IsRecordedIn texts recordings
-    → filter is_flow (flat_map records_of (all_files recordings)) ≡ filter is_flow (flat_map records_of texts)
-give_all [] [] all = refl
-give_all [] (files ∷ recordings) all = absurd all
-give_all (text ∷ texts) [] all = absurd all
-give_all (text ∷ texts) (files ∷ recordings) all =
+give_all : (limit : Option ℕ) (texts : List (List ℕ)) (recordings : List (List (List ℕ))) → AllZip (IsRecordedIn limit) texts recordings
+    → filter is_flow (flat_map records_of (all_files recordings)) ≡ filter is_flow (records_of_all limit texts)
+give_all limit [] [] all = refl
+give_all limit [] (files ∷ recordings) all = absurd all
+give_all limit (text ∷ texts) [] all = absurd all
+give_all limit (text ∷ texts) (files ∷ recordings) all =
     ap (filter is_flow) (flat_map-append records_of files (all_files recordings))
     ∙ filter-append is_flow (flat_map records_of files) (flat_map records_of (all_files recordings))
-    ∙ ap₂ (λ (a b : List DataRecord). a ++ b) (gives_records text files all.0) (give_all texts recordings all.1)
-    ∙ sym (filter-append is_flow (records_of text) (flat_map records_of texts))
+    ∙ ap₂ (λ (a b : List DataRecord). a ++ b) (gives_records limit text files all.0) (give_all limit texts recordings all.1)
+    ∙ sym (filter-append is_flow (records_within limit text) (records_of_all limit texts))
 
 -- a weight of records, over the files that they stand in
 abbrev weight_of : (DataRecord → ℕ) → List ℕ → ℕ
@@ -61,17 +62,17 @@ weighed weight (file ∷ files) =
 abbrev flow_weight : (DataRecord → ℕ) → DataRecord → ℕ
 flow_weight weight r = cond (is_flow r) (weight r) 0
 
-pub same_records : (texts files : List (List ℕ)) → AreRecordedIn texts files → SameFlows (flat_map records_of files) (flat_map records_of texts)
-same_records texts files r weight =
+pub same_records : (limit : Option ℕ) (texts files : List (List ℕ)) → AreRecordedIn limit texts files → SameFlows (flat_map records_of files) (records_of_all limit texts)
+same_records limit texts files r weight =
     let of_flows = flow_weight weight in
     flow_weighed is_flow weight (flat_map records_of files)
     ∙ weighed of_flows files ∙ sym (r.same (weight_of of_flows) (no_weight of_flows)) ∙ sym (weighed of_flows (all_files r.recordings))
     ∙ sym (flow_weighed is_flow weight (flat_map records_of (all_files r.recordings)))
-    ∙ ap (λ (rs : List DataRecord). sum_by weight rs) (give_all texts r.recordings r.each)
+    ∙ ap (λ (rs : List DataRecord). sum_by weight rs) (give_all limit texts r.recordings r.each)
 
-pub same_table : (plan : PlanValue) (table : Table) (texts files : List (List ℕ)) → AreRecordedIn texts files → IsTable plan (flat_map records_of files) table
-    → IsTable plan (flat_map records_of texts) (with_options plan (flat_map records_of texts) table)
-same_table plan table texts files r is = table_flows plan (flat_map records_of files) (flat_map records_of texts) (same_records texts files r) table is
+pub same_table : (limit : Option ℕ) (plan : PlanValue) (table : Table) (texts files : List (List ℕ)) → AreRecordedIn limit texts files → IsTable plan (flat_map records_of files) table
+    → IsTable plan (records_of_all limit texts) (with_options plan (records_of_all limit texts) table)
+same_table limit plan table texts files r is = table_flows plan (flat_map records_of files) (records_of_all limit texts) (same_records limit texts files r) table is
 
 -- the records of all files are those of each group of them, one group after another
 all_of_each : (groups : List (List (List ℕ))) → all_of (records_of_each groups) ≡ flat_map records_of (all_files groups)
@@ -87,8 +88,8 @@ has_rows plan rs qs table same has =
     subst (λ (t : Tally). IsTable plan qs (record table { tally = t; missing = missing_of plan qs })) moved.tally
     (subst (λ (m : Missing). IsTable plan qs (record table { tally = record (tally_of plan rs) { options = count_of plan qs Options }; missing = m })) moved.missing moved)
 
-pub merged_table : (plan : PlanValue) (table : Table) (texts : List (List ℕ)) (periods : List (List (List ℕ))) → AreRecordedIn texts (all_files periods) → HasRowsOf plan (all_of (records_of_each periods)) table
-    → HasRowsOf plan (flat_map records_of texts) table
-merged_table plan table texts periods r has =
-    has_rows plan (flat_map records_of (all_files periods)) (flat_map records_of texts) table (same_records texts (all_files periods) r)
+pub merged_table : (limit : Option ℕ) (plan : PlanValue) (table : Table) (texts : List (List ℕ)) (periods : List (List (List ℕ))) → AreRecordedIn limit texts (all_files periods)
+    → HasRowsOf plan (all_of (records_of_each periods)) table → HasRowsOf plan (records_of_all limit texts) table
+merged_table limit plan table texts periods r has =
+    has_rows plan (flat_map records_of (all_files periods)) (records_of_all limit texts) table (same_records limit texts (all_files periods) r)
     (subst (λ (rs : List DataRecord). HasRowsOf plan rs table) (all_of_each periods) has)

@@ -1,8 +1,8 @@
 -- The files of recorded sessions, as they are collected.
-use Rattle.std.specs.Prelude.{◌≡◌, ℕ, List, [], map, flat_map, sum_by}
+use Rattle.std.specs.Prelude.{◌≡◌, ℕ, List, [], map, flat_map, sum_by, Option}
 use Rattle.std.specs.List.{AllZip}
 use Rattle.ipfix_message.specs.declared.record.DataRecord.{DataRecord}
-use Rattle.ipfix_session.specs.Given.{records_of}
+use Rattle.ipfix_session.specs.Given.{records_of, records_within}
 use Rattle.ipfix_session.specs.Sources.{SourceView}
 use Rattle.recording_files.specs.Files.{Contents, FilesView, AreSeen, all_of}
 use Rattle.recording_files.specs.Sessions.{Progress, HoldsAll, IsTold}
@@ -14,10 +14,12 @@ use Rattle.flow_table.specs.declared.table.Table.{Table}
 use Rattle.flow_merge.specs.Merging.{AddsAllUp}
 use Rattle.laws_merge.specs.Exports.{AreExportsOf}
 
--- a text was recorded in these files, up to its end or its first fault: they are what a session's files hold
-pub record IsRecordedIn (text : List ℕ) (files : List (List ℕ)) : Type 0 where
+-- a text was recorded in these files, up to its end or its first fault, also that of a limit of its templates: they are what the
+-- files of a session hold that has this limit, or none
+pub record IsRecordedIn (limit : Option ℕ) (text : List ℕ) (files : List (List ℕ)) : Type 0 where
   pub session : RecordedSession
   pub progress : Progress
+  pub limit_is : progress.limit ≡ limit
   pub text_is : text ≡ progress.text
   pub after : FilesView
   pub holds : HoldsAll (IsTold session) progress after
@@ -35,11 +37,15 @@ all_files groups = flat_map (λ files. files) groups
 abbrev pub AreSameFiles : List (List ℕ) → List (List ℕ) → Type 0
 AreSameFiles files others = (weight : List ℕ → ℕ) → weight [] ≡ 0 → sum_by weight files ≡ sum_by weight others
 
--- these are the files in which texts were recorded
-pub record AreRecordedIn (texts files : List (List ℕ)) : Type 0 where
+-- these are the files in which texts were recorded, each under this limit, or without one
+pub record AreRecordedIn (limit : Option ℕ) (texts files : List (List ℕ)) : Type 0 where
   pub recordings : List (List (List ℕ))
-  pub each : AllZip IsRecordedIn texts recordings
+  pub each : AllZip (IsRecordedIn limit) texts recordings
   pub same : AreSameFiles (all_files recordings) files
+
+-- the records of texts under a limit, or without one: those before the first fault of each
+abbrev pub records_of_all : Option ℕ → List (List ℕ) → List DataRecord
+records_of_all limit texts = flat_map (records_within limit) texts
 
 -- the records of each group of files
 abbrev pub records_of_each : List (List (List ℕ)) → List (List DataRecord)

@@ -7,6 +7,7 @@ use Rattle.std.specs.declared.alloc.AllocError.{AllocError}
 use Rattle.std.specs.declared.io.ErrorKind.{ErrorKind}
 use Rattle.std.specs.declared.net.socket_addr.SocketAddr.{SocketAddr}
 use Rattle.ipfix_session.specs.Sources.{SourceView, one_more}
+use Rattle.ipfix_session.specs.declared.session_limits.SessionLimits.{SessionLimits}
 use Rattle.recording_files.specs.Files.{FilesView}
 use Rattle.recording_files.specs.Periods.{ClockView}
 use Rattle.recording_files.specs.declared.file_report.FileReport.{FileReport}
@@ -46,8 +47,8 @@ module _ {W A E : Type 0} (contents : W → Option (List ℕ)) (failed : W → T
   told-and first second result is one two = subst (λ (r : Result A E). Tells contents failed old new r (xs ++ ys)) (sym is) (both-told first second one two)
 
 module _ {S F C : Type 0} (seen : S → SourceView) (failure : S → Option ErrorKind) (view : F → FilesView) (asked : C → ClockView) (finishes : F → FileReport → FilesEnd → Type 0) (makes : SocketAddr → ℕ → Result (Recording F C) AllocError → Type 0) where
-  pub served-told : (before after : Connection S) (number : ℕ) (verbosity : Verbosity) (tells tells' : List ℕ → Type 0) → ((lines : List ℕ) → tells lines → tells' lines) → IsServed seen failure view asked finishes makes before after number verbosity tells → IsServed seen failure view asked finishes makes before after number verbosity tells'
-  served-told before after number verbosity tells tells' more (inl (recording, made, was)) = inl (
+  pub served-told : (before after : Connection S) (number : ℕ) (limits : SessionLimits) (verbosity : Verbosity) (tells tells' : List ℕ → Type 0) → ((lines : List ℕ) → tells lines → tells' lines) → IsServed seen failure view asked finishes makes before after number limits verbosity tells → IsServed seen failure view asked finishes makes before after number limits verbosity tells'
+  served-told before after number limits verbosity tells tells' more (inl (recording, made, was)) = inl (
     recording,
     made,
     record {
@@ -62,4 +63,4 @@ module _ {S F C : Type 0} (seen : S → SourceView) (failure : S → Option Erro
       told = more _ was.told;
     },
   )
-  served-told before after number verbosity tells tells' more (inr (lack, made, same, told)) = inr (lack, made, same, more _ told)
+  served-told before after number limits verbosity tells tells' more (inr (lack, made, same, told)) = inr (lack, made, same, more _ told)

@@ -7,6 +7,7 @@ use Rattle.std.specs.declared.net.socket_addr.SocketAddr.{SocketAddr}
 use Rattle.ipfix_message.specs.declared.fault.MessageFault.TheVariants.{OutOfMemory}
 use Rattle.ipfix_session.specs.Sources.{SourceView}
 use Rattle.ipfix_session.specs.declared.driver.TheConstants.{READ_LIMIT}
+use Rattle.ipfix_session.specs.declared.session_limits.SessionLimits.{SessionLimits}
 use Rattle.recording_files.specs.Faults.{number_of, name_of}
 use Rattle.recording_files.specs.Files.{FilesView}
 use Rattle.recording_files.specs.Periods.{ClockView}
@@ -24,6 +25,7 @@ use Rattle.report_writing.specs.declared.reason.Reason.{Reason}
 use Rattle.report_writing.specs.declared.verbosity.Verbosity.{Verbosity}
 use Rattle.recording_connections.specs.declared.connection.Connection.{Connection}
 use Rattle.recording_connections.specs.declared.place.Recording.{Recording}
+use Rattle.recording_connections.specs.declared.recorder_run.RecordOrder.{RecordOrder}
 
 abbrev pub fault_line : SocketAddr → RecordFault → List ℕ
 fault_line peer fault = peer_fault_line peer (number_of fault) (name_of fault)
@@ -77,15 +79,19 @@ read_lines verbosity peer None = []
 abbrev pub connection_lines : Verbosity → SocketAddr → Option ErrorKind → RecordedSession → FilesEnd → List ℕ
 connection_lines verbosity peer failure session end = silence_lines peer failure ++ (session_lines peer session end ++ read_lines verbosity peer failure)
 
--- the session of a source was recorded in the files of a recording, by its clock; the last of them was finished with its report,
--- and its lines were told, with what the source answers of its failure
+-- how far the session of a connection goes: its templates count no more than the order says
+abbrev pub limits_of : RecordOrder → SessionLimits
+limits_of order = record { reads = READ_LIMIT; templates = Some order.templates }
+
+-- the session of a source was recorded within limits in the files of a recording, by its clock; the last of them was finished with
+-- its report, and its lines were told, with what the source answers of its failure
 pub record IsRecorded {S F C : Type 0} (seen : S → SourceView) (failure : S → Option ErrorKind) (view : F → FilesView) (asked : C → ClockView)
     (finishes : F → FileReport → FilesEnd → Type 0)
-    (source after : S) (recording : Recording F C) (verbosity : Verbosity) (peer : SocketAddr) (tells : List ℕ → Type 0) : Type 0 where
+    (source after : S) (recording : Recording F C) (limits : SessionLimits) (verbosity : Verbosity) (peer : SocketAddr) (tells : List ℕ → Type 0) : Type 0 where
   pub session : RecordedSession
   pub written : F
   pub asked_last : C
-  pub recorded : RecordsSession seen view asked READ_LIMIT source after recording.files written recording.clock asked_last session
+  pub recorded : RecordsSession seen view asked limits source after recording.files written recording.clock asked_last session
   pub end : FilesEnd
   pub is_end : finishes written session.last end
   pub said : Option ErrorKind
@@ -95,8 +101,8 @@ pub record IsRecorded {S F C : Type 0} (seen : S → SourceView) (failure : S �
 -- the same of a connection, in the files that a place made for a session of this number; or the place refused them: then that is
 -- its fault, and nothing of the connection was read
 abbrev pub IsServed : {S F C : Type 0} → (S → SourceView) → (S → Option ErrorKind) → (F → FilesView) → (C → ClockView) → (F → FileReport → FilesEnd → Type 0)
-    → (SocketAddr → ℕ → Result (Recording F C) AllocError → Type 0) → Connection S → Connection S → ℕ → Verbosity → (List ℕ → Type 0) → Type 0
-IsServed {S} {F} {C} seen failure view asked finishes makes before after number verbosity tells =
+    → (SocketAddr → ℕ → Result (Recording F C) AllocError → Type 0) → Connection S → Connection S → ℕ → SessionLimits → Verbosity → (List ℕ → Type 0) → Type 0
+IsServed {S} {F} {C} seen failure view asked finishes makes before after number limits verbosity tells =
     ((recording : Recording F C) × makes before.peer number (Ok recording)
-    × IsRecorded seen failure view asked finishes before.source after.source recording verbosity before.peer tells)
+    × IsRecorded seen failure view asked finishes before.source after.source recording limits verbosity before.peer tells)
     ⊎ ((lack : AllocError) × makes before.peer number (Err lack) × (after ≡ before) × tells (fault_line before.peer (faults.Message OutOfMemory)))

@@ -1,6 +1,10 @@
 //! What a run of the recorder is made of.
 
+ghost use Rattle.std.specs.Prelude.{◌≡◌};
+ghost use Rattle.recording_connections.specs.Serving.{limits_of};
+
 use crate::shared_counts::SharedCounts;
+use ipfix_session::{READ_LIMIT, SessionLimits};
 use network_prefixes::PeerFilter;
 use recording_folder::Folder;
 use report_writing::Verbosity;
@@ -18,10 +22,24 @@ pub struct RecordOrder {
     pub sessions: usize,
     /// How long a connection may send nothing.
     pub idle: Option<Duration>,
+    /// What the templates of a connection may count.
+    pub templates: u64,
     /// Whether the beginning and the end of each session of a connection are told, too.
     pub verbosity: Verbosity,
     /// Which peers may send.
     pub filter: PeerFilter,
+}
+
+impl RecordOrder {
+    /// How far the session of a connection goes.
+    pub fn limits(&self) -> SessionLimits
+        ensures { result ≡ limits_of self.now }
+    {
+        SessionLimits {
+            reads: READ_LIMIT,
+            templates: Some(self.templates),
+        }
+    }
 }
 
 /// A run of the recorder: what it has of the system, what it is asked for, and what its threads share.

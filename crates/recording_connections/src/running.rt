@@ -5,7 +5,7 @@ ghost use Rattle.std.specs.Prelude.{◌≡◌, ◌==◌, ◌+◌, min, if◌then
 ghost use Rattle.ipfix_session.specs.Sources.{one_more};
 ghost use Rattle.recording_connections.specs.Refusals.{MaySend};
 ghost use Rattle.recording_connections.specs.ConnectionLines.{TellsEnds};
-ghost use Rattle.recording_connections.specs.Serving.{IsServed};
+ghost use Rattle.recording_connections.specs.Serving.{IsServed, limits_of};
 
 use crate::connection::{Connection, ConnectionSource};
 use crate::connection_lines::write_event;
@@ -211,7 +211,8 @@ fn serve<
     ensures unread { session ≡ None → connection.new ≡ connection.old }
     ensures untold { session ≡ None → out.new ≡ out.old }
     ensures served { IfSome session (λ s. IsServed S.seen S.failure F.seen C.asked F.finishes
-        (P.makes recorder.now.place) connection.old connection.new s.number recorder.now.order.now.verbosity
+        (P.makes recorder.now.place) connection.old connection.new s.number
+        (limits_of recorder.now.order.now) recorder.now.order.now.verbosity
         (TellsEnds W.contents W.failed out.old out.new result recorder.now.order.now.verbosity connection.old.peer)) }
 {
     match session {
@@ -234,7 +235,8 @@ fn serve_session<
     out: &mut W,
 ) -> io::Result<()>
     ensures { IsServed S.seen S.failure F.seen C.asked F.finishes (P.makes recorder.now.place)
-        connection.old connection.new number.number recorder.now.order.now.verbosity
+        connection.old connection.new number.number (limits_of recorder.now.order.now)
+        recorder.now.order.now.verbosity
         (TellsEnds W.contents W.failed out.old out.new result recorder.now.order.now.verbosity
         connection.old.peer) }
 {
@@ -244,6 +246,7 @@ fn serve_session<
         recorder.alloc,
         connection,
         number,
+        recorder.order.limits(),
         &recorder.place,
         recorder.order.verbosity,
         out,

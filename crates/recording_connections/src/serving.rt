@@ -9,7 +9,7 @@ use crate::connection::Connection;
 use crate::place::{Recording, RecordingFiles, SessionPlace};
 use crate::shared_counts::SessionNumber;
 use ipfix_message::MessageFault;
-use ipfix_session::{READ_LIMIT, Source};
+use ipfix_session::{SessionLimits, Source};
 use recording_files::{NotWritten, PeriodClock, RecordFault, RecordedSession, record};
 use recording_folder::FilesEnd;
 use recording_lines::{write_peer_ended, write_peer_fault, write_peer_losses, write_peer_reason};
@@ -18,7 +18,7 @@ use std::alloc::Global;
 use std::io::{self, ErrorKind};
 use std::net::SocketAddr;
 
-/// Records the session of a connection, whose number is this, to its end or first fault, finishes its last
+/// Records the session of a connection, whose number is this, within these limits to its end or first fault, finishes its last
 /// file, and writes its lines: more, if `verbosity` asks for it. If there is no memory for its files, that is its fault, and
 /// nothing of it is read.
 pub fn record_connection<
@@ -31,19 +31,20 @@ pub fn record_connection<
     alloc: Global,
     connection: &mut Connection<S>,
     number: SessionNumber,
+    limits: SessionLimits,
     place: &P,
     verbosity: Verbosity,
     out: &mut W,
 ) -> io::Result<()>
     ensures { IsServed S.seen S.failure F.seen C.asked F.finishes (P.makes place.now)
-        connection.old connection.new number.number verbosity
+        connection.old connection.new number.number limits verbosity
         (Tells W.contents W.failed out.old out.new result) }
 {
     let peer = connection.peer;
     match place.session(alloc, peer, number.get()) {
         Ok(recording) => {
             let source = &mut connection.source;
-            record_source(alloc, source, recording, verbosity, peer, out)
+            record_source(alloc, source, recording, limits, verbosity, peer, out)
         }
         Err(_) => {
             let fault = RecordFault::Message(MessageFault::OutOfMemory);
@@ -57,19 +58,20 @@ fn record_source<S: Source, F: RecordingFiles, C: PeriodClock + Drop, W: WriteLi
     alloc: Global,
     source: &mut S,
     recording: Recording<F, C>,
+    limits: SessionLimits,
     verbosity: Verbosity,
     peer: SocketAddr,
     out: &mut W,
 ) -> io::Result<()>
     requires { IsEmpty (F.seen recording.files).contents }
     ensures { IsRecorded S.seen S.failure F.seen C.asked F.finishes source.old source.new recording
-        verbosity peer (Tells W.contents W.failed out.old out.new result) }
+        limits verbosity peer (Tells W.contents W.failed out.old out.new result) }
 {
     let Recording {
         mut files,
         mut clock,
     } = recording;
-    let session = record(alloc, source, &mut files, &mut clock, READ_LIMIT);
+    let session = record(alloc, source, &mut files, &mut clock, limits);
     let end = files.finish(&session.last);
     let failure = read_failure(session.ended, source.failure());
     write_connection(verbosity, peer, failure, &session, end, out)

@@ -1,7 +1,7 @@
 //! The lines of sessions that end in several ways.
 
 use super::places::{NoConnections, SmallPlace};
-use ipfix_session::ScriptSource;
+use ipfix_session::{READ_LIMIT, ScriptSource, SessionLimits};
 use network_prefixes::PeerFilter;
 use recording_connections::{
     Connection, ConnectionRecorder, RecordOrder, SharedCounts, record_connection,
@@ -29,12 +29,21 @@ const FLOW: Flow = Flow {
     octets: 1500,
 };
 
+// Limits of a connection whose templates may count so much.
+fn within(templates: u64) -> SessionLimits {
+    SessionLimits {
+        reads: READ_LIMIT,
+        templates: Some(templates),
+    }
+}
+
 // Records a session of octets, whose reads fail after `fail_at`, and gives what is told.
 fn told_of(
     alloc: Global,
     place: SmallPlace,
     octets: &[u8],
     fail_at: Option<usize>,
+    limits: SessionLimits,
 ) -> Result<Vec<u8>, Fail> {
     let text = Vec::from_slice(alloc, octets)?;
     let mut connection = Connection {
@@ -47,6 +56,7 @@ fn told_of(
         alloc,
         &mut connection,
         number,
+        limits,
         &place,
         NOTHING_MORE,
         &mut out,
@@ -91,7 +101,7 @@ fn ends_of_a_session(rt: HostRuntime) -> Result<(), Fail> {
         ),
         (unfinished, octets.as_slice(), None, lost, "19 NotWritten"),
     ] {
-        let told = told_of(alloc, place, text, fail_at)?;
+        let told = told_of(alloc, place, text, fail_at, within(28))?;
         let mut wanted = String::from_str(alloc, first)?;
         if !then.is_empty() {
             wanted.push_str("collectd: session 192.0.2.1:4739: fault ")?;
@@ -103,6 +113,21 @@ fn ends_of_a_session(rt: HostRuntime) -> Result<(), Fail> {
     Ok(())
 }
 
+// A domain counts 16, and the template of flows 8 and its four fields.
+#[test]
+fn templates_have_a_limit(rt: HostRuntime) -> Result<(), Fail> {
+    let alloc: Global = rt.alloc();
+    let first = message_of_flows(alloc, 0, 1, &[FLOW])?;
+    let second = message_of_flows(alloc, 0, 2, &[FLOW])?;
+    let octets = text_of(alloc, &[&first, &second])?;
+    let fault = "collectd: session 192.0.2.1:4739: fault 21 TooManyFields\n";
+    for (templates, wanted) in [(56, ""), (55, fault)] {
+        let told = told_of(alloc, PLACE, &octets, None, within(templates))?;
+        assert!(rt; told.as_slice() == wanted.as_bytes(), "{templates}");
+    }
+    Ok(())
+}
+
 #[test]
 fn no_memory_for_files(rt: HostRuntime) -> Result<(), Fail> {
     let alloc: Global = rt.alloc();
@@ -110,7 +135,7 @@ fn no_memory_for_files(rt: HostRuntime) -> Result<(), Fail> {
         has_memory: false,
         ..PLACE
     };
-    let told = told_of(alloc, place, &two_messages(alloc)?, None)?;
+    let told = told_of(alloc, place, &two_messages(alloc)?, None, within(28))?;
     assert!(rt; told.starts_with(b"collectd: session 192.0.2.1:4739: fault 12 OutOfMemory\n"));
     Ok(())
 }
@@ -123,6 +148,7 @@ fn no_threads(rt: HostRuntime) -> Result<(), Fail> {
         every: NonZeroU64::MIN,
         sessions: 0,
         idle: None,
+        templates: 28,
         verbosity: NOTHING_MORE,
         filter: PeerFilter {
             prefixes: Vec::new(alloc),

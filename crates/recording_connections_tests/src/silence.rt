@@ -1,7 +1,7 @@
 //! Connections that say nothing for a while.
 
 use super::places::SmallPlace;
-use ipfix_session::{ReadError, Source};
+use ipfix_session::{READ_LIMIT, ReadError, SessionLimits, Source};
 use recording_connections::{
     Connection, PatientReader, SharedCounts, SilenceLimits, record_connection,
 };
@@ -121,7 +121,19 @@ fn told_of(
     };
     let mut out = FailingWriter::new(alloc, 1000, 1000);
     let number = SharedCounts::new().next_session();
-    record_connection(alloc, &mut connection, number, &place, verbosity, &mut out)?;
+    let limits = SessionLimits {
+        reads: READ_LIMIT,
+        templates: None,
+    };
+    record_connection(
+        alloc,
+        &mut connection,
+        number,
+        limits,
+        &place,
+        verbosity,
+        &mut out,
+    )?;
     Ok(out.taken)
 }
 

@@ -27,24 +27,25 @@ same_number ReadFailed session other is = same_as faults.ReadFailed session is
 same_number TooManyReads session other is = same_as faults.TooManyReads session is
 same_number NotWritten session other is = absurd (other refl)
 
-below_14 : (e : MessageFault) → messages.number_of e ≡ 19 → ⊥
-below_14 variants.Version is = absurd (omega (arith, is))
-below_14 variants.MessageLength is = absurd (omega (arith, is))
-below_14 variants.SetHeader is = absurd (omega (arith, is))
-below_14 variants.SetLength is = absurd (omega (arith, is))
-below_14 variants.TemplateId is = absurd (omega (arith, is))
-below_14 variants.TemplateCut is = absurd (omega (arith, is))
-below_14 variants.Scope is = absurd (omega (arith, is))
-below_14 variants.ZeroLength is = absurd (omega (arith, is))
-below_14 variants.TemplateChanged is = absurd (omega (arith, is))
-below_14 variants.RecordCut is = absurd (omega (arith, is))
-below_14 variants.TooManyDomains is = absurd (omega (arith, is))
-below_14 variants.OutOfMemory is = absurd (omega (arith, is))
-below_14 variants.Spent is = absurd (omega (arith, is))
+not_19 : (e : MessageFault) → messages.number_of e ≡ 19 → ⊥
+not_19 variants.Version is = absurd (omega (arith, is))
+not_19 variants.MessageLength is = absurd (omega (arith, is))
+not_19 variants.SetHeader is = absurd (omega (arith, is))
+not_19 variants.SetLength is = absurd (omega (arith, is))
+not_19 variants.TemplateId is = absurd (omega (arith, is))
+not_19 variants.TemplateCut is = absurd (omega (arith, is))
+not_19 variants.Scope is = absurd (omega (arith, is))
+not_19 variants.ZeroLength is = absurd (omega (arith, is))
+not_19 variants.TemplateChanged is = absurd (omega (arith, is))
+not_19 variants.RecordCut is = absurd (omega (arith, is))
+not_19 variants.TooManyDomains is = absurd (omega (arith, is))
+not_19 variants.OutOfMemory is = absurd (omega (arith, is))
+not_19 variants.Spent is = absurd (omega (arith, is))
+not_19 variants.TooManyFields is = absurd (omega (arith, is))
 
 pub only_not_written : (fault : RecordFault) → number_of fault ≡ 19 → fault ≡ NotWritten
 only_not_written NotWritten is = refl
-only_not_written (Message e) is = absurd (below_14 e is)
+only_not_written (Message e) is = absurd (not_19 e is)
 only_not_written Truncated is = absurd (omega (arith, is))
 only_not_written ReadFailed is = absurd (omega (arith, is))
 only_not_written TooManyReads is = absurd (omega (arith, is))

@@ -14,9 +14,9 @@ use Rattle.ipfix_session.specs.declared.stop.Stop.{Stop}
 use Rattle.ipfix_session.specs.declared.stop.Stop.TheVariants.{Clean, Short, Fault}
 use Rattle.exporter_options.specs.Telling.{told_by}
 use Rattle.exporter_options.specs.declared.telling.Told.{Told}
-use Rattle.ipfix_session.specs.Given.{Given, gives, known_after, records_in, records_of, stop_of, IsOpen, IsPrefix}
+use Rattle.ipfix_session.specs.Given.{Given, given_within, known_after, records_in, records_of, records_within, stop_of, IsOpen, IsPrefix}
 use Rattle.ipfix_session.proofs.Giving.{records_in-append, records_of-prefix, gives_after-fault_stays}
-use Rattle.ipfix_session.specs.Drives.{IsDue}
+use Rattle.ipfix_session.specs.Drives.{IsDueWithin}
 use Rattle.recording_files.specs.declared.record_fault.RecordFault.{RecordFault}
 use Rattle.recording_files.specs.declared.file_report.FileReport.{FileReport}
 use Rattle.recording_files.specs.FileReports.{file_reports}
@@ -32,6 +32,7 @@ use Rattle.ipfix_session.proofs.MessagesTaken.{octets-append}
 use Rattle.recording_files.proofs.Going.{WritesPart, with_messages, recorded-push, all_given-parts}
 use Rattle.recording_files.proofs.KeptCopied.{IsCopied, copied, read_as_given}
 use Rattle.recording_files.proofs.Together.{is_faithful}
+use Rattle.recording_files.proofs.Limited.{unlimited_open}
 
 -- ---- what is told again came before
 
@@ -88,7 +89,7 @@ pub contents_are : (first after : Option Contents) (none c : Contents) (reports 
 contents_are first after none c reports finished last cut_off is now stands =
     subst (λ (o : Option Contents). StandsWith reports (Some none) o finished last cut_off) now (subst (λ (o : Option Contents). StandsWith reports o after finished last cut_off) is stands)
 
-pub files_give : (told : List Message → List Message → Type 0) (p : Progress) (after : FilesView) (start c : Contents) → HoldsAll told p after → AreSeen p.first after start c → start.finished ≡ [] → GiveRecordsOf (all_of c) p.text
+pub files_give : (told : List Message → List Message → Type 0) (p : Progress) (after : FilesView) (start c : Contents) → HoldsAll told p after → AreSeen p.first after start c → start.finished ≡ [] → GiveRecordsOf p.limit (all_of c) p.text
 files_give told p after start c h seen none =
     let ps = parts h.some.holds.finished h.some.holds.last in
     let read = (is_faithful ps h.some.holds.recorded).files in
@@ -151,25 +152,25 @@ recorded-last before (q ∷ ps) p r =
     let more = recorded-last (before ++ q.given) ps p r.1 in
     ((r.0, more.0), subst (λ (b : List Message). WritesPart b p) (append_assoc before q.given (all_given ps)) more.1)
 
-kept_cut : (text : List ℕ) (finished : List Part) (last : Part) (cut_off : List ℕ) → Recorded [] (parts finished last) → IsCutOff text (all_given finished) last.given cut_off
-    → GiveFirstRecordsOf (map file_octets finished ++ (file_octets last ++ cut_off) ∷ []) text
-kept_cut text finished last cut_off recorded c =
+kept_cut : (limit : Option ℕ) (text : List ℕ) (finished : List Part) (last : Part) (cut_off : List ℕ) → Recorded [] (parts finished last) → IsCutOff limit text (all_given finished) last.given cut_off
+    → GiveFirstRecordsOf limit (map file_octets finished ++ (file_octets last ++ cut_off) ∷ []) text
+kept_cut limit text finished last cut_off recorded c =
     let was = recorded-last [] finished last recorded in
     let q = with_messages last c.messages c.given c.file in
     let now : Recorded [] (parts finished q) = recorded-push [] finished q was.0 (writes-append (all_given finished) [] last.messages c.messages last.given c.given last.file c.file was.1 c.writes) in
     let octets : file_octets q ≡ (file_octets last ++ cut_off) ++ c.first.0 =
     octets-append last.file c.file ∙ ap (λ (w : List ℕ). file_octets last ++ w) c.first.1 ∙ sym (append_assoc (file_octets last) cut_off c.first.0) in
     let k = kept [] finished q (file_octets last ++ cut_off) c.first.0 (is_faithful (parts finished q) now).files octets in
-    let given : IsPrefix (all_given (parts finished q)) (gives text).messages = subst (λ (ms : List Message). IsPrefix ms (gives text).messages) (sym (all_given-parts finished q)) c.next in
+    let given : IsPrefix (all_given (parts finished q)) (given_within limit text).messages = subst (λ (ms : List Message). IsPrefix ms (given_within limit text).messages) (sym (all_given-parts finished q)) c.next in
     record {
       stops = k.0;
       parts = file_records [] (parts finished q);
       are = k.1;
-      records = subst (λ (rs : List DataRecord). IsPrefix rs (records_of text)) (sym (all_came [] (parts finished q))) (records-prefix (all_given (parts finished q)) (gives text).messages given);
+      records = subst (λ (rs : List DataRecord). IsPrefix rs (records_within limit text)) (sym (all_came [] (parts finished q))) (records-prefix (all_given (parts finished q)) (given_within limit text).messages given);
       again = all_again [] (parts finished q);
     }
 
-pub files_keep : (told : List Message → List Message → Type 0) (p : Progress) (after : FilesView) (start c : Contents) → HoldsCut told p after → AreSeen p.first after start c → start.finished ≡ [] → GiveFirstRecordsOf (all_of c) p.text
+pub files_keep : (told : List Message → List Message → Type 0) (p : Progress) (after : FilesView) (start c : Contents) → HoldsCut told p after → AreSeen p.first after start c → start.finished ≡ [] → GiveFirstRecordsOf p.limit (all_of c) p.text
 files_keep told p after start c h seen none =
     let finished = h.holds.finished in
     let last = h.holds.last in
@@ -177,7 +178,7 @@ files_keep told p after start c h seen none =
     let are : all_of c ≡ map file_octets finished ++ (file_octets last ++ h.cut_off) ∷ [] =
     ap (λ (w : List ℕ). c.finished ++ w ∷ []) t.2
     ∙ ap (λ (fs : List (List ℕ)). fs ++ (file_octets last ++ h.cut_off) ∷ []) (t.0 ∙ ap (λ (fs : List (List ℕ)). fs ++ map file_octets finished) none) in
-    subst (λ (fs : List (List ℕ)). GiveFirstRecordsOf fs p.text) (sym are) (kept_cut p.text finished last h.cut_off h.holds.recorded h.next)
+    subst (λ (fs : List (List ℕ)). GiveFirstRecordsOf p.limit fs p.text) (sym are) (kept_cut p.limit p.text finished last h.cut_off h.holds.recorded h.next)
 
 -- ---- to the end of the source
 
@@ -188,11 +189,22 @@ consumed_all before (Some left) whole gave is some end =
     sym (all ∙ ap (λ (w : List ℕ). gave ++ w) (end left refl) ∙ append-nil gave)
 
 pub recorded_all : {S F C : Type 0} (seen : S → SourceView) (view : F → FilesView) (asked : C → ClockView) (ended_is_end : (s : S) → (seen s).ended ≡ true → ForSome (seen s).text (λ xs. xs ≡ []))
-    (text : List ℕ) (first last : F) (start c : Contents) → RecordsAll seen view asked text first last → AreSeen (view first) (view last) start c → start.finished ≡ [] → (stop_of text ≡ Clean) × GiveRecordsOf (all_of c) text
+    (text : List ℕ) (first last : F) (start c : Contents) → RecordsAll seen view asked text first last → AreSeen (view first) (view last) start c → start.finished ≡ [] → (stop_of text ≡ Clean) × GiveRecordsOf None (all_of c) text
 recorded_all seen view asked ended_is_end text first last start c r is none =
     let gave = octets_read r.records.reads in
-    let p = progress_after (view first) r.records.reads in
-    let due : IsDue None r.limit gave (seen r.before) (seen r.after) = subst (λ (a : Result (Unit {0}) RecordFault). IsDue (fault_of a) r.limit gave (seen r.before) (seen r.after)) r.no_fault r.records.given.fault_is_due in
+    let limit = r.limits.templates in
+    let p = progress_after limit (view first) r.records.reads in
+    let due : IsDueWithin None r.limits gave (seen r.before) (seen r.after) = subst (λ (a : Result (Unit {0}) RecordFault). IsDueWithin (fault_of a) r.limits gave (seen r.before) (seen r.after)) r.no_fault r.records.given.fault_is_due in
     let holds : HoldsAll (IsTold r.session) p (view last) = subst (λ (a : Result (Unit {0}) RecordFault). HoldsBy (IsTold r.session) a p (view last)) r.no_fault r.records.holds in
     let all : gave ≡ text = consumed_all (seen r.before).text (seen r.after).text text gave r.text_is r.records.given.octets (ended_is_end r.after due.1) in
-    (ap stop_of (sym all) ∙ due.0, subst (GiveRecordsOf (all_of c)) all (files_give (IsTold r.session) p (view last) start c holds is none))
+    let whole = unlimited_open limit gave (subst IsOpen (sym due.0) tt) in
+    let given = files_give (IsTold r.session) p (view last) start c holds is none in (
+      ap stop_of (sym all) ∙ ap (λ (g : Given). g.stop) (sym whole) ∙ due.0,
+      subst (GiveRecordsOf None (all_of c)) all (record {
+        stops = given.stops;
+        parts = given.parts;
+        are = given.are;
+        records = given.records ∙ ap (λ (g : Given). records_in g.messages) whole;
+        again = given.again;
+      }),
+    )

@@ -15,11 +15,11 @@ use Rattle.ipfix_message.specs.declared.fault.MessageFault.{MessageFault}
 use Rattle.ipfix_message.specs.declared.fault.MessageFault.TheVariants.{OutOfMemory}
 use Rattle.ipfix_session.specs.declared.stop.Stop.TheVariants.{Clean, Fault}
 use Rattle.ipfix_session.specs.MessageStream.{next_message, cut}
-use Rattle.ipfix_session.specs.Given.{Given, gives, gives_after, behind, known_after, stop_of, IsOpen, IsPrefix, octets_of}
+use Rattle.ipfix_session.specs.Given.{Given, given_within, gives_within, behind, known_after, stop_within, IsOpen, IsPrefix, octets_of}
 use Rattle.ipfix_session.specs.Sources.{one_more}
 use Rattle.ipfix_session.specs.MessageSinks.{IsAtRest, TookFirst, TookUpTo, Stops}
 use Rattle.ipfix_session.proofs.Cut.{messages_shrink, messages_stable}
-use Rattle.ipfix_session.proofs.Giving.{gives_after-stop, gives_after-open}
+use Rattle.ipfix_session.proofs.Giving.{gives_within-stop, gives_within-open}
 use Rattle.ipfix_session.proofs.Texts.{nothing_follows}
 use Rattle.ipfix_session.proofs.MessagesTaken.{octets-append, took_first}
 use Rattle.recording_files.specs.declared.record_fault.RecordFault.{RecordFault}
@@ -29,7 +29,7 @@ use Rattle.recording_files.specs.declared.gathering.Gathering.{Gathering}
 use Rattle.recording_files.specs.FileReports.{file_report, file_reports}
 use Rattle.recording_files.specs.Gathering.{BeforeRead, IsFresh, gathering_view}
 use Rattle.recording_files.specs.Recordings.{Part, Recorded, Writes}
-use Rattle.recording_files.specs.Recorders.{State, Keeps, Told, Counted}
+use Rattle.recording_files.specs.Recorders.{State, KeepsWithin, Told, Counted}
 use Rattle.recording_files.specs.Counting.{CountsUpTo}
 use Rattle.recording_files.specs.Faithful.{all_messages, all_given}
 use Rattle.recording_files.specs.Files.{Contents, grown, turned, FilesView, with_more, with_next, failing, IsEmpty}
@@ -125,13 +125,13 @@ with_some files [] some = absurd (some refl)
 with_some files (m ∷ ms) some = refl
 
 -- nothing was to stand next
-none_next : (text : List ℕ) (before here : List Message) → IsPrefix (before ++ here) (gives text).messages → IsCutOff text before here []
-none_next text before here given = record {
+none_next : (limit : Option ℕ) (text : List ℕ) (before here : List Message) → IsPrefix (before ++ here) (given_within limit text).messages → IsCutOff limit text before here []
+none_next limit text before here given = record {
   messages = [];
   given = [];
   file = [];
   writes = refl;
-  next = subst (λ (ms : List Message). IsPrefix (before ++ ms) (gives text).messages) (sym (append-nil here)) given;
+  next = subst (λ (ms : List Message). IsPrefix (before ++ ms) (given_within limit text).messages) (sym (append-nil here)) given;
   first = ([], refl);
 }
 
@@ -149,8 +149,8 @@ with_more-none v octets none = ap (λ (o : Option Contents). seen_as v o) (sym (
         some : Contents → Option Contents
         some x = Some x
 
-pub nothing_recorded : (v : FilesView) (g : Gathering) → IsFresh g → IsEmpty v.contents → HasRecorded (record { text = []; earlier = []; finished = []; first = v }) v g []
-nothing_recorded v g fresh none = record {
+pub nothing_recorded : (limit : Option ℕ) (v : FilesView) (g : Gathering) → IsFresh limit g → IsEmpty v.contents → HasRecorded (record { limit = limit; text = []; earlier = []; finished = []; first = v }) v g []
+nothing_recorded limit v g fresh none = record {
   finished = [];
   last = empty_part;
   are = refl;
@@ -163,7 +163,7 @@ nothing_recorded v g fresh none = record {
   not_failed = refl;
   octets = refl;
   is_rest = record { stop = Clean; none = nothing_follows; is_open = tt };
-  is = gives_after-stop [] [] Clean nothing_follows;
+  is = gives_within-stop limit [] [] Clean nothing_follows;
   rest = ap (λ (q : Parts (List ℕ)). q.rest) (parts_of-none next_message [] Clean nothing_follows);
 }
 
@@ -177,21 +177,21 @@ module _ {p : Progress} {v : FilesView} {g : Gathering} {left : List ℕ} (b : H
   abbrev given : List Message
   given = whole b.finished b.last
 
-  all_there : (gives p.text).messages ≡ given
+  all_there : (given_within p.limit p.text).messages ≡ given
   all_there = ap (λ (x : Given). x.messages) b.is
 
-  held_there : all_given (parts b.finished b.last) ≡ (gives p.text).messages
+  held_there : all_given (parts b.finished b.last) ≡ (given_within p.limit p.text).messages
   held_there = all_given-parts b.finished b.last ∙ sym all_there
 
-  pub stop_is : stop_of p.text ≡ b.is_rest.stop
+  pub stop_is : stop_within p.limit p.text ≡ b.is_rest.stop
   stop_is = ap (λ (x : Given). x.stop) b.is
 
-  pub open_yet : IsOpen (stop_of p.text)
+  pub open_yet : IsOpen (stop_within p.limit p.text)
   open_yet = subst IsOpen (sym stop_is) b.is_rest.is_open
 
   -- the files hold what a text begins with, with this as the last of them
   abbrev holds_with : (last : Part) → WritesPart before last → (text more : List ℕ) (others : List Message) (after : FilesView) (cut_off : List ℕ) → text ≡ octets_of (all_messages b.finished ++ last.messages) ++ more
-      → (gives text).messages ≡ whole b.finished last ++ others → Stands p.first.contents after.contents b.finished last cut_off → Holds text p.first after cut_off
+      → (given_within p.limit text).messages ≡ whole b.finished last ++ others → Stands p.first.contents after.contents b.finished last cut_off → Holds p.limit text p.first after cut_off
   holds_with last writes text more others after cut_off octets is stands = record {
     finished = b.finished;
     last = last;
@@ -211,7 +211,7 @@ module _ {p : Progress} {v : FilesView} {g : Gathering} {left : List ℕ} (b : H
 
   -- memory ran out where all of them stand
   pub earlier_held : p.earlier ≡ p.text → HoldsEarlier (Counted g.counts.told) p v
-  earlier_held same = record { some = some_held; at_least = ([], held_there ∙ ap (λ (text : List ℕ). (gives text).messages) (sym same) ∙ sym (append-nil (gives p.earlier).messages)) }
+  earlier_held same = record { some = some_held; at_least = ([], held_there ∙ ap (λ (text : List ℕ). (given_within p.limit text).messages) (sym same) ∙ sym (append-nil (given_within p.limit p.earlier).messages)) }
 
   -- ---- the text goes on
 
@@ -219,31 +219,31 @@ module _ {p : Progress} {v : FilesView} {g : Gathering} {left : List ℕ} (b : H
     more_octets : p.text ++ piece ≡ octets_of messages ++ (left ++ piece)
     more_octets = ap (λ (x : List ℕ). x ++ piece) b.octets ∙ append_assoc (octets_of messages) left piece
 
-    more_is : gives (p.text ++ piece) ≡ behind given (gives_after (known_after [] given) (left ++ piece))
+    more_is : given_within p.limit (p.text ++ piece) ≡ behind given (gives_within p.limit (known_after [] given) (left ++ piece))
     more_is =
-        gives_after-open [] p.text piece open_yet
-        ∙ ap (λ (x : Given). behind x.messages (gives_after (known_after [] x.messages) ((cut p.text).rest ++ piece))) b.is
-        ∙ ap (λ (x : List ℕ). behind given (gives_after (known_after [] given) (x ++ piece))) b.rest
+        gives_within-open p.limit [] p.text piece open_yet
+        ∙ ap (λ (x : Given). behind x.messages (gives_within p.limit (known_after [] x.messages) ((cut p.text).rest ++ piece))) b.is
+        ∙ ap (λ (x : List ℕ). behind given (gives_within p.limit (known_after [] given) (x ++ piece))) b.rest
 
     more_rest : (cut (p.text ++ piece)).rest ≡ (cut (left ++ piece)).rest
     more_rest =
         ap (λ (q : Parts (List ℕ)). q.rest) (parts_of-append next_message messages_shrink messages_stable (length p.text) p.text piece (omega arith)) ∙ ap (λ (x : List ℕ). (cut (x ++ piece)).rest) b.rest
 
     -- the first octets of what was to stand next may stand there
-    abbrev holds_yet : (after : FilesView) (cut_off : List ℕ) → Stands p.first.contents after.contents b.finished b.last cut_off → Holds (p.text ++ piece) p.first after cut_off
+    abbrev holds_yet : (after : FilesView) (cut_off : List ℕ) → Stands p.first.contents after.contents b.finished b.last cut_off → Holds p.limit (p.text ++ piece) p.first after cut_off
     holds_yet after cut_off stands =
-        holds_with b.last b.writes (p.text ++ piece) (left ++ piece) (gives_after (known_after [] given) (left ++ piece)).messages after cut_off more_octets (ap (λ (x : Given). x.messages) more_is) stands
+        holds_with b.last b.writes (p.text ++ piece) (left ++ piece) (gives_within p.limit (known_after [] given) (left ++ piece)).messages after cut_off more_octets (ap (λ (x : Given). x.messages) more_is) stands
 
   -- ---- the next file
 
   -- what stands in no finished file is in the last
-  unfinished_is : unfinished_in p.text p.finished ≡ b.last.given
+  unfinished_is : unfinished_in p.limit p.text p.finished ≡ b.last.given
   unfinished_is =
       let same : flat_map (λ (file : List Message). file) p.finished ≡ before =
       ap (flat_map (λ (file : List Message). file)) (sym b.are) ∙ flat_map-map (λ (file : List Message). file) (λ (q : Part). q.given) b.finished in
-      ap (λ (ms : List Message). drop (length ms) (gives p.text).messages) same ∙ ap (drop (length before)) all_there ∙ drop_at before b.last.given (length before) refl
+      ap (λ (ms : List Message). drop (length ms) (given_within p.limit p.text).messages) same ∙ ap (drop (length before)) all_there ∙ drop_at before b.last.given (length before) refl
 
-  turned_are : HasMessage b.last → files_of (parts b.finished b.last) ≡ finished_at true p.text p.finished
+  turned_are : HasMessage b.last → files_of (parts b.finished b.last) ≡ finished_at p.limit true p.text p.finished
   turned_are has_one =
       map-append (λ (q : Part). q.given) b.finished (b.last ∷ [])
       ∙ ap (λ (fs : List (List Message)). fs ++ b.last.given ∷ []) b.are
@@ -253,7 +253,7 @@ module _ {p : Progress} {v : FilesView} {g : Gathering} {left : List ℕ} (b : H
   -- a file without a message goes on
   pub unbegun : b.last.given ≡ [] → HasRecorded (turned_if true p) v g left
   unbegun none =
-      let same : finished_at true p.text p.finished ≡ p.finished = ap (with_file p.finished) (unfinished_is ∙ none) in
+      let same : finished_at p.limit true p.text p.finished ≡ p.finished = ap (with_file p.finished) (unfinished_is ∙ none) in
       subst (λ (fs : List (List Message)). HasRecorded (record p { finished = fs }) v g left) (sym same) b
 
   module _ (has_one : HasMessage b.last) where
@@ -263,7 +263,7 @@ module _ {p : Progress} {v : FilesView} {g : Gathering} {left : List ℕ} (b : H
     turned_stands : (after : Option Contents) → after ≡ option_map (turned g.counts.told.file) v.contents → Stands p.first.contents after (parts b.finished b.last) empty_part []
     turned_stands after is = stands_turned p.first.contents v.contents after b.finished b.last g.counts.told.file is b.counted.file b.stands
 
-    pub has_turned : (after : FilesView) (h : Gathering) → after ≡ with_next v g.counts.told.file → Keeps h.recorder given [] → Counted h.counts.told given [] → HasRecorded (turned_if true p) after h left
+    pub has_turned : (after : FilesView) (h : Gathering) → after ≡ with_next v g.counts.told.file → KeepsWithin p.limit h.recorder given [] → Counted h.counts.told given [] → HasRecorded (turned_if true p) after h left
     has_turned after h next keeps counted =
         let none : all_messages (parts b.finished b.last) ++ [] ≡ messages = append-nil (all_messages (parts b.finished b.last)) ∙ all_messages-parts b.finished b.last in
         record {
@@ -273,7 +273,7 @@ module _ {p : Progress} {v : FilesView} {g : Gathering} {left : List ℕ} (b : H
           earlier = recorded-push [] b.finished b.last b.earlier b.writes;
           writes = refl;
           some = All-push HasMessage b.finished b.last b.some has_one;
-          keeps = subst (λ (ms : List Message). Keeps h.recorder ms []) (sym (all_given-parts b.finished b.last)) keeps;
+          keeps = subst (λ (ms : List Message). KeepsWithin p.limit h.recorder ms []) (sym (all_given-parts b.finished b.last)) keeps;
           counted = subst (λ (ms : List Message). Counted h.counts.told ms []) (sym (all_given-parts b.finished b.last)) counted;
           stands = turned_stands after.contents (ap (λ (u : FilesView). u.contents) next);
           not_failed = ap (λ (u : FilesView). u.failed) next ∙ b.not_failed;
@@ -291,7 +291,7 @@ module _ {p : Progress} {v : FilesView} {g : Gathering} {left : List ℕ} (b : H
           cut_off = [];
           holds = holds;
           all = held_there;
-          next = none_next (p.text ++ piece) before b.last.given (subst (λ (ms : List Message). IsPrefix ms (gives (p.text ++ piece)).messages) (all_given-parts b.finished b.last) holds.given);
+          next = none_next p.limit (p.text ++ piece) before b.last.given (subst (λ (ms : List Message). IsPrefix ms (given_within p.limit (p.text ++ piece)).messages) (all_given-parts b.finished b.last) holds.given);
           finished = inr (turned_are has_one);
           failed = ap (λ (u : FilesView). u.failed) same ∙ ap one_more b.not_failed;
           tells = inl b.counted;
@@ -313,7 +313,7 @@ module _ {p : Progress} {v : FilesView} {g : Gathering} {left : List ℕ} (b : H
             given = (old.given.0, old.given.1 ∙ ap (λ (ms : List Message). ms ++ old.given.0) (sym same));
           };
           all = same ∙ held_there;
-          next = none_next (p.text ++ piece) (all_given (parts b.finished b.last)) [] (old.given.0, old.given.1 ∙ ap (λ (ms : List Message). ms ++ old.given.0) (sym (append-nil (all_given (parts b.finished b.last)))));
+          next = none_next p.limit (p.text ++ piece) (all_given (parts b.finished b.last)) [] (old.given.0, old.given.1 ∙ ap (λ (ms : List Message). ms ++ old.given.0) (sym (append-nil (all_given (parts b.finished b.last)))));
           finished = inl (turned_are has_one);
           failed = ap (λ (u : FilesView). u.failed) next ∙ ap one_more b.not_failed;
           tells = inr (record { earlier = b.finished; part = b.last; are = refl; none = refl; tells = b.counted });
@@ -322,7 +322,7 @@ module _ {p : Progress} {v : FilesView} {g : Gathering} {left : List ℕ} (b : H
   -- ---- what was gathered is written
 
   abbrev pub before_read : BeforeRead
-  before_read = record { before = before; here = b.last.given; told = g.counts.told }
+  before_read = record { limit = p.limit; before = before; here = b.last.given; told = g.counts.told }
 
   module _ (piece : List ℕ) (h : Gathering) where
     abbrev Gathered : Type 0
@@ -346,7 +346,7 @@ module _ {p : Progress} {v : FilesView} {g : Gathering} {left : List ℕ} (b : H
         ∙ ap (λ (w : List ℕ). w ++ t.left) (sym (octets-append messages t.messages)) ∙ ap (λ (ms : List (List ℕ)). octets_of ms ++ t.left) (append_assoc (all_messages b.finished) b.last.messages t.messages)
 
     -- and give the next of its messages
-    grown_given : (t : Gathered) → (gives (p.text ++ piece)).messages ≡ whole b.finished (grown_part t) ++ t.next.0
+    grown_given : (t : Gathered) → (given_within p.limit (p.text ++ piece)).messages ≡ whole b.finished (grown_part t) ++ t.next.0
     grown_given t =
         ap (λ (x : Given). x.messages) (more_is piece) ∙ ap (λ (ms : List Message). given ++ ms) t.next.1 ∙ sym (append_assoc given t.given t.next.0)
         ∙ ap (λ (ms : List Message). ms ++ t.next.0) (append_assoc before b.last.given t.given)
@@ -381,8 +381,8 @@ module _ {p : Progress} {v : FilesView} {g : Gathering} {left : List ℕ} (b : H
       read_on rest same x =
           let t : Gathered = took_first gathering_view before_read (left ++ piece) h h tt tt rest x.between x.between.taken.took in
           let stop = x.is_rest.stop in
-          let next : gives_after (known_after [] given) (left ++ piece) ≡ record { messages = t.given; stop = stop } =
-          x.between.is ∙ ap (behind t.given) (gives_after-stop (known_after (known_after [] given) t.given) rest stop x.is_rest.none) ∙ ap (λ (ms : List Message). record { messages = ms; stop = stop }) (append-nil t.given) in
+          let next : gives_within p.limit (known_after [] given) (left ++ piece) ≡ record { messages = t.given; stop = stop } =
+          x.between.is ∙ ap (behind t.given) (gives_within-stop p.limit (known_after (known_after [] given) t.given) rest stop x.is_rest.none) ∙ ap (λ (ms : List Message). record { messages = ms; stop = stop }) (append-nil t.given) in
           record {
             finished = b.finished;
             last = grown_part t;
@@ -390,7 +390,7 @@ module _ {p : Progress} {v : FilesView} {g : Gathering} {left : List ℕ} (b : H
             earlier = b.earlier;
             writes = grown_writes t;
             some = b.some;
-            keeps = subst (λ (s : State). Keeps s before (b.last.given ++ t.given)) (sym same) x.between.taken.is_ready;
+            keeps = subst (λ (s : State). KeepsWithin p.limit s before (b.last.given ++ t.given)) (sym same) x.between.taken.is_ready;
             counted = grown_counted t;
             stands = grown_stands t;
             not_failed = ap (λ (u : FilesView). u.failed) is ∙ b.not_failed;
@@ -409,10 +409,10 @@ module _ {p : Progress} {v : FilesView} {g : Gathering} {left : List ℕ} (b : H
         tells = grown_counted t;
       }
 
-      read_all : (e : MessageFault) → TookUpTo gathering_view before_read e (left ++ piece) h tt → (stop_of (p.text ++ piece) ≡ Fault e) × HoldsAll (Counted k.counts.told) (with_read piece p) after
+      read_all : (e : MessageFault) → TookUpTo gathering_view before_read e (left ++ piece) h tt → (stop_within p.limit (p.text ++ piece) ≡ Fault e) × HoldsAll (Counted k.counts.told) (with_read piece p) after
       unfolding read_some
       read_all e t =
-          let on : gives (p.text ++ piece) ≡ record { messages = given ++ t.first.given; stop = Fault e } = more_is piece ∙ ap (behind given) t.all in (
+          let on : given_within p.limit (p.text ++ piece) ≡ record { messages = given ++ t.first.given; stop = Fault e } = more_is piece ∙ ap (behind given) t.all in (
             ap (λ (x : Given). x.stop) on,
             record {
               some = read_some t.first;

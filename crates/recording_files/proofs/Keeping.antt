@@ -1,5 +1,5 @@
 -- A recorder after one more message.
-use Rattle.std.proofs.Common.{◌≡◌, ℕ, ◌<◌, arith, Bool, true, false, cond, eqb, is_some, List, [], ◌∷◌, ◌++◌, length, Option, Some, None, Result, Ok, refl, sym, ap, ◌∙◌, append_assoc, inl, inr}
+use Rattle.std.proofs.Common.{◌≡◌, ℕ, ◌<◌, arith, Bool, true, false, cond, eqb, is_some, List, [], ◌∷◌, ◌++◌, length, Option, Some, None, Result, Ok, refl, sym, ap, subst, ◌∙◌, append_assoc, inl, inr}
 use Rattle.std.specs.Prelude.{◌||◌, ◌≢◌, ◌↔◌, not, IsTrue, MatchBool}
 use Rattle.std.specs.Map.{lookup}
 use Rattle.std.proofs.lemmas.Bool.Decides.{eqb_tells}
@@ -8,12 +8,13 @@ use Rattle.std.proofs.lemmas.List.Sums.{fold-append}
 use Rattle.indexmap.specs.IndexMap.{insert_entry}
 use Rattle.ipfix_wire.specs.declared.header.Header.{Header}
 use Rattle.ipfix_message.specs.Domains.{Message, StandsFor, message_header}
+use Rattle.ipfix_message.specs.TemplateLimits.{IsWithin}
 use Rattle.ipfix_message.specs.declared.fault.MessageFault.{MessageFault}
 use Rattle.ipfix_session.specs.Given.{known_after}
 use Rattle.ipfix_session.specs.Ledger.{count_in, due_after, messages_of, due_of}
 use Rattle.recording_files.specs.KeptOptions.{Kept, kept_after, kept_then}
 use Rattle.recording_files.specs.Recordings.{has}
-use Rattle.recording_files.specs.Recorders.{State, Keeps, due_for}
+use Rattle.recording_files.specs.Recorders.{State, KeepsWithin, due_for}
 use Rattle.ipfix_session.proofs.Chains.{known-append}
 use Rattle.recording_files.proofs.Beside.{has-push}
 use Rattle.ipfix_session.proofs.Accounts.{of_last-push}
@@ -64,10 +65,11 @@ due_more all x d o is = rw (has-push all x d) (by_test (eqb d x.header.domain) r
     by_test true e = rw (right (has all d)) (ap (λ (p : Option ℕ). Some p) (sym (own_in e)))
     by_test false e = rw (left (has all d), own_out e) is
 
-pub keeps_on : (s t : State) (before here : List Message) (x : Message) (h : Header) (records unknown : ℕ) → Keeps s before here → t.domains.spent ≡ false → StandsFor t.domains.domains x.domains
+pub keeps_on : (limit : Option ℕ) (s t : State) (before here : List Message) (x : Message) (h : Header) (records unknown : ℕ) → KeepsWithin limit s before here → t.domains.spent ≡ false → StandsFor t.domains.domains x.domains → t.limit ≡ s.limit
+    → IsWithin limit x.domains
     → h ≡ x.header → records ≡ count_in x → unknown ≡ x.decoding.passed_over.unknown_sets
-    → t.due ≡ insert_entry eqb s.due h.domain (due_for h records unknown) → t.here ≡ insert_entry eqb s.here h.domain true → t.kept ≡ kept_then s.kept x → Keeps t before (here ++ x ∷ [])
-keeps_on s t before here x h records unknown keeps fresh stands is_header is_records is_unknown is_due is_here is_kept =
+    → t.due ≡ insert_entry eqb s.due h.domain (due_for h records unknown) → t.here ≡ insert_entry eqb s.here h.domain true → t.kept ≡ kept_then s.kept x → KeepsWithin limit t before (here ++ x ∷ [])
+keeps_on limit s t before here x h records unknown keeps fresh stands same_limit fits is_header is_records is_unknown is_due is_here is_kept =
     let now : known_after [] (before ++ (here ++ x ∷ [])) ≡ x.domains = ap (known_after []) (sym (append_assoc before here (x ∷ []))) ∙ known-append [] (before ++ here) (x ∷ []) in
     let due : due_for h records unknown ≡ due_after x = rw (is_header, is_records, is_unknown) refl in
     let where_to : insert_entry eqb s.due h.domain (due_for h records unknown) ≡ insert_entry eqb s.due x.header.domain (due_after x) =
@@ -75,6 +77,8 @@ keeps_on s t before here x h records unknown keeps fresh stands is_header is_rec
     record {
       not_spent = fresh;
       known = rw now stands;
+      has_limit = same_limit ∙ keeps.has_limit;
+      within = subst (IsWithin limit) (sym now) fits;
       due = λ d.
           ap (lookup (eqb d)) (is_due ∙ where_to) ∙ lookup-insert s.due x.header.domain (due_after x) d ∙ due_more (before ++ here) x d (lookup (eqb d) s.due) (keeps.due d)
           ∙ ap (λ (ms : List Message). cond (has ms d) (Some (due_of (messages_of d ms))) None) (append_assoc before here (x ∷ []));
@@ -93,12 +97,17 @@ keeps_on s t before here x h records unknown keeps fresh stands is_header is_rec
 abbrev read_as : Result Header MessageFault → Result Header MessageFault
 read_as r = r
 
+-- nothing counts nothing
+pub none_fit : (limit : Option ℕ) → IsWithin limit []
+none_fit None = tt
+none_fit (Some n) = omega arith
+
 -- a message's header is the one that is read
 pub one_header : (m : List ℕ) (h k : Header) → message_header m ≡ Ok h → message_header m ≡ Ok k → h ≡ k
 one_header m h k one other = let both : read_as (Ok h) ≡ read_as (Ok k) = sym one ∙ other in cc
 
 -- a file that has a domain has a message
-has_begun : (s : State) (before here : List Message) → Keeps s before here → 0 < length s.here → here ≡ [] → ⊥
+has_begun : {limit : Option ℕ} (s : State) (before here : List Message) → KeepsWithin limit s before here → 0 < length s.here → here ≡ [] → ⊥
 has_begun s before here keeps some none = by_cases s.here keeps.in_file some
   where
     found : (d : ℕ) (b : Bool) (es : List (ℕ × Bool)) → is_some (lookup (eqb d) ((d, b) ∷ es)) ≡ true
@@ -110,7 +119,7 @@ has_begun s before here keeps some none = by_cases s.here keeps.in_file some
         let yes : true ≡ false = sym (found e.0 e.1 es) ∙ in_file e.0 ∙ ap (λ (ms : List Message). has ms e.0) none in
         absurd cc
 
-none_begun : (s : State) (before here : List Message) → Keeps s before here → length s.here ≡ 0 → here ≡ []
+none_begun : {limit : Option ℕ} (s : State) (before here : List Message) → KeepsWithin limit s before here → length s.here ≡ 0 → here ≡ []
 none_begun s before [] keeps none = refl
 none_begun s before (x ∷ xs) keeps none = absurd (by_cases s.here (keeps.in_file x.header.domain) none)
   where
@@ -122,7 +131,7 @@ none_begun s before (x ∷ xs) keeps none = absurd (by_cases s.here (keeps.in_fi
     by_cases (e ∷ es) in_file none = omega (arith, none)
 
 -- whether a file has a message
-pub begun : (s : State) (before here : List Message) (b : Bool) → Keeps s before here → IsTrue b ↔ (length s.here ≡ 0) → MatchBool (not b) (here ≢ []) (here ≡ [])
+pub begun : {limit : Option ℕ} (s : State) (before here : List Message) (b : Bool) → KeepsWithin limit s before here → IsTrue b ↔ (length s.here ≡ 0) → MatchBool (not b) (here ≢ []) (here ≡ [])
 begun s before here true keeps is = none_begun s before here keeps (is.0 refl)
 begun s before here false keeps is = has_begun s before here keeps (omega (arith, some))
   where

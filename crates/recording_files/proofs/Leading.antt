@@ -21,7 +21,7 @@ use Rattle.ipfix_session.specs.TemplateLists.{AreInForce}
 use Rattle.recording_files.specs.Recordings.{has, begins_again, stamp_for, Leads}
 use Rattle.recording_files.specs.Heads.{AppendsHead, goes_on_with, head_messages, number_at, number_in, stamp_at, written}
 use Rattle.recording_files.specs.KeptOptions.{Kept, kept_after}
-use Rattle.recording_files.specs.Recorders.{Heading, Keeps, Leading, State}
+use Rattle.recording_files.specs.Recorders.{Heading, KeepsWithin, Leading, State}
 use Rattle.recording_files.proofs.Beside.{has-append}
 use Rattle.recording_files.proofs.KeptCopied.{template_for-is}
 use Rattle.ipfix_session.proofs.Ledgers.{own-append}
@@ -50,7 +50,7 @@ is_due d e false h = absurd cc
 nothing_leads : (before here : List Message) (h : Header) (old : List ℕ) → begins_again before here h.domain ≡ false → Leading before here h old old
 nothing_leads before here h old off = record { lead = []; is = rw off refl; octets = sym (append-nil old) }
 
-pub new_domain : (s : State) (before here : List Message) (h : Header) (old : List ℕ) → Keeps s before here → lookup (eqb h.domain) s.due ≡ None → Leading before here h old old
+pub new_domain : {limit : Option ℕ} (s : State) (before here : List Message) (h : Header) (old : List ℕ) → KeepsWithin limit s before here → lookup (eqb h.domain) s.due ≡ None → Leading before here h old old
 new_domain s before here h old keeps none =
     let both = or_false (has before h.domain) (has here h.domain) (sym (has-append before here h.domain) ∙ not_due (due_of (messages_of h.domain (before ++ here))) (has (before ++ here) h.domain) (sym (keeps.due h.domain) ∙ none)) in
     let was : has before h.domain ≡ false = both.0 in
@@ -60,13 +60,13 @@ and_not_true : (a : Bool) → (a && not true) ≡ false
 and_not_true true = refl
 and_not_true false = refl
 
-pub is_here : (s : State) (before here : List Message) (h : Header) (old : List ℕ) → Keeps s before here → is_some (lookup (eqb h.domain) s.here) ≡ true → Leading before here h old old
+pub is_here : {limit : Option ℕ} (s : State) (before here : List Message) (h : Header) (old : List ℕ) → KeepsWithin limit s before here → is_some (lookup (eqb h.domain) s.here) ≡ true → Leading before here h old old
 is_here s before here h old keeps there =
     let now : has here h.domain ≡ true = sym (keeps.in_file h.domain) ∙ there in
     nothing_leads before here h old (rw now (and_not_true (has before h.domain)))
 
 -- where it does, its templates do
-begins : (s : State) (before here : List Message) (h : Header) (due : Option ℕ) → Keeps s before here → lookup (eqb h.domain) s.due ≡ Some due → is_some (lookup (eqb h.domain) s.here) ≡ false
+begins : {limit : Option ℕ} (s : State) (before here : List Message) (h : Header) (due : Option ℕ) → KeepsWithin limit s before here → lookup (eqb h.domain) s.due ≡ Some due → is_some (lookup (eqb h.domain) s.here) ≡ false
     → (begins_again before here h.domain ≡ true) × (due_of (messages_of h.domain before) ≡ due)
 begins s before here h due keeps found absent =
     let now : has here h.domain ≡ false = sym (keeps.in_file h.domain) ∙ absent in
@@ -84,7 +84,7 @@ abbrev with_sequence : Header → ℕ → Stamp
 with_sequence h n = record { export_time = h.export_time; sequence = n; domain = h.domain }
 
 -- the octets of a preamble of these templates lead the message
-pub leads : (s : State) (before here : List Message) (h : Header) (due : Option ℕ) (sequence : ℕ) (ts : List Template) (old new : List ℕ) → Keeps s before here → lookup (eqb h.domain) s.due ≡ Some due
+pub leads : {limit : Option ℕ} (s : State) (before here : List Message) (h : Header) (due : Option ℕ) (sequence : ℕ) (ts : List Template) (old new : List ℕ) → KeepsWithin limit s before here → lookup (eqb h.domain) s.due ≡ Some due
     → is_some (lookup (eqb h.domain) s.here) ≡ false → sequence ≡ unwrap_or due h.sequence → h.export_time < 2 ^ 32 → sequence < 2 ^ 32 → h.domain < 2 ^ 32
     → AreInForce ts (events_in (known_after [] (before ++ here)) h.domain) → All IsTemplate ts
     → new ≡ old ++ octets_of (preamble (record { export_time = h.export_time; sequence = sequence; domain = h.domain }) ts)
@@ -125,7 +125,7 @@ pub bare : (old new : List ℕ) (s : Stamp) → new ≡ old ++ templates_message
 bare old new s is = is ∙ ap (λ (w : List ℕ). old ++ w) (sym (append-nil (templates_message s [])))
 
 -- the sequence number that is due
-pub due_is : (s : State) (before here : List Message) (d : ℕ) → Keeps s before here → option_flatten (lookup (eqb d) s.due) ≡ due_of (messages_of d (before ++ here))
+pub due_is : {limit : Option ℕ} (s : State) (before here : List Message) (d : ℕ) → KeepsWithin limit s before here → option_flatten (lookup (eqb d) s.due) ≡ due_of (messages_of d (before ++ here))
 due_is s before here d keeps = by_cases (has (before ++ here) d) refl (keeps.due d)
   where
     by_cases : (b : Bool) → has (before ++ here) d ≡ b → lookup (eqb d) s.due ≡ cond b (Some (due_of (messages_of d (before ++ here)))) None → option_flatten (lookup (eqb d) s.due) ≡ due_of (messages_of d (before ++ here))
@@ -140,7 +140,7 @@ no_heading before [] h old some = absurd (some refl)
 no_heading before (x ∷ xs) h old some = record { head = []; is = refl; octets = sym (append-nil old) }
 
 -- the records that are written are those of the session's earlier files
-pub heading : (s : State) (before here : List Message) (h : Header) (old new : List ℕ) → Keeps s before here → here ≡ [] → h.export_time < 2 ^ 32 → h.sequence < 2 ^ 32
+pub heading : {limit : Option ℕ} (s : State) (before here : List Message) (h : Header) (old new : List ℕ) → KeepsWithin limit s before here → here ≡ [] → h.export_time < 2 ^ 32 → h.sequence < 2 ^ 32
     → AppendsHead (known_after [] (before ++ here)) (number_at s.due (stamp_at h)) h.export_time s.kept old new → Heading before here h old new
 heading s before here h old new keeps none time small appends =
     let all : before ++ here ≡ before = ap (λ (hs : List Message). before ++ hs) none ∙ append-nil before in

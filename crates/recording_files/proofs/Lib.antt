@@ -12,6 +12,7 @@ pub mod PreamblesAre
 pub mod Leading
 pub mod Keeping
 pub mod Growing
+pub mod Limited
 pub mod FileCounts
 pub mod Counts
 pub mod Gatherings

@@ -1,5 +1,5 @@
 -- Recording a session, read by read.
-use Rattle.std.proofs.Common.{◌≡◌, ℕ, ◌+◌, ◌<◌, ◌≤◌, eqb, List, [], ◌∷◌, ◌++◌, length, Result, Ok, Err, refl, sym, ap, subst, ◌∙◌, arith, inl, inr}
+use Rattle.std.proofs.Common.{◌≡◌, ℕ, ◌+◌, ◌<◌, ◌≤◌, eqb, List, [], ◌∷◌, ◌++◌, length, Option, Result, Ok, Err, refl, sym, ap, subst, ◌∙◌, arith, inl, inr}
 use Rattle.std.specs.Prelude.{◌⊎◌, ◌-◌, ◌^◌, ◌||◌, Bool, true, take, OnOk, IfErr}
 use Rattle.std.specs.Io.KnownBytes.{Consumes}
 use Rattle.std.proofs.KnownBytes.{Consumes-nil, Consumes-trans, Consumes-kept}
@@ -11,10 +11,11 @@ use Rattle.ipfix_session.specs.declared.stop.Stop.{Stop}
 use Rattle.ipfix_session.specs.declared.stop.Stop.TheVariants.{Clean, Short, Fault}
 use Rattle.ipfix_session.specs.declared.source.ReadError.TheVariants.{Interrupted, Failed}
 use Rattle.ipfix_session.specs.MessageStream.{rest_stop}
-use Rattle.ipfix_session.specs.Given.{stop_of, IsOpen}
+use Rattle.ipfix_session.specs.Given.{stop_within, IsOpen}
 use Rattle.ipfix_session.specs.Sources.{SourceView, IsRead, one_more}
 use Rattle.ipfix_session.specs.declared.driver.TheConstants.{READ_SIZE}
-use Rattle.ipfix_session.specs.Drives.{IsDue, StopsAtFault}
+use Rattle.ipfix_session.specs.declared.session_limits.SessionLimits.{SessionLimits}
+use Rattle.ipfix_session.specs.Drives.{IsDueWithin, StopsWithin}
 use Rattle.ipfix_session.proofs.Cut.{next_stop}
 use Rattle.ipfix_session.proofs.Reaching.{never_clean}
 use Rattle.ipfix_session.proofs.Driving.{counted_on, tells_none, told_end}
@@ -57,26 +58,26 @@ interrupted now after buffer read = record {
 module _ {S C : Type 0} (seen : S → SourceView) (asked : C → ClockView) where
   -- after this many reads, after each of which the clock was asked, the files hold the whole messages of what the source gave,
   -- and left is what follows them
-  pub record Reading (n : ℕ) (before now : S) (start clock : C) (first v : FilesView) (g : Gathering) (left : List ℕ) : Type 0 where
+  pub record Reading (limit : Option ℕ) (n : ℕ) (before now : S) (start clock : C) (first v : FilesView) (g : Gathering) (left : List ℕ) : Type 0 where
     pub reads : List (AskedRead S C)
     pub are : AreAskedReads seen asked before start reads
     pub source_is : source_behind before reads ≡ now
     pub clock_is : clock_behind start reads ≡ clock
     pub octets : Consumes (seen before).text (seen now).text (octets_read reads)
-    pub recorded : HasRecorded (progress_after first reads) v g left
+    pub recorded : HasRecorded (progress_after limit first reads) v g left
     pub within : (seen now).reads ≤ (seen before).reads + n
     pub counted : ((seen now).reads ≡ (seen before).reads + n) ⊎ ((seen now).reads ≡ 2 ^ 64 - 1)
     pub none_failed : (seen now).failed ≡ (seen before).failed
     pub not_ended : (seen now).ended ≡ (seen before).ended
 
-  pub reading_first : (source : S) (clock : C) (v : FilesView) (g : Gathering) (left : List ℕ) → left ≡ [] → IsFresh g → IsEmpty v.contents → Reading 0 source source clock clock v v g left
-  reading_first source clock v g left none new fresh = record {
+  pub reading_first : (limit : Option ℕ) (source : S) (clock : C) (v : FilesView) (g : Gathering) (left : List ℕ) → left ≡ [] → IsFresh limit g → IsEmpty v.contents → Reading limit 0 source source clock clock v v g left
+  reading_first limit source clock v g left none new fresh = record {
     reads = [];
     are = tt;
     source_is = refl;
     clock_is = refl;
     octets = Consumes-nil (seen source).text;
-    recorded = subst (λ (w : List ℕ). HasRecorded (progress_after {S = S} {C = C} v []) v g w) (sym none) (nothing_recorded v g new fresh);
+    recorded = subst (λ (w : List ℕ). HasRecorded (progress_after {S = S} {C = C} limit v []) v g w) (sym none) (nothing_recorded limit v g new fresh);
     within = omega arith;
     counted = inl (omega arith);
     none_failed = refl;
@@ -86,7 +87,7 @@ module _ {S C : Type 0} (seen : S → SourceView) (asked : C → ClockView) wher
   abbrev asked_read : List ℕ → Bool → S → C → AskedRead S C
   asked_read piece is_over after clock = record { octets = piece; is_over = is_over; source = after; clock = clock }
 
-  module _ {n : ℕ} {before now : S} {start clock : C} {first v : FilesView} {g : Gathering} {left : List ℕ} (d : Reading n before now start clock first v g left) (after : S) where
+  module _ {limit : Option ℕ} {n : ℕ} {before now : S} {start clock : C} {first v : FilesView} {g : Gathering} {left : List ℕ} (d : Reading limit n before now start clock first v g left) (after : S) where
     -- one read more, and the clock's answer after it
     one_read : (then : C) (piece : List ℕ) (is_over : Bool) → ReadsOn (seen now) (seen after) piece → IsAnswer (asked clock) is_over (asked then) → AreAskedReads seen asked before start (asked_read piece is_over after then ∷ d.reads)
     one_read then piece is_over on answer =
@@ -96,7 +97,7 @@ module _ {S C : Type 0} (seen : S → SourceView) (asked : C → ClockView) wher
         (subst (λ (k : C). IsAskedRead seen asked (source_behind before d.reads) k h) (sym d.clock_is) there, d.are)
 
     pub reading_on : (then : C) (w : FilesView) (h : Gathering) (more piece : List ℕ) (is_over : Bool) → ReadsOn (seen now) (seen after) piece → IsAnswer (asked clock) is_over (asked then)
-        → HasRecorded (with_read piece (turned_if is_over (progress_after first d.reads))) w h more → Reading (n + 1) before after start then first w h more
+        → HasRecorded (with_read piece (turned_if is_over (progress_after limit first d.reads))) w h more → Reading limit (n + 1) before after start then first w h more
     reading_on then w h more piece is_over on answer next = record {
       reads = asked_read piece is_over after then ∷ d.reads;
       are = one_read then piece is_over on answer;
@@ -111,7 +112,7 @@ module _ {S C : Type 0} (seen : S → SourceView) (asked : C → ClockView) wher
     }
 
     -- nothing is read after a fault
-    stops_at : (gave piece : List ℕ) → (seen after).reads ≤ (seen now).reads + 1 → gave ≡ octets_read d.reads ++ piece → length piece ≤ READ_SIZE → StopsAtFault seen before gave after
+    stops_at : (gave piece : List ℕ) → (seen after).reads ≤ (seen now).reads + 1 → gave ≡ octets_read d.reads ++ piece → length piece ≤ READ_SIZE → StopsWithin seen limit before gave after
     stops_at gave piece few is fits = record {
       at = now;
       earlier = octets_read d.reads;
@@ -127,13 +128,13 @@ module _ {S C : Type 0} (seen : S → SourceView) (asked : C → ClockView) wher
 
 -- ---- why it goes no further
 
-due_by : (limit : ℕ) (before after : SourceView) (text : List ℕ) (f : RecordFault) → StopsAt f text → IsDue (fault_of (Err f)) limit text before after
-due_by limit before after text (OfMessage OutOfMemory) due = tt
-due_by limit before after text (OfMessage e) due = due
-due_by limit before after text NotWritten due = tt
-due_by limit before after text Truncated due = absurd due
-due_by limit before after text ReadFailed due = absurd due
-due_by limit before after text TooManyReads due = absurd due
+due_by : (limits : SessionLimits) (before after : SourceView) (text : List ℕ) (f : RecordFault) → StopsAt limits.templates f text → IsDueWithin (fault_of (Err f)) limits text before after
+due_by limits before after text (OfMessage OutOfMemory) due = tt
+due_by limits before after text (OfMessage e) due = due
+due_by limits before after text NotWritten due = tt
+due_by limits before after text Truncated due = absurd due
+due_by limits before after text ReadFailed due = absurd due
+due_by limits before after text TooManyReads due = absurd due
 
 short_is : (left : List ℕ) (s : Stop) → 0 < length left → rest_stop left ≡ s → IsOpen s → s ≡ Short
 short_is [] s some e is_open = absurd (omega (arith, some))
@@ -141,10 +142,10 @@ short_is (b ∷ w) Clean some e is_open = absurd (never_clean b w e)
 short_is (b ∷ w) Short some e is_open = refl
 short_is (b ∷ w) (Fault f) some e is_open = absurd is_open
 
-module _ {S F C : Type 0} (seen : S → SourceView) (view : F → FilesView) (asked : C → ClockView) (limit : ℕ) (first last : F) where
-  module _ {n : ℕ} {before now : S} {start clock : C} {g : Gathering} {left : List ℕ} (d : Reading seen asked n before now start clock (view first) (view last) g left) (after : S) where
-    pub records_fault : (more : F) (then : C) (h : Gathering) (piece : List ℕ) (is_over : Bool) (f : RecordFault) → n < limit → length piece ≤ READ_SIZE → ReadsOn (seen now) (seen after) piece → IsAnswer (asked clock) is_over (asked then)
-        → StopsRecording f (with_read piece (turned_if is_over (progress_after (view first) d.reads))) (view more) h → RecordsTo seen view asked limit before after first more start then (Err f) (Counted h.counts.told)
+module _ {S F C : Type 0} (seen : S → SourceView) (view : F → FilesView) (asked : C → ClockView) (limits : SessionLimits) (first last : F) where
+  module _ {n : ℕ} {before now : S} {start clock : C} {g : Gathering} {left : List ℕ} (d : Reading seen asked limits.templates n before now start clock (view first) (view last) g left) (after : S) where
+    pub records_fault : (more : F) (then : C) (h : Gathering) (piece : List ℕ) (is_over : Bool) (f : RecordFault) → n < limits.reads → length piece ≤ READ_SIZE → ReadsOn (seen now) (seen after) piece → IsAnswer (asked clock) is_over (asked then)
+        → StopsRecording f (with_read piece (turned_if is_over (progress_after limits.templates (view first) d.reads))) (view more) h → RecordsTo seen view asked limits before after first more start then (Err f) (Counted h.counts.told)
     unfolding stops_at
     records_fault more then h piece is_over f less room on answer stops =
         let gave = octets_read d.reads ++ piece in
@@ -155,7 +156,7 @@ module _ {S F C : Type 0} (seen : S → SourceView) (view : F → FilesView) (as
             octets = Consumes-trans (seen before).text (seen now).text (seen after).text (octets_read d.reads) piece d.octets on.moved;
             within = omega (arith, d.within, on.counted, less);
             stops = stops_at seen asked d after gave piece (omega (arith, on.counted)) refl room;
-            fault_is_due = due_by limit (seen before) (seen after) gave f stops.0;
+            fault_is_due = due_by limits (seen before) (seen after) gave f stops.0;
           };
           last_answer = refl;
           one_read = omega arith;
@@ -163,9 +164,9 @@ module _ {S F C : Type 0} (seen : S → SourceView) (view : F → FilesView) (as
         }
 
     -- the last read gave nothing
-    records_still : (answer : Result (Unit {0}) RecordFault) → Consumes (seen before).text (seen after).text (octets_read d.reads) → (seen after).reads ≤ (seen before).reads + limit
-        → (seen after).reads ≤ (seen now).reads + 1 → IsDue (fault_of answer) limit (octets_read d.reads) (seen before) (seen after) → HoldsBy (Counted g.counts.told) answer (progress_after (view first) d.reads) (view last)
-        → RecordsTo seen view asked limit before after first last start clock answer (Counted g.counts.told)
+    records_still : (answer : Result (Unit {0}) RecordFault) → Consumes (seen before).text (seen after).text (octets_read d.reads) → (seen after).reads ≤ (seen before).reads + limits.reads
+        → (seen after).reads ≤ (seen now).reads + 1 → IsDueWithin (fault_of answer) limits (octets_read d.reads) (seen before) (seen after) → HoldsBy (Counted g.counts.told) answer (progress_after limits.templates (view first) d.reads) (view last)
+        → RecordsTo seen view asked limits before after first last start clock answer (Counted g.counts.told)
     unfolding stops_at
     records_still answer octets within few due holds =
         let gave = octets_read d.reads in
@@ -184,8 +185,8 @@ module _ {S F C : Type 0} (seen : S → SourceView) (view : F → FilesView) (as
         }
 
     -- the end of the source
-    pub records_ended : (count : ℕ) (buffer : List ℕ) (answer : Result (Unit {0}) RecordFault) → n < limit → IsRead (seen now) (Ok count) (seen after) buffer → count ≡ 0 → 0 < length buffer
-        → OnOk answer (left ≡ []) → IfErr answer (λ fault. (fault ≡ Truncated) × (0 < length left)) → RecordsTo seen view asked limit before after first last start clock answer (Counted g.counts.told)
+    pub records_ended : (count : ℕ) (buffer : List ℕ) (answer : Result (Unit {0}) RecordFault) → n < limits.reads → IsRead (seen now) (Ok count) (seen after) buffer → count ≡ 0 → 0 < length buffer
+        → OnOk answer (left ≡ []) → IfErr answer (λ fault. (fault ≡ Truncated) × (0 < length left)) → RecordsTo seen view asked limits before after first last start clock answer (Counted g.counts.told)
     records_ended count buffer answer less read none room whole cut =
         let gave = octets_read d.reads in
         let same : List ℕ → Type 0 = λ x. Consumes (seen before).text (seen after).text x in
@@ -194,35 +195,35 @@ module _ {S F C : Type 0} (seen : S → SourceView) (view : F → FilesView) (as
         let stop = stop_is d.recorded ∙ sym (next_stop left d.recorded.is_rest.stop d.recorded.is_rest.none) in
         by_answer answer octets stop (told_end (seen now).ended (seen after).ended count buffer read.end none room) (read.failures ∙ d.none_failed) whole cut
       where
-        by_answer : (r : Result (Unit {0}) RecordFault) → Consumes (seen before).text (seen after).text (octets_read d.reads) → stop_of (octets_read d.reads) ≡ rest_stop left → (seen after).ended ≡ true
-            → (seen after).failed ≡ (seen before).failed → OnOk r (left ≡ []) → IfErr r (λ fault. (fault ≡ Truncated) × (0 < length left)) → RecordsTo seen view asked limit before after first last start clock r (Counted g.counts.told)
+        by_answer : (r : Result (Unit {0}) RecordFault) → Consumes (seen before).text (seen after).text (octets_read d.reads) → stop_within limits.templates (octets_read d.reads) ≡ rest_stop left → (seen after).ended ≡ true
+            → (seen after).failed ≡ (seen before).failed → OnOk r (left ≡ []) → IfErr r (λ fault. (fault ≡ Truncated) × (0 < length left)) → RecordsTo seen view asked limits before after first last start clock r (Counted g.counts.told)
         by_answer (Ok x) octets stop ended failed none_left cut =
             records_still (Ok x) octets (omega (arith, d.within, read.counted, less)) (omega (arith, read.counted)) (stop ∙ ap rest_stop none_left, ended, failed) (all_held d.recorded)
         by_answer (Err f) octets stop ended failed whole both =
             let rest = d.recorded.is_rest in
             let short = short_is left rest.stop both.1 (next_stop left rest.stop rest.none) rest.is_open in
-            subst (λ (e : RecordFault). RecordsTo seen view asked limit before after first last start clock (Err e) (Counted g.counts.told)) (sym both.0)
+            subst (λ (e : RecordFault). RecordsTo seen view asked limits before after first last start clock (Err e) (Counted g.counts.told)) (sym both.0)
             (records_still (Err Truncated) octets (omega (arith, d.within, read.counted, less)) (omega (arith, read.counted)) (stop_is d.recorded ∙ short, ended, failed) (all_held d.recorded))
 
-    pub records_failed : (buffer : List ℕ) → n < limit → IsRead (seen now) (Err Failed) (seen after) buffer → RecordsTo seen view asked limit before after first last start clock (Err ReadFailed) (Counted g.counts.told)
+    pub records_failed : (buffer : List ℕ) → n < limits.reads → IsRead (seen now) (Err Failed) (seen after) buffer → RecordsTo seen view asked limits before after first last start clock (Err ReadFailed) (Counted g.counts.told)
     records_failed buffer less read =
         records_still (Err ReadFailed)
         (Consumes-kept (seen before).text (seen now).text (seen after).text (octets_read d.reads) d.octets read.moved) (omega (arith, d.within, read.counted, less)) (omega (arith, read.counted))
         (open_yet d.recorded, read.failures ∙ ap one_more d.none_failed) (all_held d.recorded)
 
-  pub records_limit : {n : ℕ} {before now : S} {start clock : C} {g : Gathering} {left : List ℕ} (d : Reading seen asked n before now start clock (view first) (view last) g left) → n ≡ limit
-      → RecordsTo seen view asked limit before now first last start clock (Err TooManyReads) (Counted g.counts.told)
+  pub records_limit : {n : ℕ} {before now : S} {start clock : C} {g : Gathering} {left : List ℕ} (d : Reading seen asked limits.templates n before now start clock (view first) (view last) g left) → n ≡ limits.reads
+      → RecordsTo seen view asked limits before now first last start clock (Err TooManyReads) (Counted g.counts.told)
   records_limit {n} {before} {now} d all =
       records_still d now (Err TooManyReads) d.octets (omega (arith, d.within, all)) (omega arith)
       (open_yet d.recorded, subst (λ (k : ℕ). ((seen now).reads ≡ (seen before).reads + k) ⊎ ((seen now).reads ≡ 2 ^ 64 - 1)) all d.counted, d.none_failed, d.not_ended) (all_held d.recorded)
 
 -- no memory for a buffer
-pub records_nowhere : {S F C : Type 0} (seen : S → SourceView) (view : F → FilesView) (asked : C → ClockView) (limit : ℕ) (source : S) (files : F) (clock : C) (g : Gathering) → IsFresh g → IsEmpty (view files).contents
-    → RecordsTo seen view asked limit source source files files clock clock (Err (OfMessage OutOfMemory)) (Counted g.counts.told)
+pub records_nowhere : {S F C : Type 0} (seen : S → SourceView) (view : F → FilesView) (asked : C → ClockView) (limits : SessionLimits) (source : S) (files : F) (clock : C) (g : Gathering) → IsFresh limits.templates g → IsEmpty (view files).contents
+    → RecordsTo seen view asked limits source source files files clock clock (Err (OfMessage OutOfMemory)) (Counted g.counts.told)
 unfolding reading_first
-records_nowhere seen view asked limit source files clock g new fresh =
-    let d = reading_first seen asked source clock (view files) g [] refl new fresh in
-    records_still seen view asked limit files files d source (Err (OfMessage OutOfMemory)) d.octets (omega arith) (omega arith) tt (earlier_held d.recorded refl)
+records_nowhere seen view asked limits source files clock g new fresh =
+    let d = reading_first seen asked limits.templates source clock (view files) g [] refl new fresh in
+    records_still seen view asked limits files files d source (Err (OfMessage OutOfMemory)) d.octets (omega arith) (omega arith) tt (earlier_held d.recorded refl)
 
 -- ---- other words for what is told
 
@@ -262,13 +263,13 @@ module _ {told tells : List Message → List Message → Type 0} (goes : (before
   by_told (Err ReadFailed) p after h = all_told p after h
   by_told (Err TooManyReads) p after h = all_told p after h
 
-  pub records_told : {S F C : Type 0} (seen : S → SourceView) (view : F → FilesView) (asked : C → ClockView) (limit : ℕ) (before after : S) (first last : F) (start clock : C) (answer : Result (Unit {0}) RecordFault)
-      → RecordsTo seen view asked limit before after first last start clock answer told → RecordsTo seen view asked limit before after first last start clock answer tells
-  records_told seen view asked limit before after first last start clock answer r = record {
+  pub records_told : {S F C : Type 0} (seen : S → SourceView) (view : F → FilesView) (asked : C → ClockView) (limits : SessionLimits) (before after : S) (first last : F) (start clock : C) (answer : Result (Unit {0}) RecordFault)
+      → RecordsTo seen view asked limits before after first last start clock answer told → RecordsTo seen view asked limits before after first last start clock answer tells
+  records_told seen view asked limits before after first last start clock answer r = record {
     reads = r.reads;
     are_reads = r.are_reads;
     given = r.given;
     last_answer = r.last_answer;
     one_read = r.one_read;
-    holds = by_told answer (progress_after (view first) r.reads) (view last) r.holds;
+    holds = by_told answer (progress_after limits.templates (view first) r.reads) (view last) r.holds;
   }

@@ -1,9 +1,9 @@
 -- What a recording is for: its files say what the session said.
-use Rattle.std.specs.Prelude.{◌≡◌, ℕ, ◌+◌, ◌==◌, Bool, false, List, [], ◌∷◌, ◌++◌, flat_map, All, Contains}
+use Rattle.std.specs.Prelude.{◌≡◌, ℕ, ◌+◌, ◌==◌, Bool, false, List, [], ◌∷◌, ◌++◌, flat_map, All, Contains, Option}
 use Rattle.ipfix_message.specs.Domains.{Message}
 use Rattle.ipfix_message.specs.declared.record.DataRecord.{DataRecord}
 use Rattle.ipfix_session.specs.declared.stop.Stop.TheVariants.{Clean}
-use Rattle.ipfix_session.specs.Given.{gives, stop_of, records_of, records_in, octets_of, IsOpen, IsPrefix}
+use Rattle.ipfix_session.specs.Given.{gives, stop_of, records_of, records_within, records_in, octets_of, IsOpen, IsPrefix}
 use Rattle.ipfix_session.specs.Ledger.{messages_of, lost_between, backward_between, sum_neighbours}
 use Rattle.recording_files.specs.Heads.{told_first}
 use Rattle.recording_files.specs.Recordings.{Part}
@@ -69,22 +69,22 @@ abbrev pub TellAgain : List DataRecord → List FileRecords → Type 0
 TellAgain before [] = Unit {0}
 TellAgain before (r ∷ rs) = All (IsToldAgain before) r.told × TellAgain (before ++ r.came) rs
 
--- each of these files is read by itself, with no fault, and one after another they give the records of a text, but for what they
--- tell again
-pub record GiveRecordsOf (files : List (List ℕ)) (text : List ℕ) : Type 0 where
+-- each of these files is read by itself, with no fault, and one after another they give the records of a text, whose templates may
+-- count so much, or anything, but for what they tell again
+pub record GiveRecordsOf (limit : Option ℕ) (files : List (List ℕ)) (text : List ℕ) : Type 0 where
   pub stops : All (λ file. stop_of file ≡ Clean) files
   pub parts : List FileRecords
   pub are : flat_map records_of files ≡ flat_map all_in parts
-  pub records : flat_map (λ r. r.came) parts ≡ records_of text
+  pub records : flat_map (λ r. r.came) parts ≡ records_within limit text
   pub again : TellAgain [] parts
 
 -- each of these files is read by itself, with no fault, though it may end within a message, and one after another they give the
--- first records of a text, but for what they tell again
-pub record GiveFirstRecordsOf (files : List (List ℕ)) (text : List ℕ) : Type 0 where
+-- first records of such a text, but for what they tell again
+pub record GiveFirstRecordsOf (limit : Option ℕ) (files : List (List ℕ)) (text : List ℕ) : Type 0 where
   pub stops : All (λ file. IsOpen (stop_of file)) files
   pub parts : List FileRecords
   pub are : IsPrefix (flat_map records_of files) (flat_map all_in parts)
-  pub records : IsPrefix (flat_map (λ r. r.came) parts) (records_of text)
+  pub records : IsPrefix (flat_map (λ r. r.came) parts) (records_within limit text)
   pub again : TellAgain [] parts
 
 -- ---- a recording

@@ -1,8 +1,8 @@
 -- When a file is finished: where a clock tells that its period is over.
-use Rattle.std.specs.Prelude.{◌≡◌, ℕ, Bool, if◌then◌else◌, List, [], ◌∷◌, ◌++◌, length, drop, flat_map}
+use Rattle.std.specs.Prelude.{◌≡◌, ℕ, Bool, if◌then◌else◌, List, [], ◌∷◌, ◌++◌, length, drop, flat_map, Option}
 use Rattle.std.specs.Io.KnownBytes.{Consumes}
 use Rattle.ipfix_message.specs.Domains.{Message}
-use Rattle.ipfix_session.specs.Given.{gives}
+use Rattle.ipfix_session.specs.Given.{given_within}
 use Rattle.ipfix_session.specs.Sources.{SourceView, one_more}
 
 -- ---- a clock, and the reads that it is asked after
@@ -59,11 +59,11 @@ abbrev pub octets_before : {S C : Type 0} → List (AskedRead S C) → List ℕ
 octets_before [] = []
 octets_before (h ∷ hs) = octets_read hs
 
--- ---- the files by their periods
+-- ---- the files by their periods, in a session whose templates may count so much, or anything
 
 -- the messages of a text that stand in none of these finished files
-abbrev pub unfinished_in : List ℕ → List (List Message) → List Message
-unfinished_in text files = drop (length (flat_map (λ file. file) files)) (gives text).messages
+abbrev pub unfinished_in : Option ℕ → List ℕ → List (List Message) → List Message
+unfinished_in limit text files = drop (length (flat_map (λ file. file) files)) (given_within limit text).messages
 
 -- and with these messages as one more file; where there are none there is no file
 abbrev pub with_file : List (List Message) → List Message → List (List Message)
@@ -71,11 +71,11 @@ with_file files [] = files
 with_file files (m ∷ ms) = files ++ (m ∷ ms) ∷ []
 
 -- the finished files after an answer: if the period is over, the messages that the text had before are a file
-abbrev pub finished_at : Bool → List ℕ → List (List Message) → List (List Message)
-finished_at is_over text files = if is_over then with_file files (unfinished_in text files) else files
+abbrev pub finished_at : Option ℕ → Bool → List ℕ → List (List Message) → List (List Message)
+finished_at limit is_over text files = if is_over then with_file files (unfinished_in limit text files) else files
 
 -- the messages of each finished file: those that were whole before a read after which the clock told that the period is over,
 -- and since the last such read. So a file is finished where the clock tells so, if it has a message, and nowhere else.
-abbrev pub finished_by : {S C : Type 0} → List (AskedRead S C) → List (List Message)
-finished_by [] = []
-finished_by (h ∷ hs) = finished_at h.is_over (octets_read hs) (finished_by hs)
+abbrev pub finished_by : {S C : Type 0} → Option ℕ → List (AskedRead S C) → List (List Message)
+finished_by limit [] = []
+finished_by limit (h ∷ hs) = finished_at limit h.is_over (octets_read hs) (finished_by limit hs)

@@ -2,7 +2,8 @@
 use Rattle.std.specs.Prelude.{◌≡◌, ℕ, ◌+◌, ◌%◌, ◌^◌, ◌==◌, Bool, false, MatchBool, is_some, nat_eq, if◌then◌else◌, List, [], ◌∷◌, ◌++◌, length, Option, Some, None, Ok}
 use Rattle.std.specs.Map.{lookup}
 use Rattle.ipfix_wire.specs.declared.header.Header.{Header}
-use Rattle.ipfix_message.specs.Domains.{DomainsView, Message, StandsFor, message_gives}
+use Rattle.ipfix_message.specs.Domains.{DomainsView, Message, StandsFor}
+use Rattle.ipfix_message.specs.TemplateLimits.{IsWithin, message_within}
 use Rattle.ipfix_session.specs.Given.{known_after, octets_of, records_in}
 use Rattle.ipfix_session.specs.Ledger.{count_in, messages_of, due_of}
 use Rattle.ipfix_session.specs.Feeding.{Counts, Tells}
@@ -13,20 +14,29 @@ use Rattle.recording_files.specs.KeptOptions.{Kept, kept_after}
 use Rattle.recording_files.specs.Recordings.{has, begins_again, Leads, Precedes}
 use Rattle.recording_files.specs.FileReports.{file_report}
 
--- the domains, the sequence number that is due in each, the domains that the file has, and the options records that are kept
+-- the domains, what their templates may count, the sequence number that is due in each, the domains that the file has, and the
+-- options records that are kept
 pub record State : Type 0 where
   pub domains : DomainsView
+  pub limit : Option ℕ
   pub due : List (ℕ × Option ℕ)
   pub here : List (ℕ × Bool)
   pub kept : List Kept
 
--- a recorder stands for these messages of earlier files and of this one
-pub record Keeps (s : State) (before here : List Message) : Type 0 where
+-- a recorder whose templates may count so much, or anything, stands for these messages of earlier files and of this one
+pub record KeepsWithin (limit : Option ℕ) (s : State) (before here : List Message) : Type 0 where
   pub not_spent : s.domains.spent ≡ false
   pub known : StandsFor s.domains.domains (known_after [] (before ++ here))
+  pub has_limit : s.limit ≡ limit
+  -- the templates that it keeps count no more
+  pub within : IsWithin limit (known_after [] (before ++ here))
   pub due : (domain : ℕ) → lookup (nat_eq domain) s.due ≡ (if has (before ++ here) domain then Some (due_of (messages_of domain (before ++ here))) else None)
   pub in_file : (domain : ℕ) → is_some (lookup (nat_eq domain) s.here) ≡ has here domain
   pub kept : s.kept ≡ kept_after (before ++ here)
+
+-- without a limit
+abbrev pub Keeps : State → List Message → List Message → Type 0
+Keeps s before here = KeepsWithin None s before here
 
 -- what is written at the head of a file, if a message with this header is its first
 pub record Heading (before here : List Message) (h : Header) (old new : List ℕ) : Type 0 where
@@ -47,14 +57,17 @@ pub record IsCountOf (c : MessageCount) (m : Message) : Type 0 where
   pub passed_over : m.decoding.passed_over ≡ c.passed_over
 
 -- a message was recorded: it was read, and follows what precedes it
-pub record Records (before here : List Message) (s : State) (m octets : List ℕ) (count : MessageCount) : Type 0 where
+pub record RecordsWithin (limit : Option ℕ) (before here : List Message) (s : State) (m octets : List ℕ) (count : MessageCount) : Type 0 where
   pub given : Message
-  pub read : message_gives (known_after [] (before ++ here)) m ≡ Ok given
+  pub read : message_within limit (known_after [] (before ++ here)) m ≡ Ok given
   pub lead : List (List ℕ)
   pub is : Precedes before here given.header lead
   pub octets_are : octets ≡ octets_of lead ++ m
-  pub keeps : Keeps s before (here ++ given ∷ [])
+  pub keeps : KeepsWithin limit s before (here ++ given ∷ [])
   pub counts : IsCountOf count given
+
+abbrev pub Records : List Message → List Message → State → List ℕ → List ℕ → MessageCount → Type 0
+Records before here s m octets count = RecordsWithin None before here s m octets count
 
 -- the sequence number that is due after a message with this header, so many records and so many unknown sets
 abbrev pub due_for : Header → ℕ → ℕ → Option ℕ

@@ -4,10 +4,11 @@ use Rattle.ipfix_message.specs.Domains.{Message}
 use Rattle.ipfix_message.specs.declared.fault.MessageFault.TheVariants.{OutOfMemory}
 use Rattle.ipfix_session.specs.declared.fault.SessionFault.{SessionFault}
 use Rattle.ipfix_session.specs.declared.fault.SessionFault.TheVariants as faults
-use Rattle.ipfix_session.specs.Given.{gives, IsPrefix, octets_of, records_in}
+use Rattle.ipfix_session.specs.declared.session_limits.SessionLimits.{SessionLimits}
+use Rattle.ipfix_session.specs.Given.{given_within, IsPrefix, octets_of, records_in}
 use Rattle.ipfix_session.specs.Sources.{SourceView, one_more}
 use Rattle.ipfix_session.specs.Places.{CountsInFull}
-use Rattle.ipfix_session.specs.Drives.{Gave}
+use Rattle.ipfix_session.specs.Drives.{GaveWithin}
 use Rattle.recording_files.specs.declared.record_fault.RecordFault.{RecordFault}
 use Rattle.recording_files.specs.declared.record_fault.RecordFault.TheVariants.{Message as OfMessage, Truncated, ReadFailed, TooManyReads, NotWritten}
 use Rattle.recording_files.specs.declared.file_report.FileReport.{FileReport}
@@ -20,6 +21,8 @@ use Rattle.recording_files.specs.Periods.{ClockView, AskedRead, AreAskedReads, c
 
 -- how far a recording has come
 pub record Progress : Type 0 where
+  -- what the templates of the session may count, if they have a limit
+  pub limit : Option ℕ
   -- the octets that its reads gave, and those of the reads before the last
   pub text : List ℕ
   pub earlier : List ℕ
@@ -29,8 +32,8 @@ pub record Progress : Type 0 where
   pub first : FilesView
 
 -- after these reads, of which the newest comes first
-abbrev pub progress_after : {S C : Type 0} → FilesView → List (AskedRead S C) → Progress
-progress_after first reads = record { text = octets_read reads; earlier = octets_before reads; finished = finished_by reads; first = first }
+abbrev pub progress_after : {S C : Type 0} → Option ℕ → FilesView → List (AskedRead S C) → Progress
+progress_after limit first reads = record { limit = limit; text = octets_read reads; earlier = octets_before reads; finished = finished_by limit reads; first = first }
 
 -- the octets of the file that a part stands in
 abbrev pub file_octets : Part → List ℕ
@@ -57,17 +60,17 @@ abbrev pub Stands : Option Contents → Option Contents → List Part → Part �
 Stands first after finished last cut_off = StandsWith (file_reports [] finished) first after finished last cut_off
 
 -- the first octets of what was to stand next in a file: the next messages of a text, and what precedes them
-pub record IsCutOff (text : List ℕ) (before here : List Message) (cut_off : List ℕ) : Type 0 where
+pub record IsCutOff (limit : Option ℕ) (text : List ℕ) (before here : List Message) (cut_off : List ℕ) : Type 0 where
   pub messages : List (List ℕ)
   pub given : List Message
   pub file : List (List ℕ)
   pub writes : Writes before here messages given file
-  pub next : IsPrefix (before ++ (here ++ given)) (gives text).messages
+  pub next : IsPrefix (before ++ (here ++ given)) (given_within limit text).messages
   pub first : IsPrefix cut_off (octets_of file)
 
--- the first messages of a text stand in the files that came after the first ones, and after them, in the last file, octets
--- that are no whole message
-pub record Holds (text : List ℕ) (first after : FilesView) (cut_off : List ℕ) : Type 0 where
+-- the first messages of a text, whose templates may count so much, or anything, stand in the files that came after the first
+-- ones, and after them, in the last file, octets that are no whole message
+pub record Holds (limit : Option ℕ) (text : List ℕ) (first after : FilesView) (cut_off : List ℕ) : Type 0 where
   pub finished : List Part
   pub last : Part
   -- the files are a recording: `recordings_are_faithful` says what that is worth
@@ -79,7 +82,7 @@ pub record Holds (text : List ℕ) (first after : FilesView) (cut_off : List ℕ
   pub left : List ℕ
   pub octets : text ≡ octets_of (all_messages (parts finished last)) ++ left
   -- and they give what they give in the session, which has no fault before
-  pub given : IsPrefix (all_given (parts finished last)) (gives text).messages
+  pub given : IsPrefix (all_given (parts finished last)) (given_within limit text).messages
 
 -- the messages of each of these parts
 abbrev pub files_of : List Part → List (List Message)
@@ -89,7 +92,7 @@ files_of ps = map (λ p. p.given) ps
 module _ (told : List Message → List Message → Type 0) where
   -- no call of the files failed, and those whose period is over are finished
   pub record HoldsSome (p : Progress) (after : FilesView) : Type 0 where
-    pub holds : Holds p.text p.first after []
+    pub holds : Holds p.limit p.text p.first after []
     pub finished : files_of holds.finished ≡ p.finished
     pub not_failed : after.failed ≡ p.first.failed
     pub tells : told (all_given holds.finished) holds.last.given
@@ -97,12 +100,12 @@ module _ (told : List Message → List Message → Type 0) where
   -- and the files have all messages of the text, up to its end or its first fault
   pub record HoldsAll (p : Progress) (after : FilesView) : Type 0 where
     pub some : HoldsSome p after
-    pub all : all_given (parts some.holds.finished some.holds.last) ≡ (gives p.text).messages
+    pub all : all_given (parts some.holds.finished some.holds.last) ≡ (given_within p.limit p.text).messages
 
   -- and the files have at least all messages that the reads before the last had given
   pub record HoldsEarlier (p : Progress) (after : FilesView) : Type 0 where
     pub some : HoldsSome p after
-    pub at_least : IsPrefix (gives p.earlier).messages (all_given (parts some.holds.finished some.holds.last))
+    pub at_least : IsPrefix (given_within p.limit p.earlier).messages (all_given (parts some.holds.finished some.holds.last))
 
   -- a file was finished, and no message has come after it; it is told as the one that isn't finished
   pub record TellsOfFinished (finished : List Part) (last : Part) : Type 0 where
@@ -116,9 +119,9 @@ module _ (told : List Message → List Message → Type 0) where
   -- most the first octets of what was to stand there next
   pub record HoldsCut (p : Progress) (after : FilesView) : Type 0 where
     pub cut_off : List ℕ
-    pub holds : Holds p.text p.first after cut_off
-    pub all : all_given (parts holds.finished holds.last) ≡ (gives p.earlier).messages
-    pub next : IsCutOff p.text (all_given holds.finished) holds.last.given cut_off
+    pub holds : Holds p.limit p.text p.first after cut_off
+    pub all : all_given (parts holds.finished holds.last) ≡ (given_within p.limit p.earlier).messages
+    pub next : IsCutOff p.limit p.text (all_given holds.finished) holds.last.given cut_off
     -- these files are finished, or all but the last of them
     pub finished : (files_of holds.finished ≡ p.finished) ⊎ (files_of (parts holds.finished holds.last) ≡ p.finished)
     pub failed : after.failed ≡ one_more p.first.failed
@@ -142,15 +145,15 @@ fault_of (Err NotWritten) = Some faults.SinkClosed
 
 -- the reads of a source gave octets up to this answer, which is due, and the files hold their messages, which are told; a file is
 -- finished where the clock, asked after each read, tells that the period is over
-pub record RecordsTo {S F C : Type 0} (seen : S → SourceView) (view : F → FilesView) (asked : C → ClockView) (limit : ℕ) (before after : S) (first last : F) (start end : C)
+pub record RecordsTo {S F C : Type 0} (seen : S → SourceView) (view : F → FilesView) (asked : C → ClockView) (limits : SessionLimits) (before after : S) (first last : F) (start end : C)
     (answer : Result (Unit {0}) RecordFault) (told : List Message → List Message → Type 0) : Type 0 where
   -- after each read that gave octets, or was interrupted, the clock was asked once, and not otherwise
   pub reads : List (AskedRead S C)
   pub are_reads : AreAskedReads seen asked before start reads
-  pub given : Gave seen limit before (octets_read reads) after (fault_of answer)
+  pub given : GaveWithin seen limits before (octets_read reads) after (fault_of answer)
   pub last_answer : clock_behind start reads ≡ end
   pub one_read : (seen after).reads ≤ (seen (source_behind before reads)).reads + 1
-  pub holds : HoldsBy told answer (progress_after (view first) reads) (view last)
+  pub holds : HoldsBy told answer (progress_after limits.templates (view first) reads) (view last)
 
 -- the report of a recorded session is that of all its messages
 pub record IsReported (r : RecordedSession) (before here : List Message) : Type 0 where
@@ -165,17 +168,17 @@ pub record IsTold (r : RecordedSession) (before here : List Message) : Type 0 wh
   pub last : r.last ≡ file_report before here
 
 -- and the reports tell them
-abbrev pub RecordsSession : {S F C : Type 0} → (S → SourceView) → (F → FilesView) → (C → ClockView) → ℕ → S → S → F → F → C → C → RecordedSession → Type 0
-RecordsSession seen view asked limit before after first last start end r = RecordsTo seen view asked limit before after first last start end r.ended (IsTold r)
+abbrev pub RecordsSession : {S F C : Type 0} → (S → SourceView) → (F → FilesView) → (C → ClockView) → SessionLimits → S → S → F → F → C → C → RecordedSession → Type 0
+RecordsSession seen view asked limits before after first last start end r = RecordsTo seen view asked limits before after first last start end r.ended (IsTold r)
 
 -- the session of a source with this text was recorded without a fault, and took the first files to the last
 pub record RecordsAll {S F C : Type 0} (seen : S → SourceView) (view : F → FilesView) (asked : C → ClockView) (text : List ℕ) (first last : F) : Type 0 where
-  pub limit : ℕ
+  pub limits : SessionLimits
   pub before : S
   pub after : S
   pub start : C
   pub end : C
   pub session : RecordedSession
-  pub records : RecordsSession seen view asked limit before after first last start end session
+  pub records : RecordsSession seen view asked limits before after first last start end session
   pub no_fault : session.ended ≡ Ok tt
   pub text_is : (seen before).text ≡ Some text

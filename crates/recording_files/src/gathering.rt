@@ -44,12 +44,12 @@ pub struct Gathering {
 }
 
 impl Gathering {
-    /// The start of a session.
-    pub fn new(alloc: Global) -> Self
-        ensures { IsFresh result }
+    /// The start of a session whose templates may count so much together, if they have a limit.
+    pub fn new(alloc: Global, limit: Option<u64>) -> Self
+        ensures { IsFresh limit result }
     {
         Gathering {
-            recorder: Recorder::new(alloc),
+            recorder: Recorder::with_limit(alloc, limit),
             counts: SessionCounts::new(alloc),
             out: Vec::new(alloc),
             lead: Vec::new(alloc),

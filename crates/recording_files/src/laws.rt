@@ -1,15 +1,16 @@
 //! Laws of the definitions. Each is a function that does nothing, and its contract is the theorem: a
 //! call brings that to the proof of its caller.
 
-ghost use Rattle.std.specs.Prelude.{◌≡◌, ◌≢◌, ◌++◌, ◌∷◌, ℕ, All, List, [], Err, Some, filter, flat_map};
+ghost use Rattle.std.specs.Prelude.{◌≡◌, ◌≢◌, ◌≤◌, ◌++◌, ◌∷◌, ℕ, All, List, [], Err, Option, Some, None, filter, flat_map};
 ghost use Rattle.ipfix_message.specs.Domains.{Message};
+ghost use Rattle.ipfix_message.specs.TemplateLimits.{fields_in};
 ghost use Rattle.ipfix_session.specs.declared.stop.Stop.TheVariants.{Clean};
 ghost use Rattle.ipfix_session.specs.declared.fault.SessionFault.{SessionFault};
 ghost use Rattle.ipfix_session.specs.Faults as sessions;
-ghost use Rattle.ipfix_session.specs.Given.{IsPrefix, records_in, records_of, stop_of};
+ghost use Rattle.ipfix_session.specs.Given.{IsPrefix, known_after, records_in, records_of, records_within, stop_of};
 ghost use Rattle.recording_files.specs.declared.recorded_session.RecordedSession.{RecordedSession};
 ghost use Rattle.recording_files.specs.Files.{Contents, FilesView, AreSeen, all_of};
-ghost use Rattle.recording_files.specs.Sessions.{Progress, HoldsSome, HoldsAll, HoldsCut, IsTold, RecordsAll, fault_of};
+ghost use Rattle.recording_files.specs.Sessions.{Progress, Holds, HoldsSome, HoldsAll, HoldsCut, IsTold, RecordsAll, fault_of, parts};
 ghost use Rattle.recording_files.specs.Recordings.{Part, Recorded};
 ghost use Rattle.recording_files.specs.Heads.{told_first};
 ghost use Rattle.recording_files.specs.Faithful.{IsFaithful, IsToldAgain, GiveRecordsOf, GiveFirstRecordsOf, all_given, is_flow};
@@ -37,10 +38,12 @@ pub fn options_are_told_again()
 
 /// Files that give the records of a text, but for what they tell again, give its flow records: those that are no options records.
 pub fn flow_records_are_those_of_the_text()
-    ensures all { (files : List (List ℕ)) (text : List ℕ) → GiveRecordsOf files text
-        → filter is_flow (flat_map records_of files) ≡ filter is_flow (records_of text) }
-    ensures first { (files : List (List ℕ)) (text : List ℕ) → GiveFirstRecordsOf files text
-        → IsPrefix (filter is_flow (flat_map records_of files)) (filter is_flow (records_of text)) }
+    ensures all { (limit : Option ℕ) (files : List (List ℕ)) (text : List ℕ)
+        → GiveRecordsOf limit files text → filter is_flow (flat_map records_of files)
+        ≡ filter is_flow (records_within limit text) }
+    ensures first { (limit : Option ℕ) (files : List (List ℕ)) (text : List ℕ)
+        → GiveFirstRecordsOf limit files text → IsPrefix
+        (filter is_flow (flat_map records_of files)) (filter is_flow (records_within limit text)) }
 {}
 
 /// What stands in the files of a recorded session, where all messages of a text do: each file is read by
@@ -49,7 +52,7 @@ pub fn flow_records_are_those_of_the_text()
 pub fn files_give_the_records()
     ensures { (p : Progress) (after : FilesView) (start now : Contents) (r : RecordedSession)
         → HoldsAll (IsTold r) p after → AreSeen p.first after start now → start.finished ≡ []
-        → GiveRecordsOf (all_of now) p.text }
+        → GiveRecordsOf p.limit (all_of now) p.text }
 {}
 
 /// What stands there where a call of the files failed: the files, of which the last may end within a
@@ -58,7 +61,7 @@ pub fn files_give_the_records()
 pub fn files_keep_whole_messages()
     ensures { (p : Progress) (after : FilesView) (start now : Contents) (r : RecordedSession)
         → HoldsCut (IsTold r) p after → AreSeen p.first after start now → start.finished ≡ []
-        → GiveFirstRecordsOf (all_of now) p.text }
+        → GiveFirstRecordsOf p.limit (all_of now) p.text }
 {}
 
 /// The reports of the files, with that of the file that isn't finished, add up to the session's, each sum
@@ -88,5 +91,13 @@ pub fn recorded_to_the_end<S: Source, F: FileSeries, C: PeriodClock>()
     ensures { (text : List ℕ) (first last : F) (start now : Contents)
         → RecordsAll S.seen F.seen C.asked text first last
         → AreSeen (F.seen first) (F.seen last) start now → start.finished ≡ []
-        → (stop_of text ≡ Clean) × GiveRecordsOf (all_of now) text }
+        → (stop_of text ≡ Clean) × GiveRecordsOf None (all_of now) text }
+{}
+
+/// After the messages of a recorded session that stand in its files, its templates count no more than its limit, whatever was
+/// sent.
+pub fn recorded_templates_are_within()
+    ensures { (limit : ℕ) (text cut_off : List ℕ) (first after : FilesView)
+        → (h : Holds (Some limit) text first after cut_off)
+        → fields_in (known_after [] (all_given (parts h.finished h.last))) ≤ limit }
 {}

@@ -3,7 +3,7 @@
 ghost use Rattle.std.specs.Prelude.{◌≡◌, ◌++◌, ℕ, List, OnOk, OnErr, IfErr};
 ghost use Rattle.ipfix_session.specs.Buffers.{IsRest};
 ghost use Rattle.ipfix_session.specs.MessageSinks.{Reads, TookFirst};
-ghost use Rattle.recording_files.specs.Recorders.{Keeps};
+ghost use Rattle.recording_files.specs.Recorders.{KeepsWithin};
 ghost use Rattle.recording_files.specs.Counting.{CountsUpTo};
 ghost use Rattle.recording_files.specs.Files.{Appends};
 ghost use Rattle.recording_files.specs.Sessions.{Progress};
@@ -73,7 +73,8 @@ fn gather(
     piece: &[u8],
 ) -> Result<(), SessionFault>
     ensures { (b : BeforeRead) → IsRest buffer.old.items
-        → Keeps gathering.old.recorder b.before b.here → gathering.old.counts.told ≡ b.told
+        → KeepsWithin b.limit gathering.old.recorder b.before b.here
+        → gathering.old.counts.told ≡ b.told
         → Reads gathering_view b result (buffer.old.items ++ piece.now) gathering.new tt
         buffer.new.items }
 {

@@ -1,15 +1,16 @@
 //! What a file of a session has for each message.
 
-ghost use Rattle.std.specs.Prelude.{◌≡◌, ◌≢◌, ◌++◌, [], List, Ok, OnOk, IfOk, IfErr, MatchBool, fold, nat_eq, true, false};
+ghost use Rattle.std.specs.Prelude.{◌≡◌, ◌≢◌, ◌++◌, [], List, Ok, Option, ℕ, OnOk, IfOk, IfErr, MatchBool, fold, nat_eq, true, false};
 ghost use Rattle.indexmap.specs.IndexMap.{insert_entry};
-ghost use Rattle.ipfix_message.specs.Domains.{History, Message, StandsFor, message_header, message_gives};
+ghost use Rattle.ipfix_message.specs.Domains.{History, Message, StandsFor, message_header};
 ghost use Rattle.ipfix_message.specs.Outcome.{Fails};
+ghost use Rattle.ipfix_message.specs.TemplateLimits.{message_within};
 ghost use Rattle.ipfix_session.specs.Given.{known_after};
 ghost use Rattle.ipfix_session.specs.Ledger.{messages_of, due_of};
 ghost use Rattle.recording_files.specs.Heads as head;
 ghost use Rattle.recording_files.specs.KeptOptions.{kept_with};
 ghost use Rattle.recording_files.specs.Preambles.{IsStamp};
-ghost use Rattle.recording_files.specs.Recorders.{Heading, Keeps, Leading, Records, due_for};
+ghost use Rattle.recording_files.specs.Recorders.{Heading, Keeps, KeepsWithin, Leading, RecordsWithin, due_for};
 
 use crate::head::append_head;
 use crate::kept_options::{KeptOptions, keep_options};
@@ -21,11 +22,12 @@ use ipfix_wire::Header;
 use std::alloc::{AllocError, Global};
 use std::marker::Model;
 
-/// What is kept of a session while it is recorded: its domains, the sequence number that is due in
-/// each, which of them the file has, and the last options records that told when the exporter was started or how it samples.
+/// What is kept of a session while it is recorded: its domains, what their templates may count, the sequence number that is due
+/// in each, which of them the file has, and the last options records that told when the exporter was started or how it samples.
 #[derive(Drop)]
 pub struct Recorder {
     domains: Domains,
+    limit: Option<u64>,
     due: IndexMap<u32, Option<u32>>,
     here: IndexMap<u32, bool>,
     kept: Vec<KeptOptions>,
@@ -39,6 +41,7 @@ impl Model for Recorder {
 
     ghost view = { λ r. record {
       domains = r.domains;
+      limit = r.limit;
       due = r.due.entries;
       here = r.here.entries;
       kept = r.kept.items;
@@ -58,12 +61,21 @@ fn stamp_at(header: Header) -> Stamp
 }
 
 impl Recorder {
-    /// The start of a session's first file.
+    /// The start of a session's first file, without a limit of its templates.
     pub fn new(alloc: Global) -> Self
         ensures { Keeps result [] [] }
     {
+        Recorder::with_limit(alloc, None)
+    }
+
+    /// The start of the first file of a session whose templates may count so much together, if they have a limit: as
+    /// [`SessionLimits`](ipfix_session::SessionLimits) says.
+    pub fn with_limit(alloc: Global, limit: Option<u64>) -> Self
+        ensures { KeepsWithin limit result [] [] }
+    {
         Recorder {
             domains: Domains::new(alloc),
+            limit,
             due: IndexMap::new(alloc),
             here: IndexMap::new(alloc),
             kept: Vec::new(alloc),
@@ -73,15 +85,17 @@ impl Recorder {
 
     /// Begins the session's next file.
     pub fn turn(&mut self)
-        ensures { (before here : List Message) → Keeps self.old before here
-            → Keeps self.new (before ++ here) [] }
+        ensures { (limit : Option ℕ) (before here : List Message)
+            → KeepsWithin limit self.old before here
+            → KeepsWithin limit self.new (before ++ here) [] }
     {
         self.here.clear();
     }
 
     /// Whether a message was recorded in this file.
     pub fn has_begun(&self) -> bool
-        ensures { (before here : List Message) → Keeps self.now before here
+        ensures { (limit : Option ℕ) (before here : List Message)
+            → KeepsWithin limit self.now before here
             → MatchBool result (here ≢ []) (here ≡ []) }
     {
         !self.here.is_empty()
@@ -96,7 +110,8 @@ impl Recorder {
 
     /// The sequence number that is due in a domain; `None` if none is known there.
     pub fn due(&self, domain: u32) -> Option<u32>
-        ensures { (before here : List Message) → Keeps self.now before here
+        ensures { (limit : Option ℕ) (before here : List Message)
+            → KeepsWithin limit self.now before here
             → result ≡ due_of (messages_of domain (before ++ here)) }
     {
         self.due.get(&domain).copied().flatten()
@@ -105,7 +120,8 @@ impl Recorder {
     // Appends what stands at the head of a file, if the message is its first.
     fn append_head(&mut self, header: &Header, out: &mut Vec<u8>) -> Result<(), AllocError>
         ensures same { self.new ≡ self.old }
-        ensures head { (before here : List Message) → Keeps self.old before here
+        ensures head { (limit : Option ℕ) (before here : List Message)
+            → KeepsWithin limit self.old before here
             → OnOk result (Heading before here header.now out.old.items out.new.items) }
     {
         if !self.here.is_empty() {
@@ -119,7 +135,8 @@ impl Recorder {
     // Appends what stands before a message that begins its domain again.
     fn append_lead(&mut self, header: &Header, out: &mut Vec<u8>) -> Result<(), AllocError>
         ensures same { self.new ≡ self.old }
-        ensures lead { (before here : List Message) → Keeps self.old before here
+        ensures lead { (limit : Option ℕ) (before here : List Message)
+            → KeepsWithin limit self.old before here
             → OnOk result (Leading before here header.now out.old.items out.new.items) }
     {
         let Some(due) = self.due.get(&header.domain).copied() else {
@@ -142,6 +159,7 @@ impl Recorder {
     // Keeps what a message says of its domain.
     fn keep(&mut self, header: &Header, records: usize, unknown_sets: u64) -> Result<(), AllocError>
         ensures domains { self.new.domains ≡ self.old.domains }
+        ensures limit { self.new.limit ≡ self.old.limit }
         ensures kept { self.new.kept ≡ self.old.kept }
         ensures due { OnOk result (self.new.due ≡ insert_entry nat_eq self.old.due
             header.now.domain (due_for header.now records unknown_sets)) }
@@ -175,7 +193,8 @@ impl Recorder {
     /// message is the file's first; and its domain's templates, if this file has none of its messages and an earlier file has.
     /// What stood in `lead` before is gone. It answers what the message adds to the counts.
     ///
-    /// The fault is the message's, or `OutOfMemory`. After a fault the recorder is of no use.
+    /// The fault is the message's, or `OutOfMemory`: also `TooManyFields`, if after it the templates would count more than their
+    /// limit, whatever is sent. After a fault the recorder is of no use.
     pub fn take_message(
         &mut self,
         alloc: Global,
@@ -184,17 +203,20 @@ impl Recorder {
         lead: &mut Vec<u8>,
     ) -> Result<MessageCount, MessageFault>
         requires { message_header message.now ≡ Ok header.now }
-        ensures records { (before here : List Message) → Keeps self.old before here
-            → IfOk result (λ count.
-            Records before here self.new message.now (lead.new.items ++ message.now) count) }
-        ensures fails { (before here : List Message) → Keeps self.old before here
-            → IfErr result (λ fault.
-            Fails fault (message_gives (known_after [] (before ++ here)) message.now)) }
+        ensures records { (limit : Option ℕ) (before here : List Message)
+            → KeepsWithin limit self.old before here → IfOk result (λ count. RecordsWithin limit
+            before here self.new message.now (lead.new.items ++ message.now) count) }
+        ensures fails { (limit : Option ℕ) (before here : List Message)
+            → KeepsWithin limit self.old before here → IfErr result (λ fault.
+            Fails fault (message_within limit (known_after [] (before ++ here)) message.now)) }
     {
         lead.clear();
         self.append_head(header, lead)?;
         self.append_lead(header, lead)?;
-        let decoded = match self.domains.decode_with_header(alloc, header, message) {
+        let decoded = match self
+            .domains
+            .decode_within(alloc, header, message, self.limit)
+        {
             Ok(decoded) => decoded,
             Err(fault) => return Err(fault),
         };

@@ -14,7 +14,7 @@ use crate::reads::take_read;
 use crate::record_fault::RecordFault;
 use crate::recorded_session::RecordedSession;
 use ipfix_message::MessageFault;
-use ipfix_session::{READ_SIZE, ReadError, Source};
+use ipfix_session::{READ_SIZE, ReadError, SessionLimits, Source};
 use std::alloc::Global;
 
 // The answer at the end of the source.
@@ -29,7 +29,7 @@ fn answer_at_end(buffer: &[u8]) -> Result<(), RecordFault>
     }
 }
 
-/// Records the session of a source to its end or first fault, in at most `limit` reads. Each message
+/// Records the session of a source to its end or first fault, within these limits. Each message
 /// stands in a file as it came, after it was decoded. In a file, before the first message of a domain
 /// that an earlier file has, stands the domain's preamble: the templates in force there, so that each
 /// file can be read by itself. What the whole messages of a read have is written at once.
@@ -40,11 +40,12 @@ fn answer_at_end(buffer: &[u8]) -> Result<(), RecordFault>
 /// `ReadError::Interrupted` when it has passed, so that a silent session's file is finished too. The
 /// last file is left unfinished, and may be empty.
 ///
-/// The fault is that of the first malformed message; else `ReadFailed` is a read that failed,
-/// `TooManyReads` if `limit` reads haven't shown the end, `Truncated` if the octets end within a message.
-/// `NotWritten` is a call of the files that failed: the messages of earlier reads stand whole, and after
-/// them at most the first octets of what the read's messages have. `OutOfMemory` may come in place of
-/// any other.
+/// The fault is that of the first malformed message, or `TooManyFields` of the first after which the templates
+/// would count more than `limits.templates`, which isn't recorded: whatever is sent, those that are kept count no
+/// more. Else `ReadFailed` is a read that failed, `TooManyReads` if `limits.reads` reads haven't shown the end,
+/// `Truncated` if the octets end within a message. `NotWritten` is a call of the files that failed: the messages of
+/// earlier reads stand whole, and after them at most the first octets of what the read's messages have.
+/// `OutOfMemory` may come in place of any other.
 ///
 /// The reports are of the messages that stand whole, as [`drive_in_full`](ipfix_session::drive_in_full)
 /// tells them. If the files failed when one was to be finished, the last report is of that one.
@@ -53,14 +54,14 @@ pub fn record<S: Source, F: FileSeries, C: PeriodClock>(
     source: &mut S,
     files: &mut F,
     clock: &mut C,
-    limit: u64,
+    limits: SessionLimits,
 ) -> RecordedSession
     ensures { IsEmpty (F.seen files.old).contents
-        → RecordsSession S.seen F.seen C.asked limit source.old source.new
+        → RecordsSession S.seen F.seen C.asked limits source.old source.new
         files.old files.new clock.old clock.new result }
 {
-    let mut gathering = Gathering::new(alloc);
-    let ended = record_gathering(alloc, &mut gathering, source, files, clock, limit);
+    let mut gathering = Gathering::new(alloc, limits.templates);
+    let ended = record_gathering(alloc, &mut gathering, source, files, clock, limits);
     gathering.into_session(ended)
 }
 
@@ -71,11 +72,11 @@ fn record_gathering<S: Source, F: FileSeries, C: PeriodClock>(
     source: &mut S,
     files: &mut F,
     clock: &mut C,
-    limit: u64,
+    limits: SessionLimits,
 ) -> Result<(), RecordFault>
-    ensures { IsFresh gathering.old
+    ensures { IsFresh limits.templates gathering.old
         → IsEmpty (F.seen files.old).contents
-        → RecordsTo S.seen F.seen C.asked limit source.old source.new
+        → RecordsTo S.seen F.seen C.asked limits source.old source.new
         files.old files.new clock.old clock.new result (Counted gathering.new.counts.told) }
 {
     match vec![in alloc; 0; READ_SIZE] {
@@ -85,7 +86,7 @@ fn record_gathering<S: Source, F: FileSeries, C: PeriodClock>(
             source,
             files,
             clock,
-            limit,
+            limits,
             &mut buffer,
         ),
         Err(_) => Err(RecordFault::Message(MessageFault::OutOfMemory)),
@@ -99,18 +100,18 @@ fn record_through<S: Source, F: FileSeries, C: PeriodClock>(
     source: &mut S,
     files: &mut F,
     clock: &mut C,
-    limit: u64,
+    limits: SessionLimits,
     buffer: &mut [u8],
 ) -> Result<(), RecordFault>
     requires { 0 < length buffer.old }
     ensures { length buffer.old ≤ READ_SIZE
-        → IsFresh gathering.old
+        → IsFresh limits.templates gathering.old
         → IsEmpty (F.seen files.old).contents
-        → RecordsTo S.seen F.seen C.asked limit source.old source.new
+        → RecordsTo S.seen F.seen C.asked limits source.old source.new
         files.old files.new clock.old clock.new result (Counted gathering.new.counts.told) }
 {
     let mut begun = Vec::new(alloc);
-    for _ in 0..limit {
+    for _ in 0..limits.reads {
         match source.read(buffer) {
             Ok(0) => return answer_at_end(&begun),
             Ok(count) => {

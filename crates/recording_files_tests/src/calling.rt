@@ -4,6 +4,7 @@ ghost use Rattle.std.specs.Prelude.{◌≡◌, ◌<◌, ◌++◌, ◌∷◌, [],
 ghost use Rattle.ipfix_session.specs.Given.{records_of};
 ghost use Rattle.recording_files.specs.Faithful.{is_flow};
 
+use ipfix_session::SessionLimits;
 use recording_files::laws::{flow_records_are_those_of_the_text, recorded_to_the_end};
 use recording_files::{MemoryFiles, RecordedSession, ScriptClock, TickingSource, record};
 use std::alloc::Global;
@@ -28,6 +29,10 @@ pub fn record_in_memory(
     let mut source = TickingSource::new(text, piece);
     let mut files = MemoryFiles::new(alloc, room);
     let mut clock = ScriptClock::new(answers);
-    let session = record(alloc, &mut source, &mut files, &mut clock, u64::MAX);
+    let limits = SessionLimits {
+        reads: u64::MAX,
+        templates: None,
+    };
+    let session = record(alloc, &mut source, &mut files, &mut clock, limits);
     (files, session)
 }

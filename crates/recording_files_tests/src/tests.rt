@@ -7,3 +7,4 @@ mod preambles;
 mod reports;
 mod running;
 mod session;
+mod template_limits;

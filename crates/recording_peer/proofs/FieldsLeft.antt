@@ -12,7 +12,8 @@ use Rattle.ipfix_message.specs.Domains.{DomainsView, History, template_for}
 use Rattle.ipfix_message.specs.Kept.{kept}
 use Rattle.ipfix_message.specs.declared.record.Template.{Template}
 use Rattle.ipfix_message.specs.declared.template_record.Event.{Event}
-use Rattle.ipfix_datagrams.specs.Datagrams.{AreWeighed, Represents, Weighs, WeighsIf, barred_in, definition_of, fields_of, known_in, withdrawn_in}
+use Rattle.ipfix_message.specs.TemplateLimits.{fields_of}
+use Rattle.ipfix_datagrams.specs.Datagrams.{AreWeighed, Represents, Weighs, WeighsIf, barred_in, definition_of, known_in, withdrawn_in}
 use Rattle.ipfix_datagrams.specs.declared.known_templates.KnownTemplates.{KnownTemplates}
 use Rattle.ipfix_datagrams.proofs.InForce.{known_or}
 use Rattle.recording_files.specs.Files.{FilesView}

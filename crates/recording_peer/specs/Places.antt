@@ -6,9 +6,10 @@ use Rattle.std.specs.Option.{option_and_then}
 use Rattle.std.specs.Ordering.{nat_cmp, eq_by_cmp}
 use Rattle.ipfix_message.specs.Domains.{History}
 use Rattle.ipfix_message.specs.declared.record.Template.{Template}
-use Rattle.ipfix_datagrams.specs.Datagrams.{fields_of, known_in}
+use Rattle.ipfix_message.specs.TemplateLimits.{fields_of}
+use Rattle.ipfix_datagrams.specs.Datagrams.{known_in}
 use Rattle.ipfix_datagrams.specs.RecordsCame.{has_records}
-use Rattle.ipfix_datagrams.specs.declared.weighing.TheConstants.{DOMAIN_FIELDS}
+use Rattle.ipfix_message.specs.declared.template_limit.TheConstants.{DOMAIN_FIELDS}
 use Rattle.recording_peer.specs.Recording.{PeerView, barred_shown}
 
 -- what the template of an id counts, if there is one

@@ -4,8 +4,7 @@ ghost use Rattle.std.specs.Prelude.{◌≡◌, ◌-◌, nat_lt, option_copied, o
 ghost use Rattle.recording_peer.specs.Places.{fields_for, fields_in, fields_left, has_record, has_template};
 
 use crate::peer_recorder::PeerRecorder;
-use ipfix_datagrams::{DOMAIN_FIELDS, count_of};
-use ipfix_message::Templates;
+use ipfix_message::{DOMAIN_FIELDS, Templates, count_of};
 
 impl PeerRecorder {
     /// Whether a template of the peer is in force over UDP in one of its domains

@@ -103,6 +103,7 @@ read_piece r text rest piece none is is_open at =
         goes_on = λ o. record {
           rest = sym (same ∙ b.rest ∙ ap (λ (p : Parts (List ℕ)). p.rest) (parts_of-none next_message left stop at.is_rest.none));
           not_spent = b.taken.is_ready.not_spent;
+          has_limit = refl;
           known = subst (λ (ds : History). StandsFor r.messages.domains.domains ds) (sym (ap (known_after []) messages ∙ known-append [] old b.given)) b.taken.is_ready.stands;
         };
       };

@@ -1,5 +1,5 @@
 -- A file of an earlier run while it is read.
-use Rattle.std.specs.Prelude.{◌≡◌, ℕ, false, List, [], ◌++◌, length, nat_eq}
+use Rattle.std.specs.Prelude.{◌≡◌, ℕ, false, List, [], ◌++◌, length, nat_eq, None}
 use Rattle.indexmap.specs.IndexMap.{get}
 use Rattle.ipfix_message.specs.Domains.{Message, StandsFor}
 use Rattle.ipfix_session.specs.Feeding.{State, StandsForText, Tells}
@@ -27,15 +27,16 @@ messages_view = record {
   Before = List Message;
   known = λ before. known_after [] before;
   took = λ before m to messages given. HasCounted m (before ++ given);
+  limit = λ before. None;
   is_ready = λ before m given. KnowsAfter m before given;
   gave_part = λ before m to given next. ⊥;
 }
 
 -- what is kept, as that of a session
 abbrev pub session_of : EarlierReading → State
-session_of r = record { counts = counts_of r.messages.tally; domains = r.messages.domains; buffer = r.buffer.items; fault = r.fault }
+session_of r = record { counts = counts_of r.messages.tally; domains = r.messages.domains; limit = None; buffer = r.buffer.items; fault = r.fault }
 
 -- this text was read
 pub record HasReadSession (r : EarlierReading) (text : List ℕ) : Type 0 where
-  pub session : StandsForText (session_of r) text
+  pub session : StandsForText None (session_of r) text
   pub counted : HasCounted r.messages (gives text).messages

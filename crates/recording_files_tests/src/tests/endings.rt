@@ -3,7 +3,7 @@
 use super::running::{run, sums_of};
 use super::session::{SESSION_LENGTH, session};
 use ipfix_message::MessageFault;
-use ipfix_session::{ScriptSource, SessionFault};
+use ipfix_session::{ScriptSource, SessionFault, SessionLimits};
 use recording_files::{FileReport, MemoryFiles, RecordFault, ScriptClock, record};
 use std::alloc::Global;
 use std::test::*;
@@ -78,14 +78,18 @@ fn a_full_place(rt: HostRuntime) -> Result<(), Fail> {
 #[test]
 fn reads_that_end_it(rt: HostRuntime) -> Result<(), Fail> {
     let alloc: Global = rt.alloc();
-    for (fail_at, limit, fault, messages) in [
+    for (fail_at, reads, fault, messages) in [
         (Some(71), 100, RecordFault::ReadFailed, 1),
         (None, 2, RecordFault::TooManyReads, 2),
     ] {
         let mut source = ScriptSource::new(session(alloc)?, 71, None, fail_at);
         let mut files = MemoryFiles::new(alloc, 1000);
         let mut clock = ScriptClock::new(Vec::new(alloc));
-        let recorded = record(alloc, &mut source, &mut files, &mut clock, limit);
+        let limits = SessionLimits {
+            reads,
+            templates: None,
+        };
+        let recorded = record(alloc, &mut source, &mut files, &mut clock, limits);
         assert_eq!(rt; recorded.ended, Err(fault));
         assert_eq!(rt; recorded.last.messages, messages);
         assert_eq!(rt; recorded.report.report.messages, messages);

@@ -1,11 +1,12 @@
+use Rattle.recording_connections.specs.Serving.{limits_of}
 use Rattle.recording_connections.proofs.Told.{served-told, told-and}
 use Rattle.recording_connections.proofs.running.serve_session.Goals as goal
 
 pub returns : goal.returns
 returns g c =
     let Makes = g.P.SessionPlace.makes c.args.recorder.now.place in
-    served-told g.S.Source.seen g.S.Source.failure g.F.FileSeries.seen g.C.PeriodClock.asked g.F.RecordingFiles.finishes Makes c.args.connection.now c.record_connection.new.connection c.args.number.number c.args.recorder.now.order.now.verbosity _ _
+    served-told g.S.Source.seen g.S.Source.failure g.F.FileSeries.seen g.C.PeriodClock.asked g.F.RecordingFiles.finishes Makes c.args.connection.now c.record_connection.new.connection c.args.number.number (limits_of c.args.recorder.now.order.now) c.args.recorder.now.order.now.verbosity _ _
     (λ lines told. told-and _ _ _ _ _ _ _ _ _ _ c.and.ensures
     (told-and _ _ _ _ _ _ _ _ _ _ c.and-told.ensures c.write_event-told.ensures told)
     c.write_event.ensures)
-    c.record_connection.ensures
+    (rw c.limits.ensures at c.record_connection.ensures)

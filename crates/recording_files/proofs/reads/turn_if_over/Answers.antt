@@ -11,18 +11,18 @@ returns-then-not-is_over-clause-turned g c = λ p left b. rw c.if-not-is_over.tr
 
 pub returns-then-not-has_begun-clause-turned : goal.returns-then-not-has_begun-clause-turned
 returns-then-not-has_begun-clause-turned g c = λ p left b.
-    let none : b.last.given ≡ [] = rw c.if-not-has_begun.true at (c.has_begun.ensures (all_given b.finished) b.last.given b.keeps) in
+    let none : b.last.given ≡ [] = rw c.if-not-has_begun.true at (c.has_begun.ensures p.limit (all_given b.finished) b.last.given b.keeps) in
     rw c.if-not-is_over.false (unbegun b none)
 
 pub returns-in-Ok-clause-turned : goal.returns-in-Ok-clause-turned
 returns-in-Ok-clause-turned g c = λ p left b.
-    let some = rw c.if-not-has_begun.false at (c.has_begun.ensures (all_given b.finished) b.last.given b.keeps) in
+    let some = rw c.if-not-has_begun.false at (c.has_begun.ensures p.limit (all_given b.finished) b.last.given b.keeps) in
     rw c.if-not-is_over.false (has_turned b some _ _ (c.in-Ok.ensures ∙ ap (with_next (g.F.FileSeries.seen c.args.files.now)) c.file_report-report.ensures)
-    (c.turn-in-Ok.ensures (all_given b.finished) b.last.given b.keeps) (c.turn-in-Ok-2.ensures.told (all_given b.finished) b.last.given b.counted))
+    (c.turn-in-Ok.ensures p.limit (all_given b.finished) b.last.given b.keeps) (c.turn-in-Ok-2.ensures.told (all_given b.finished) b.last.given b.counted))
 
 pub returns-in-Err-clause-stops : goal.returns-in-Err-clause-stops
 returns-in-Err-clause-stops g c = λ p left piece b.
-    let some = rw c.if-not-has_begun.false at (c.has_begun.ensures (all_given b.finished) b.last.given b.keeps) in
+    let some = rw c.if-not-has_begun.false at (c.has_begun.ensures p.limit (all_given b.finished) b.last.given b.keeps) in
     let v = g.F.FileSeries.seen c.args.files.now in
     let after = g.F.FileSeries.seen c.turn.new.self in
     rw c.if-not-is_over.false (tt, ends_turning b some piece after (subst (λ (f : FileReport). (after ≡ failing v) ⊎ (after ≡ failing (with_next v f))) c.file_report-report.ensures c.in-Err.ensures))

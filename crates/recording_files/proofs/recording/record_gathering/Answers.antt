@@ -7,4 +7,4 @@ returns-in-Ok g c = λ new fresh. c.record_through.ensures (omega (arith, c.dere
 
 pub returns-in-Err : goal.returns-in-Err
 returns-in-Err g c = λ new fresh.
-    records_nowhere g.S.Source.seen g.F.FileSeries.seen g.C.PeriodClock.asked c.args.limit c.args.source.now c.args.files.now c.args.clock.now c.args.gathering.now new fresh
+    records_nowhere g.S.Source.seen g.F.FileSeries.seen g.C.PeriodClock.asked c.args.limits c.args.source.now c.args.files.now c.args.clock.now c.args.gathering.now new fresh

@@ -1,4 +1,4 @@
-use Rattle.std.proofs.Common.{[], refl, sym, ap, subst, map}
+use Rattle.std.proofs.Common.{[], None, refl, sym, ap, subst, map}
 use Rattle.ipfix_session.specs.Sources.{SourceView}
 use Rattle.recording_files.specs.Files.{Contents, FilesView, IsEmpty}
 use Rattle.recording_files_tests.proofs.calling.record_in_memory.Goals as goal
@@ -9,8 +9,8 @@ returns c = λ is.
     let start : Contents = record { finished = []; reports = []; unfinished = [] } in
     let now : Contents = record { finished = map (λ v. v.items) files.finished.items; reports = files.reports.items; unfinished = files.unfinished.items } in
     let fresh = subst (λ (v : FilesView). IsEmpty v.contents) (sym c.new-files.ensures) refl in
-    c.flow_records_are_those_of_the_text.ensures.all _ c.args.text.items (c.recorded_to_the_end.ensures c.args.text.items _ _ start now (record {
-      limit = _;
+    c.flow_records_are_those_of_the_text.ensures.all None _ c.args.text.items (c.recorded_to_the_end.ensures c.args.text.items _ _ start now (record {
+      limits = _;
       before = _;
       after = _;
       start = _;

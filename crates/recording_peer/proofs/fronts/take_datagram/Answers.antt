@@ -1,4 +1,4 @@
-use Rattle.std.proofs.Common.{◌≡◌, ◌++◌, ℕ, Option, refl, sym, ap, ap₂, ◌∙◌, rules}
+use Rattle.std.proofs.Common.{◌≡◌, ◌++◌, ℕ, Option, None, refl, sym, ap, ap₂, ◌∙◌, rules}
 use Rattle.std.specs.Option.{option_or, unwrap_or}
 use Rattle.std.proofs.lemmas.Result.{err_from_is_err_and}
 use Rattle.ipfix_message.specs.Domains.{message_gives}
@@ -39,7 +39,7 @@ returns c = λ before here second resumed barred x keeps left r.
     let d = none_defined before here c.take_withdrawals.new.recorder own q c.take_withdrawals.new.out.items e can.1 in
     let f : TookPrepared before here c.take_definitions.new.recorder own q c.take_definitions.new.out.items = c.in_ok-take_definitions.ensures before here q d in
     let number : c.unwrap_or.result ≡ unwrap_or (option_or c.due.result c.args.due_left) h.sequence = search rules in
-    let owns : own ≡ front_header resumed.due (before ++ here) h = ap (with_sequence h) (number ∙ ap₂ (λ (o p : Option ℕ). unwrap_or (option_or o p) h.sequence) (c.due.ensures before here keeps) (sym left)) in
+    let owns : own ≡ front_header resumed.due (before ++ here) h = ap (with_sequence h) (number ∙ ap₂ (λ (o p : Option ℕ). unwrap_or (option_or o p) h.sequence) (c.due.ensures None before here keeps) (sym left)) in
     answered c.take_and_append.result _ (λ fault. Fails fault (message_gives (domains_after before (here ++ f.front.given)) m)) _ (λ fault. fault ≡ OutOfMemory)
     (c.take_and_append.ensures.took before (here ++ f.front.given) f.front.keeps) (c.take_and_append.ensures.fails before (here ++ f.front.given) f.front.keeps)
     (λ count took. took_datagram before here c.take_definitions.new.recorder c.take_and_append.new.recorder m second h own resumed barred c.args.reading.now x c.take_definitions.new.out.items c.take_and_append.new.out.items count c.requires.header r.taken owns f took)

@@ -5,23 +5,23 @@ use Rattle.ipfix_session.specs.Given.{known_after}
 use Rattle.recording_files.specs.Heads.{AppendsHead, number_at, stamp_at}
 use Rattle.recording_files.specs.KeptOptions.{Kept}
 use Rattle.recording_files.specs.Preambles.{IsStamp}
-use Rattle.recording_files.specs.Recorders.{Keeps, State}
+use Rattle.recording_files.specs.Recorders.{KeepsWithin, State}
 use Rattle.recording_files.proofs.Keeping.{begun}
 use Rattle.recording_files.proofs.Leading.{heading, no_heading, on_ok}
 use Rattle.recording_files.proofs.recorder.Recorder.append_head.Goals as goal
 
 pub returns-then-not-is_empty-clause-head : goal.returns-then-not-is_empty-clause-head
-returns-then-not-is_empty-clause-head c = λ before here keeps.
-    let inside : State = record { domains = c.self.inside.domains; due = c.self.inside.due.entries; here = c.self.inside.here.entries; kept = c.self.inside.kept.items } in
-    let now : Keeps inside before here = subst (λ (s : State). Keeps s before here) (sym c.self.view_is) keeps in
+returns-then-not-is_empty-clause-head c = λ limit before here keeps.
+    let inside : State = record { domains = c.self.inside.domains; limit = c.self.inside.limit; due = c.self.inside.due.entries; here = c.self.inside.here.entries; kept = c.self.inside.kept.items } in
+    let now : KeepsWithin limit inside before here = subst (λ (s : State). KeepsWithin limit s before here) (sym c.self.view_is) keeps in
     let has : c.is_empty.result ≡ false = search rules in
     let some : here ≢ [] = subst (λ (b : Bool). MatchBool (not b) (here ≢ []) (here ≡ [])) has (begun inside before here c.is_empty.result now c.is_empty.ensures) in
     no_heading before here c.args.header.now c.args.out.now.items some
 
 pub returns-clause-head : goal.returns-clause-head
-returns-clause-head c = λ before here keeps.
-    let inside : State = record { domains = c.self.inside.domains; due = c.self.inside.due.entries; here = c.self.inside.here.entries; kept = c.self.inside.kept.items } in
-    let now : Keeps inside before here = subst (λ (s : State). Keeps s before here) (sym c.self.view_is) keeps in
+returns-clause-head c = λ limit before here keeps.
+    let inside : State = record { domains = c.self.inside.domains; limit = c.self.inside.limit; due = c.self.inside.due.entries; here = c.self.inside.here.entries; kept = c.self.inside.kept.items } in
+    let now : KeepsWithin limit inside before here = subst (λ (s : State). KeepsWithin limit s before here) (sym c.self.view_is) keeps in
     let yes : c.is_empty.result ≡ true = search rules in
     let none : here ≡ [] = subst (λ (b : Bool). MatchBool (not b) (here ≢ []) (here ≡ [])) yes (begun inside before here c.is_empty.result now c.is_empty.ensures) in
     let ds = known_after [] (before ++ here) in

@@ -6,21 +6,21 @@ use Rattle.std.proofs.lemmas.List.Elements.{All-nil}
 use Rattle.recording_files.specs.Preambles.{IsTemplate}
 use Rattle.std.specs.Map.{lookup}
 use Rattle.ipfix_session.specs.Given.{known_after}
-use Rattle.recording_files.specs.Recorders.{State, Keeps}
+use Rattle.recording_files.specs.Recorders.{State, KeepsWithin}
 use Rattle.recording_files.proofs.Leading.{on_ok, on_ok_3, new_domain, leads, bare, none_found, all_found}
 use Rattle.recording_files.proofs.recorder.Recorder.append_lead.Goals as goal
 
 pub returns-in_default-clause-lead : goal.returns-in_default-clause-lead
-returns-in_default-clause-lead c = λ before here keeps.
-    let inside : State = record { domains = c.self.inside.domains; due = c.self.inside.due.entries; here = c.self.inside.here.entries; kept = c.self.inside.kept.items } in
-    let now : Keeps inside before here = subst (λ (s : State). Keeps s before here) (sym c.self.view_is) keeps in
+returns-in_default-clause-lead c = λ limit before here keeps.
+    let inside : State = record { domains = c.self.inside.domains; limit = c.self.inside.limit; due = c.self.inside.due.entries; here = c.self.inside.here.entries; kept = c.self.inside.kept.items } in
+    let now : KeepsWithin limit inside before here = subst (λ (s : State). KeepsWithin limit s before here) (sym c.self.view_is) keeps in
     let none : lookup (nat_eq c.args.header.now.domain) c.self.inside.due.entries ≡ None = search rules in
     new_domain inside before here c.args.header.now c.args.out.now.items now none
 
 pub returns-in-None-clause-lead : goal.returns-in-None-clause-lead
-returns-in-None-clause-lead c = λ before here keeps.
-    let inside : State = record { domains = c.self.inside.domains; due = c.self.inside.due.entries; here = c.self.inside.here.entries; kept = c.self.inside.kept.items } in
-    let now : Keeps inside before here = subst (λ (s : State). Keeps s before here) (sym c.self.view_is) keeps in
+returns-in-None-clause-lead c = λ limit before here keeps.
+    let inside : State = record { domains = c.self.inside.domains; limit = c.self.inside.limit; due = c.self.inside.due.entries; here = c.self.inside.here.entries; kept = c.self.inside.kept.items } in
+    let now : KeepsWithin limit inside before here = subst (λ (s : State). KeepsWithin limit s before here) (sym c.self.view_is) keeps in
     let ds = known_after [] (before ++ here) in
     let d = c.args.header.now.domain in
     let found : lookup (nat_eq c.args.header.now.domain) c.self.inside.due.entries ≡ Some c.in-Some.due = search rules in
@@ -35,9 +35,9 @@ returns-in-None-clause-lead c = λ before here keeps.
     (none_found ds d (option_copied c.templates.result) none same) (All-nil IsTemplate) (bare c.args.out.now.items c.append_bare_message.new.out.items (record { export_time = c.args.header.now.export_time; sequence = c.unwrap_or.result; domain = c.args.header.now.domain }) written)) c.append_bare_message.ensures
 
 pub returns-in-Some-templates-clause-lead : goal.returns-in-Some-templates-clause-lead
-returns-in-Some-templates-clause-lead c = λ before here keeps.
-    let inside : State = record { domains = c.self.inside.domains; due = c.self.inside.due.entries; here = c.self.inside.here.entries; kept = c.self.inside.kept.items } in
-    let now : Keeps inside before here = subst (λ (s : State). Keeps s before here) (sym c.self.view_is) keeps in
+returns-in-Some-templates-clause-lead c = λ limit before here keeps.
+    let inside : State = record { domains = c.self.inside.domains; limit = c.self.inside.limit; due = c.self.inside.due.entries; here = c.self.inside.here.entries; kept = c.self.inside.kept.items } in
+    let now : KeepsWithin limit inside before here = subst (λ (s : State). KeepsWithin limit s before here) (sym c.self.view_is) keeps in
     let ds = known_after [] (before ++ here) in
     let d = c.args.header.now.domain in
     let found : lookup (nat_eq c.args.header.now.domain) c.self.inside.due.entries ≡ Some c.in-Some.due = search rules in

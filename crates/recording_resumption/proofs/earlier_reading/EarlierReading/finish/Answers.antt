@@ -8,7 +8,7 @@ use Rattle.recording_resumption.proofs.earlier_reading.EarlierReading.finish.Goa
 
 pub returns : goal.returns
 returns c = λ text has.
-    let ends = c.fault_at_end-fault.ensures ∙ ap (ended_by c.args.self.fault) c.deref.ensures.value ∙ ended _ text has.session in
+    let ends = c.fault_at_end-fault.ensures ∙ ap (ended_by c.args.self.fault) c.deref.ensures.value ∙ ended None _ text has.session in
     let counts = c.into_report.ensures.counts _ _ has.session.tells in
     let fault = c.into_report.ensures.fault ∙ ends in
     let domains = c.into_report.ensures.domains ∙ c.in_force_after-in_force.ensures ∙ ap (λ (o : Option SessionFault). cond (ends_open o) (Some c.args.self.messages.domains) None) ends in

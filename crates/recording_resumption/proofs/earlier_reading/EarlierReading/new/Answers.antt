@@ -1,4 +1,4 @@
-use Rattle.std.proofs.Common.{List, refl, sym, ap, subst}
+use Rattle.std.proofs.Common.{List, None, refl, sym, ap, subst}
 use Rattle.ipfix_message.specs.Domains.{Message}
 use Rattle.ipfix_session.specs.Given.{Given}
 use Rattle.ipfix_session.proofs.Reaching.{gives_first, stands_first}
@@ -7,6 +7,6 @@ use Rattle.recording_resumption.proofs.earlier_reading.EarlierReading.new.Goals 
 
 pub returns : goal.returns
 returns c = record {
-  session = stands_first _ c.new.ensures.counted.tells c.new.ensures.fresh c.new.ensures.empty c.new-2.ensures.items refl;
+  session = stands_first None _ c.new.ensures.counted.tells c.new.ensures.fresh c.new.ensures.empty c.new-2.ensures.items refl refl;
   counted = subst (λ (ms : List Message). HasCounted c.new.result ms) (sym (ap (λ (g : Given). g.messages) gives_first)) c.new.ensures.counted;
 }
