@@ -11,7 +11,7 @@ use Rattle.flow_table.specs.Plans.{key_kind}
 use Rattle.flow_maps.specs.declared.map_key.AddressElement.{AddressElement}
 use Rattle.flow_maps.specs.declared.map_key.MapKey.{MapKey}
 use Rattle.flow_plan.specs.PlanTexts.{all_of, key_element, texts}
-use Rattle.flow_filtered_plan.specs.FilteredPlans.{where_key}
+use Rattle.flow_plan_fields.specs.FilteredPlans.{where_key}
 use Rattle.flow_plan_fields.specs.Maps.{array_values, text_at}
 use Rattle.flow_plan_fields.specs.declared.named.NamedKey.{NamedKey}
 use Rattle.flow_plan_fields.specs.declared.named.NamedMap.{NamedMap}

@@ -1,4 +1,7 @@
 -- What public contracts cite.
+pub mod Wheres
+pub mod FilteredPlans
+pub mod FilteredErrors
 pub mod Maps
 pub mod Keys
 pub mod Known

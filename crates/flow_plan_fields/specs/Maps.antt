@@ -5,7 +5,7 @@ use Rattle.std.specs.Str.{bytes_eq}
 use Rattle.toml.specs.Data.{Data, Members, as_array, as_str, as_table, get_member}
 use Rattle.element_registry.specs.Rows.{is_name_octet}
 use Rattle.flow_plan.specs.Places.{names}
-use Rattle.flow_filtered_plan.specs.FilteredPlans.{values_of, map_key}
+use Rattle.flow_plan_fields.specs.FilteredPlans.{values_of, map_key}
 use Rattle.flow_plan_fields.specs.declared.named.NamedMap.{NamedMap}
 use Rattle.flow_plan_fields.specs.declared.error.MapTableFault.{MapTableFault}
 use Rattle.flow_plan_fields.specs.declared.error.MapTableFault.TheVariants.{NoTable, UnknownKey, NoName, NoFile, NameTwice}

@@ -2,10 +2,10 @@
 use Rattle.std.specs.Prelude.{◌≡◌, ℕ, List, Option, Some, None}
 use Rattle.element_registry.specs.Registries.{Known}
 use Rattle.flow_estimates.specs.declared.estimates.Estimates.{Estimates}
-use Rattle.flow_filtered_plan.specs.FilteredPlans.{IsFilteredPlanOf}
-use Rattle.flow_filtered_plan.specs.declared.filtered_plan.FilteredPlan.{FilteredPlan}
-use Rattle.flow_filtered_plan.specs.declared.sampling.SamplingUse.{SamplingUse}
-use Rattle.flow_filtered_plan.specs.declared.sampling.SamplingUse.TheVariants.{Scale}
+use Rattle.flow_plan_fields.specs.FilteredPlans.{IsFilteredPlanOf}
+use Rattle.flow_plan_fields.specs.declared.filtered_plan.FilteredPlan.{FilteredPlan}
+use Rattle.flow_plan_fields.specs.declared.sampling.SamplingUse.{SamplingUse}
+use Rattle.flow_plan_fields.specs.declared.sampling.SamplingUse.TheVariants.{Scale}
 use Rattle.flow_table.specs.Plans.{PlanValue}
 use Rattle.flow_plan_fields.specs.Scaled.{IsNotScaled, IsScaled}
 use Rattle.flow_plan_fields.specs.declared.scaling.ScalingFault.{ScalingFault}

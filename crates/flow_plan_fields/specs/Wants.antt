@@ -8,10 +8,10 @@ use Rattle.flow_table.specs.declared.context.TheConstants.{EXPORTER, EXPORTER_IP
 use Rattle.exporter_options.specs.declared.beside.Wanted.{Wanted}
 use Rattle.flow_table.specs.declared.choices.Times.{Times}
 use Rattle.flow_table.specs.declared.choices.Times.TheVariants.{Basic, All}
-use Rattle.flow_filtered_plan.specs.FilteredPlans.{context_of}
-use Rattle.flow_filtered_plan.specs.declared.filtered_plan.FilteredPlan.{FilteredPlan}
-use Rattle.flow_filtered_plan.specs.declared.sampling.SamplingUse.{SamplingUse}
-use Rattle.flow_filtered_plan.specs.declared.sampling.SamplingUse.TheVariants.{Ignore, Refuse, Scale}
+use Rattle.flow_plan_fields.specs.FilteredPlans.{context_of}
+use Rattle.flow_plan_fields.specs.declared.filtered_plan.FilteredPlan.{FilteredPlan}
+use Rattle.flow_plan_fields.specs.declared.sampling.SamplingUse.{SamplingUse}
+use Rattle.flow_plan_fields.specs.declared.sampling.SamplingUse.TheVariants.{Ignore, Refuse, Scale}
 use Rattle.flow_maps.specs.declared.map_key.AddressElement.{AddressElement}
 use Rattle.flow_plan_fields.specs.declared.named.NamedKey.{NamedKey}
 use Rattle.flow_plan_fields.specs.declared.named.PlanMaps.{PlanMaps}

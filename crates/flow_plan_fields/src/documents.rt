@@ -5,7 +5,7 @@ ghost use Rattle.std.specs.List.{flat_map};
 ghost use Rattle.std.specs.Option.{option_map};
 ghost use Rattle.toml.specs.Data.{get_member};
 ghost use Rattle.toml.specs.View.{table_view, view};
-ghost use Rattle.flow_filtered_plan.specs.FilteredPlans.{where_key};
+ghost use Rattle.flow_plan_fields.specs.FilteredPlans.{where_key};
 ghost use Rattle.flow_plan.specs.Shown.{texts_of};
 ghost use Rattle.flow_plan_fields.specs.Keys as keys_of;
 ghost use Rattle.flow_plan_fields.specs.Maps.{array_values, text_at as text_in};
@@ -32,7 +32,7 @@ pub fn text_at<'a>(table: &'a Table, key: &str) -> Option<&'a str>
 }
 
 /// The values of a key of a document that is an array, none if it is missing, and `None` if it is no array.
-#[tactic(auto, using(flow_filtered_plan::proofs::Listed::values_view))]
+#[tactic(auto, using(crate::proofs::Listed::values_view))]
 pub fn values_at<'a>(table: &'a Table, key: &str) -> Option<&'a [Value]>
     ensures { option_map (λ values. map view values.now) result
         ≡ array_values (get_member key.now (table_view table.now)) }

@@ -4,10 +4,11 @@ ghost use Rattle.std.specs.Prelude.{IfErr, IfOk};
 ghost use Rattle.flow_table.specs.Plans.{IsPlan};
 ghost use Rattle.flow_plan_fields.specs.Tables.{IsNoTablePlan, IsTablePlan};
 
+use crate::filtered_plan::FilteredPlan;
+use crate::sampling::SamplingUse;
 use crate::scaling::{ScaledPlan, ScalingFault, scale};
 use element_registry::Elements;
 use flow_estimates::Estimates;
-use flow_filtered_plan::{FilteredPlan, SamplingUse};
 use std::alloc::Global;
 
 /// The plan of a table with its filter, the elements that name what it counts, and the estimates that its records need.

@@ -3,9 +3,10 @@
 ghost use Rattle.std.specs.Prelude.{◌≡◌};
 ghost use Rattle.flow_plan_fields.specs.Wants as wants;
 
+use crate::filtered_plan::FilteredPlan;
 use crate::named::PlanMaps;
+use crate::sampling::SamplingUse;
 use exporter_options::Wanted;
-use flow_filtered_plan::{FilteredPlan, SamplingUse};
 use flow_maps::AddressElement;
 use flow_table::{Context, EXPORTER, EXPORTER_IPV4_ADDRESS, EXPORTER_IPV6_ADDRESS, Times};
 use ipfix_wire::ElementId;

@@ -3,10 +3,10 @@ use Rattle.std.specs.Prelude.{◌≡◌, ◌⊎◌, ℕ, List, map, codes, Ok}
 use Rattle.element_registry.specs.Faults.{Fails}
 use Rattle.element_registry.specs.Registries.{Known}
 use Rattle.element_registry.specs.declared.fault.ElementsFault.{ElementsFault}
-use Rattle.flow_filtered_plan.specs.Errors.{IsFilteredPlanError}
-use Rattle.flow_filtered_plan.specs.FilteredPlans.{IsFilteredPlanOf}
-use Rattle.flow_filtered_plan.specs.declared.filtered_plan.FilteredPlan.{FilteredPlan}
-use Rattle.flow_filtered_plan.specs.declared.place.FilteredPlanError.{FilteredPlanError}
+use Rattle.flow_plan_fields.specs.FilteredErrors.{IsFilteredPlanError}
+use Rattle.flow_plan_fields.specs.FilteredPlans.{IsFilteredPlanOf}
+use Rattle.flow_plan_fields.specs.declared.filtered_plan.FilteredPlan.{FilteredPlan}
+use Rattle.flow_plan_fields.specs.declared.place.FilteredPlanError.{FilteredPlanError}
 use Rattle.flow_plan_fields.specs.Tables.{IsNoTablePlan, IsTablePlan}
 use Rattle.flow_plan_fields.specs.declared.scaling.ScalingFault.{ScalingFault}
 use Rattle.flow_plan_fields.specs.declared.table_plans.TablePlan.{TablePlan}

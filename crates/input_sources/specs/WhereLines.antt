@@ -1,11 +1,11 @@
 -- The lines of a fault of the conditions of a plan, and of its place.
 use Rattle.std.specs.Prelude.{ℕ, List, [], ◌++◌, codes, decimal, string_bytes}
 use Rattle.element_registry.specs.Registries.{Known}
-use Rattle.flow_filtered_plan.specs.Wheres.{side_key}
-use Rattle.flow_filtered_plan.specs.declared.place.FilteredPlanError.{FilteredPlanError}
-use Rattle.flow_filtered_plan.specs.declared.place.FilteredPlanError.TheVariants.{Plan, NoConditions, Where, NoSampling}
-use Rattle.flow_filtered_plan.specs.declared.place.WhereFault.{WhereFault}
-use Rattle.flow_filtered_plan.specs.declared.place.WhereFault.TheVariants.{NoTable, UnknownKey, NoElement, UnknownElement, NoSide, NoTexts, Kind, Count, Text, OutOfMemory}
+use Rattle.flow_plan_fields.specs.Wheres.{side_key}
+use Rattle.flow_plan_fields.specs.declared.place.FilteredPlanError.{FilteredPlanError}
+use Rattle.flow_plan_fields.specs.declared.place.FilteredPlanError.TheVariants.{Plan, NoConditions, Where, NoSampling}
+use Rattle.flow_plan_fields.specs.declared.place.WhereFault.{WhereFault}
+use Rattle.flow_plan_fields.specs.declared.place.WhereFault.TheVariants.{NoTable, UnknownKey, NoElement, UnknownElement, NoSide, NoTexts, Kind, Count, Text, OutOfMemory}
 use Rattle.report_writing.specs.FaultLines.{fault_text}
 use Rattle.report_writing.specs.Quoting.{quoted}
 use Rattle.input_sources.specs.ScalingLines.{sampling_lines}

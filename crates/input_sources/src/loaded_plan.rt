@@ -4,8 +4,7 @@ ghost use Rattle.flow_plan_fields.specs.Tables.{IsSaid};
 
 use element_registry::Elements;
 use flow_estimates::Estimates;
-use flow_filtered_plan::FilteredPlan;
-use flow_plan_fields::PlanMaps;
+use flow_plan_fields::{FilteredPlan, PlanMaps};
 
 /// A plan with its filter and its maps, and the elements that it was read with: by these its text names its keys,
 /// counters and conditions, and what is written under the plan names them. Keys of maps are among them, and where

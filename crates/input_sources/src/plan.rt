@@ -12,8 +12,9 @@ use crate::map_places::{write_key_fault, write_map_fault};
 use crate::plan_fault::write_filtered_fault;
 use crate::scaling_fault::write_scaling_fault;
 use element_registry::Elements;
-use flow_filtered_plan::read_filtered_plan;
-use flow_plan_fields::{PlanMaps, TablePlan, add_map_keys, read_plan_maps, table_plan};
+use flow_plan_fields::{
+    PlanMaps, TablePlan, add_map_keys, read_filtered_plan, read_plan_maps, table_plan,
+};
 use input_files::ReadText;
 use report_writing::{Verbosity, WriteLines, write_not_had_because};
 use std::alloc::Global;

@@ -6,7 +6,7 @@ ghost use Rattle.input_sources.specs.WhereLines.{count_end, text_end, where_end,
 ghost use Rattle.report_writing.specs.Writing.{Tells};
 
 use crate::places::{write_name_end, write_words_end};
-use flow_filtered_plan::{WhereFault, side_key};
+use flow_plan_fields::{WhereFault, side_key};
 use report_writing::{WriteLines, write_quoted};
 use std::io;
 

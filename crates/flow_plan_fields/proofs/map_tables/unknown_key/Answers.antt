@@ -4,7 +4,7 @@ use Rattle.std.specs.BTreeMap.{keys}
 use Rattle.std.proofs.lemmas.Iterator.Consumers.{YieldsList-from_rest}
 use Rattle.std.proofs.lemmas.Iterator.Search.{find_from_yields_List}
 use Rattle.flow_plan_fields.specs.Maps.{is_map_key}
-use Rattle.flow_filtered_plan.proofs.Members.{unknown_names}
+use Rattle.flow_plan_fields.proofs.Members.{unknown_names}
 use Rattle.flow_plan_fields.proofs.map_tables.unknown_key.Goals as goal
 
 pub returns : goal.returns

@@ -1,4 +1,0 @@
-pub mod Members
-pub mod Sided
-pub mod Listed
-pub mod Told

@@ -1,4 +1,0 @@
--- What public contracts cite.
-pub mod Wheres
-pub mod FilteredPlans
-pub mod Errors

@@ -1,0 +1,13 @@
+use Rattle.std.proofs.Common.{rules, tests}
+use Rattle.std.specs.Prelude.{not, string_bytes}
+use Rattle.std.specs.BTreeMap.{keys}
+use Rattle.std.proofs.lemmas.Iterator.Consumers.{YieldsList-from_rest}
+use Rattle.std.proofs.lemmas.Iterator.Search.{find_from_yields_List}
+use Rattle.flow_plan_fields.specs.Wheres.{is_where_key}
+use Rattle.flow_plan_fields.proofs.Members.{unknown_names}
+use Rattle.flow_plan_fields.proofs.sides.unknown_key.Goals as goal
+
+pub returns : goal.returns
+returns c =
+    unknown_names is_where_key c.args.table.now.entries c.find.result
+    (find_from_yields_List (λ k. not (is_where_key (string_bytes k))) _ _ c.find.result c.find.ensures.ran (YieldsList-from_rest (keys c.args.table.now) c.keys.ensures.rest) (λ x b q k. search (rules, tests)))
