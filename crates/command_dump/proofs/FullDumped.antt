@@ -42,9 +42,9 @@ tested_plain true full passed is tested = absurd (cc is)
 tested_plain false full passed is tested = rw tested (none_tested full.report.fault)
 
 -- what was written is still there when it is flushed
-pub flushed : {S : Type 0} (seen : S → SourceView) (line_of : DataRecord → List ℕ) (before after : S) (old written new : Option (List ℕ)) (full : FullReport)
-    → DumpsInFull line_of seen before after old written full → Keeps written new → DumpsInFull line_of seen before after old new full
-flushed seen line_of before after old written new full d kept =
+pub flushed : {S : Type 0} (seen : S → SourceView) (line_of : DataRecord → List ℕ) (templates : Option ℕ) (before after : S) (old written new : Option (List ℕ)) (full : FullReport)
+    → DumpsInFull line_of templates seen before after old written full → Keeps written new → DumpsInFull line_of templates seen before after old new full
+flushed seen line_of templates before after old written new full d kept =
     record {
       dumps = record { records = d.dumps.records; given = d.dumps.given; written = Appends-kept old written new _ d.dumps.written kept };
       in_full = d.in_full;
@@ -60,10 +60,10 @@ told_plain job known plain answered full AreTold tells =
     subst AreTold (ap₂ (λ (l m : List ℕ). l ++ m) session reason) tells.told
 
 -- a dump that told its lines, said otherwise
-module _ {S : Type 0} {line_of : DataRecord → List ℕ} {seen : S → SourceView} {before after : S} {old new : Option (List ℕ)} {status : ℕ} {strict : Bool}
+module _ {S : Type 0} {line_of : DataRecord → List ℕ} {templates : Option ℕ} {seen : S → SourceView} {before after : S} {old new : Option (List ℕ)} {status : ℕ} {strict : Bool}
     {Tells Retells : FullReport → (List ℕ → Type 0) → Type 0} {AreTold Told : List ℕ → Type 0} where
   pub retold : ((full : FullReport) → Tells full AreTold → Retells full Told) → ((lines : List ℕ) → AreTold lines → Told lines)
-      → RunsDump line_of seen before after old new status strict Tells AreTold → RunsDump line_of seen before after old new status strict Retells Told
+      → RunsDump line_of templates seen before after old new status strict Tells AreTold → RunsDump line_of templates seen before after old new status strict Retells Told
   retold session otherwise runs =
       record {
         statuses = runs.statuses;

@@ -42,13 +42,13 @@ pub record TellsDump (answered : Option ErrorKind) (job : DumpJob) (known : List
   pub is_said : IsSaidOf answered said
   pub told : AreTold (dump_lines job known (read_reason full.report.fault said) full)
 
--- by the line of a record
-module _ {S : Type 0} (line_of : DataRecord → List ℕ) (seen : S → SourceView) (before after : S) (old new : Option (List ℕ)) (status : ℕ) (strict : Bool) where
+-- by the line of a record, of a session whose templates may count so much, or anything
+module _ {S : Type 0} (line_of : DataRecord → List ℕ) (templates : Option ℕ) (seen : S → SourceView) (before after : S) (old new : Option (List ℕ)) (status : ℕ) (strict : Bool) where
   -- the lines of a source's records were written; its session was told as the last fact says it; and the status says that
   -- all was well exactly if it was
   pub record DumpsToEnd (IsTold : FullReport → Type 0) : Type 0 where
     pub full : FullReport
-    pub dumps : DumpsInFull line_of seen before after old new full
+    pub dumps : DumpsInFull line_of templates seen before after old new full
     pub told : IsTold full
     pub status_is : (status ≡ number_of ends.Well) ↔ EndedWell strict full
 
@@ -66,7 +66,7 @@ module _ {S W : Type 0} (seen : S → SourceView) (failure : S → Option ErrorK
   -- by the names and kinds that elements have under files
   abbrev pub DumpsFor : ℕ → List Known → (List ℕ → Type 0) → Type 0
   DumpsFor status known AreTold =
-      RunsDump (line_in job.form known) seen before after (contents old) (contents new) status job.verbosity.strict (TellsDump (failure after) job known) AreTold
+      RunsDump (line_in job.form known) job.templates seen before after (contents old) (contents new) status job.verbosity.strict (TellsDump (failure after) job known) AreTold
 
   -- after its files of elements, of which these have texts so, and those can't be read for such reasons
   abbrev pub RunsDumpWith : {T : Type 0} → (T → List ℕ → List ℕ → Type 0) → (T → List ℕ → Reason → Type 0) → T → (List ℕ → Type 0) → Status → Type 0

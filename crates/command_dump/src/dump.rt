@@ -1,6 +1,6 @@
 //! What the command `collectd dump` does with what it is given.
 
-ghost use Rattle.std.specs.Prelude.{false, [], ◌∷◌};
+ghost use Rattle.std.specs.Prelude.{false, [], ◌∷◌, None};
 ghost use Rattle.ipfix_dump.specs.DumpLines.{dump_line};
 ghost use Rattle.report_writing.specs.Told.{AreToldTo};
 ghost use Rattle.report_sessions.specs.ReportLines.{report_lines};
@@ -25,7 +25,7 @@ pub fn run_dump<S: Source, W: Write, E: WriteLines>(
     out: &mut W,
     err: &mut E,
 ) -> u8
-    ensures runs { RunsDump (dump_line []) S.seen source.old source.new
+    ensures runs { RunsDump (dump_line []) None S.seen source.old source.new
         (W.contents out.old) (W.contents out.new) result false
         (λ full AreTold. AreTold (report_lines (full.report ∷ [])))
         (AreToldTo E.contents E.failed err.old err.new) }
@@ -35,6 +35,7 @@ pub fn run_dump<S: Source, W: Write, E: WriteLines>(
     let job = DumpJob {
         form: Form::Text,
         element_files: &[],
+        templates: None,
         origin: Origin::Unknown,
         verbosity: NOTHING_MORE,
     };

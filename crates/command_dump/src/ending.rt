@@ -36,6 +36,7 @@ pub fn dump_to_end<S: Source, W: Write, E: WriteLines>(
     let options = DumpOptions {
         form: job.form,
         elements,
+        templates: job.templates,
     };
     match dump_whole(alloc, &options, source, out) {
         Ok(full) => {
@@ -96,7 +97,7 @@ fn dump_whole<S: Source, W: Write>(
     out: &mut W,
 ) -> Result<FullReport, DumpFault>
     ensures { IfOk result (λ full.
-        DumpsInFull (line_in options.now.form options.now.elements.now) S.seen
+        DumpsInFull (line_in options.now.form options.now.elements.now) options.now.templates S.seen
         source.old source.new (W.contents out.old) (W.contents out.new) full) }
 {
     let full = dump_with(alloc, options, source, out)?;

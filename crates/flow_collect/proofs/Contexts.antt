@@ -11,11 +11,12 @@ use Rattle.std.proofs.lemmas.List.{map-append}
 use Rattle.std.proofs.lemmas.List.Elements.{All-cons, All-head, All-nil, All-tail, filter-append}
 use Rattle.ipfix_message.specs.Fields.{Field}
 use Rattle.ipfix_message.specs.declared.record.DataRecord.{DataRecord}
-use Rattle.ipfix_session.specs.Given.{records_of, stop_of, IsPrefix}
+use Rattle.ipfix_session.specs.Drives.{IsGivenWithin}
+use Rattle.ipfix_session.specs.Given.{records_of, records_within, stop_of, IsPrefix}
 use Rattle.ipfix_session.specs.Sinks.{SinkView}
 use Rattle.ipfix_session.specs.Sources.{SourceView}
+use Rattle.ipfix_session.specs.declared.driver.TheConstants.{READ_LIMIT}
 use Rattle.ipfix_session.specs.declared.stop.Stop.TheVariants.{Clean}
-use Rattle.ipfix_session.proofs.Driven.{given_all_of}
 use Rattle.exporter_options.specs.Beside.{Asked, all_told, asked_first, asked_next, with_told}
 use Rattle.exporter_options.proofs.Wants.{told_append, unwanted_all}
 use Rattle.flow_filter.specs.Sinks.{counted, left_out, is_let_by, TakesCounted}
@@ -28,14 +29,14 @@ use Rattle.flow_table.specs.Bags.{IsSameBag}
 use Rattle.flow_table.specs.Plans.{PlanValue}
 use Rattle.flow_table.specs.Tables.{IsTooLarge}
 use Rattle.flow_table.proofs.Bags.{too_large_bag}
-use Rattle.flow_collect.specs.Contexts.{alone, all_in_context, all_with_context, counted_in, left_out_in, named, origin_fields, records_in_context, sources_of, with_context, with_fields, context_fields}
+use Rattle.flow_collect.specs.Contexts.{alone, all_in_context, all_with_context, counted_in, left_out_in, limits_in, named, origin_fields, records_in_context, sources_of, with_context, with_fields, context_fields}
 use Rattle.exporter_options.specs.declared.beside.Wanted.{Wanted}
 use Rattle.exporter_options.specs.declared.beside.TheConstants as options
 use Rattle.flow_estimates.specs.declared.estimates.Estimates.{Estimates}
 use Rattle.flow_collect.specs.Rated.{asked_after, have_large, is_large, refuse_sampled, sampling_fault, tell_large, tell_sampled}
 use Rattle.flow_collect.proofs.Large.{all_small}
-use Rattle.flow_collect.specs.Headline.{all_of}
-use Rattle.flow_collect.specs.InFull.{fulls_in, IsGivenInContext, IsGivenInFull}
+use Rattle.flow_collect.specs.Headline.{IsGivenBy, all_of}
+use Rattle.flow_collect.specs.InFull.{fulls_in, reports_in, IsGivenInContext, IsGivenInFull}
 use Rattle.flow_collect.specs.Places.{Each4}
 use Rattle.flow_collect.specs.Refusals.{AreTooLarge, AreTooLargeInContext, HasFaults, HasFaultsInContext, IsLate, IsLateInContext, IsRefused, fault_of_arguments}
 use Rattle.flow_collect.specs.Texts.{AreTexts, HasNoFault}
@@ -52,6 +53,7 @@ use Rattle.flow_collect.specs.declared.session_context.InContext.{InContext}
 use Rattle.flow_collect.specs.declared.session_context.SessionContext.{SessionContext}
 use Rattle.flow_collect.specs.declared.session_context.TheConstants.{NOTHING_WANTED}
 use Rattle.flow_collect.proofs.GivenLists.{first_of_text, too_large_lists}
+use Rattle.flow_collect.proofs.Limited.{given_all_within}
 
 -- ---- a sink that appends
 
@@ -132,9 +134,9 @@ counted_all : (q : List DataRecord) → counted None q ≡ q
 counted_all [] = refl
 counted_all (r ∷ q) = ap (λ (l : List DataRecord). r ∷ l) (counted_all q)
 
--- nothing is wanted of what the session of a source knows, and all of its records count
+-- nothing is wanted of what the session of a source knows, all of its records count, and its templates have no limit
 abbrev pub IsUnwanted : {S : Type 0} → InContext S → Type 0
-IsUnwanted s = (s.context.wanted ≡ NOTHING_WANTED) × (s.context.options ≡ options.NOTHING_WANTED) × (s.context.maps ≡ None) × (s.filter ≡ None) × (s.context.estimates ≡ None) × (s.context.refuses_sampled ≡ false)
+IsUnwanted s = (s.context.wanted ≡ NOTHING_WANTED) × (s.context.options ≡ options.NOTHING_WANTED) × (s.context.maps ≡ None) × (s.filter ≡ None) × (s.context.estimates ≡ None) × (s.context.refuses_sampled ≡ false) × (s.context.templates ≡ None)
 
 pub counted_unwanted : {S : Type 0} (s : InContext S) (q : List DataRecord) → IsUnwanted s → counted_in s q ≡ q
 counted_unwanted s q none =
@@ -143,7 +145,9 @@ counted_unwanted s q none =
 pub records_plain : {S : Type 0} (given : List (InContext S)) (texts : List (List ℕ)) (Reads : S → List ℕ → Type 0) → All IsUnwanted given → AllZip Reads (sources_of given) texts → records_in_context given texts ≡ map records_of texts
 records_plain [] [] Reads none t = refl
 records_plain (s ∷ given) (text ∷ texts) Reads none t =
-    let first = counted_unwanted s (records_of text) (All-head IsUnwanted s given none) in
+    let unwanted = All-head IsUnwanted s given none in
+    let first : counted_in s (records_within s.context.templates text) ≡ records_of text =
+    counted_unwanted s (records_within s.context.templates text) unwanted ∙ ap (λ (t : Option ℕ). records_within t text) unwanted.6 in
     let rest = records_plain given texts Reads (All-tail IsUnwanted s given none) t.1 in cc
 records_plain [] (text ∷ texts) Reads none t = absurd t
 records_plain (s ∷ given) [] Reads none t = absurd t
@@ -195,7 +199,7 @@ module _ {S : Type 0} where
 
   alone_unwanted : (sources : List S) → All IsUnwanted (map alone sources)
   alone_unwanted [] = All-nil IsUnwanted
-  alone_unwanted (s ∷ sources) = All-cons IsUnwanted (alone s) (map alone sources) (refl, refl, refl, refl, refl, refl) (alone_unwanted sources)
+  alone_unwanted (s ∷ sources) = All-cons IsUnwanted (alone s) (map alone sources) (refl, refl, refl, refl, refl, refl, refl) (alone_unwanted sources)
 
 -- ---- all sessions
 
@@ -211,18 +215,10 @@ prefix_told told xs ys p =
     (all_told rest.0 p.0, ap (all_told told) p.1 ∙ rest.1)
 
 module _ {S : Type 0} (seen : S → SourceView) where
-  -- without what sessions know
-  pub owns : (befores : List (InContext S)) (afters : List S) (fulls : List FilteredReport) (qs : List (List DataRecord)) → Each4 (IsGivenInContext seen) befores afters fulls qs
-      → (own : List (List DataRecord)) × Each4 (IsGivenInFull seen) (sources_of befores) afters (fulls_in fulls) own
-  owns [] [] [] [] e = ([], tt)
-  owns (s ∷ befores) (a ∷ afters) (f ∷ fulls) (q ∷ qs) e =
-      let rest = owns befores afters fulls qs e.1 in (e.0.own ∷ rest.0, (e.0.given, rest.1))
-  owns befores afters fulls qs e = absurd e
-
   -- where all have one filter
   pub record OfCounted (f : Option (Bor Filter)) (befores : List (InContext S)) (afters : List S) (fulls : List FilteredReport) (qs : List (List DataRecord)) : Type 0 where
     pub own : List (List DataRecord)
-    pub given : Each4 (IsGivenInFull seen) (sources_of befores) afters (fulls_in fulls) own
+    pub given : Each4 (IsGivenInFull seen) befores afters (fulls_in fulls) own
     pub all : all_of qs ≡ counted f (all_in_context befores own)
 
   pub of_counted : (f : Option (Bor Filter)) (befores : List (InContext S)) (afters : List S) (fulls : List FilteredReport) (qs : List (List DataRecord)) → All (λ (s : InContext S). s.filter ≡ f) befores
@@ -240,19 +236,23 @@ module _ {S : Type 0} (seen : S → SourceView) where
       }
   of_counted f befores afters fulls qs same e = absurd e
 
+  -- without what they know, and without the rest
   pub given_plain : (befores : List (InContext S)) (afters : List S) (fulls : List FilteredReport) (qs : List (List DataRecord)) → All IsUnwanted befores → Each4 (IsGivenInContext seen) befores afters fulls qs
-      → Each4 (IsGivenInFull seen) (sources_of befores) afters (fulls_in fulls) qs
+      → Each4 (IsGivenBy seen) (sources_of befores) afters (reports_in (fulls_in fulls)) qs
   given_plain [] [] [] [] none e = tt
   given_plain (s ∷ befores) (a ∷ afters) (f ∷ fulls) (q ∷ qs) none e =
-      let same = e.0.records_are ∙ counted_unwanted s e.0.own (All-head IsUnwanted s befores none) in
-      (subst (IsGivenInFull seen s.source a f.full) (sym same) e.0.given, given_plain befores afters fulls qs (All-tail IsUnwanted s befores none) e.1)
+      let unwanted = All-head IsUnwanted s befores none in
+      let same = e.0.records_are ∙ counted_unwanted s e.0.own unwanted in
+      let own : IsGivenBy seen s.source a f.full.report e.0.own =
+      subst (λ (t : Option ℕ). IsGivenWithin seen (record { reads = READ_LIMIT; templates = t }) s.source a f.full.report e.0.own) unwanted.6 e.0.given.given in
+      (subst (IsGivenBy seen s.source a f.full.report) (sym same) own, given_plain befores afters fulls qs (All-tail IsUnwanted s befores none) e.1)
   given_plain befores afters fulls qs none e = absurd e
 
   pub given_alone : (sources : List S) (befores : List (InContext S)) (afters : List S) (fulls : List FilteredReport) (qs : List (List DataRecord)) → befores ≡ map alone sources → Each4 (IsGivenInContext seen) befores afters fulls qs
-      → Each4 (IsGivenInFull seen) sources afters (fulls_in fulls) qs
+      → Each4 (IsGivenBy seen) sources afters (reports_in (fulls_in fulls)) qs
   given_alone sources befores afters fulls qs are e =
       let there = subst (λ (l : List (InContext S)). Each4 (IsGivenInContext seen) l afters fulls qs) are e in
-      subst (λ (l : List S). Each4 (IsGivenInFull seen) l afters (fulls_in fulls) qs) (sources_alone sources) (given_plain (map alone sources) afters fulls qs (alone_unwanted sources) there)
+      subst (λ (l : List S). Each4 (IsGivenBy seen) l afters (reports_in (fulls_in fulls)) qs) (sources_alone sources) (given_plain (map alone sources) afters fulls qs (alone_unwanted sources) there)
 
   -- if no session has a fault, the records are those of the whole texts
   pub whole_in_context : ((s : S) → (seen s).ended ≡ true → ForSome (seen s).text (λ xs. xs ≡ []))
@@ -261,8 +261,9 @@ module _ {S : Type 0} (seen : S → SourceView) where
   whole_in_context at_end [] [] [] [] [] e t n = (refl, All-nil (λ text. stop_of text ≡ Clean))
   whole_in_context at_end (s ∷ befores) (a ∷ afters) (f ∷ fulls) (q ∷ qs) (text ∷ texts) e t n =
       let NoFault = λ (told : FilteredReport). HasNoFault told.full.report in
-      let (clean, whole) = given_all_of seen _ s.source a f.full.report e.0.own text (at_end a) e.0.given.given (All-head NoFault f fulls n) t.0 in
-      let first : q ≡ counted_in s (records_of text) = e.0.records_are ∙ ap (counted_in s) whole in
+      let whole = given_all_within seen (limits_in s.context) s.source a f.full.report e.0.own text (at_end a) e.0.given.given (All-head NoFault f fulls n) t.0 in
+      let clean = whole.clean in
+      let first : q ≡ counted_in s (records_within s.context.templates text) = e.0.records_are ∙ ap (counted_in s) whole.within in
       let (are, others) = whole_in_context at_end befores afters fulls qs texts e.1 t.1 (All-tail NoFault f fulls n) in
       (cc, All-cons (λ text. stop_of text ≡ Clean) text texts clean others)
   whole_in_context at_end [] [] [] [] (text ∷ texts) e t n = absurd t
@@ -273,9 +274,9 @@ module _ {S : Type 0} (seen : S → SourceView) where
       → AreTexts seen (sources_of befores) texts → AllZip IsPrefix qs (records_in_context befores texts)
   first_in_context [] [] [] [] [] e t = tt
   first_in_context (s ∷ befores) (a ∷ afters) (f ∷ fulls) (q ∷ qs) (text ∷ texts) e t =
-      let own = first_of_text seen s.source a f.full.report e.0.own text e.0.given.given t.0 in
-      let here = prefix_filter (is_let_by s.filter) _ _ (prefix_map (with_context s.context) _ _ (prefix_told (asked_first s.context.options) e.0.own (records_of text) own)) in
-      (subst (λ (l : List DataRecord). IsPrefix l (counted_in s (records_of text))) (sym e.0.records_are) here, first_in_context befores afters fulls qs texts e.1 t.1)
+      let own = first_of_text seen (limits_in s.context) s.source a f.full.report e.0.own text e.0.given.given t.0 in
+      let here = prefix_filter (is_let_by s.filter) _ _ (prefix_map (with_context s.context) _ _ (prefix_told (asked_first s.context.options) e.0.own (records_within s.context.templates text) own)) in
+      (subst (λ (l : List DataRecord). IsPrefix l (counted_in s (records_within s.context.templates text))) (sym e.0.records_are) here, first_in_context befores afters fulls qs texts e.1 t.1)
   first_in_context [] [] [] [] (text ∷ texts) e t = absurd t
   first_in_context (s ∷ befores) (a ∷ afters) (f ∷ fulls) (q ∷ qs) [] e t = absurd t
   first_in_context befores afters fulls qs texts e t = absurd e

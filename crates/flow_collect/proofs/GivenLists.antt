@@ -14,14 +14,16 @@ use Rattle.ipfix_session.specs.declared.fault.SessionFault.{SessionFault}
 use Rattle.ipfix_session.specs.declared.fault.SessionFault.TheVariants as faults
 use Rattle.ipfix_session.specs.declared.report.SessionReport.{SessionReport}
 use Rattle.ipfix_session.specs.declared.stop.Stop.TheVariants.{Clean}
-use Rattle.ipfix_session.specs.Drives.{IsDue}
-use Rattle.ipfix_session.specs.Faults.{end_of, fault_at_end}
-use Rattle.ipfix_session.specs.Given.{gives, records_in, records_of, stop_of, IsPrefix}
+use Rattle.ipfix_session.specs.declared.driver.TheConstants.{READ_LIMIT}
+use Rattle.ipfix_session.specs.declared.session_limits.SessionLimits.{SessionLimits}
+use Rattle.ipfix_session.specs.Drives.{IsDueWithin, IsGivenWithin, unlimited}
+use Rattle.ipfix_session.specs.Faults.{end_within, fault_at_end}
+use Rattle.ipfix_session.specs.Given.{given_within, records_in, records_of, records_within, stop_of, IsPrefix}
 use Rattle.ipfix_session.specs.Ledger.{capped}
-use Rattle.ipfix_session.specs.Reports.{Reports, IsReport}
+use Rattle.ipfix_session.specs.Reports.{Reports, IsReport, IsReportWithin}
 use Rattle.ipfix_session.specs.Sources.{SourceView}
 use Rattle.ipfix_session.proofs.Driven.{given_all_of}
-use Rattle.ipfix_session.proofs.Giving.{records_of-prefix, records_in-append}
+use Rattle.ipfix_session.proofs.Giving.{records_within-prefix, records_in-append}
 use Rattle.flow_link.specs.Parcels as parcels
 use Rattle.flow_link.specs.Settling.{settled_received}
 use Rattle.flow_link.specs.declared.settled.Settled.{Settled}
@@ -51,50 +53,51 @@ prefix_trans : {X : Type 0} (xs ys zs : List X) → IsPrefix xs ys → IsPrefix 
 prefix_trans xs ys zs p q = (p.0 ++ q.0, q.1 ∙ ap (λ l. l ++ q.0) p.1 ∙ append_assoc xs p.0 q.0)
 
 -- the fault of a source that was read out is that of its octets
-fault_is_end : (fault : Option SessionFault) (limit : ℕ) (gave : List ℕ) (before after : SourceView) → fault ≢ Some (faults.Message OutOfMemory) → fault ≢ Some faults.ReadFailed → fault ≢ Some faults.TooManyReads → fault ≢ Some faults.SinkClosed
-    → IsDue fault limit gave before after → fault ≡ end_of gave
-fault_is_end None limit gave before after m f n c due = ap fault_at_end (sym due.0)
-fault_is_end (Some faults.Truncated) limit gave before after m f n c due = ap fault_at_end (sym due.0)
-fault_is_end (Some faults.ReadFailed) limit gave before after m f n c due = absurd (f refl)
-fault_is_end (Some faults.TooManyReads) limit gave before after m f n c due = absurd (n refl)
-fault_is_end (Some (faults.Message OutOfMemory)) limit gave before after m f n c due = absurd (m refl)
-fault_is_end (Some (faults.Message e)) limit gave before after m f n c due = ap fault_at_end (sym due)
-fault_is_end (Some faults.SinkClosed) limit gave before after m f n c due = absurd (c refl)
+fault_is_end : (fault : Option SessionFault) (limits : SessionLimits) (gave : List ℕ) (before after : SourceView) → fault ≢ Some (faults.Message OutOfMemory) → fault ≢ Some faults.ReadFailed → fault ≢ Some faults.TooManyReads → fault ≢ Some faults.SinkClosed
+    → IsDueWithin fault limits gave before after → fault ≡ end_within limits.templates gave
+fault_is_end None limits gave before after m f n c due = ap fault_at_end (sym due.0)
+fault_is_end (Some faults.Truncated) limits gave before after m f n c due = ap fault_at_end (sym due.0)
+fault_is_end (Some faults.ReadFailed) limits gave before after m f n c due = absurd (f refl)
+fault_is_end (Some faults.TooManyReads) limits gave before after m f n c due = absurd (n refl)
+fault_is_end (Some (faults.Message OutOfMemory)) limits gave before after m f n c due = absurd (m refl)
+fault_is_end (Some (faults.Message e)) limits gave before after m f n c due = ap fault_at_end (sym due)
+fault_is_end (Some faults.SinkClosed) limits gave before after m f n c due = absurd (c refl)
 
 -- whole texts, of which these are all records
 abbrev AreWhole : List (List DataRecord) → List (List ℕ) → Type 0
 AreWhole qs ts = AllZip (λ q t. (stop_of t ≡ Clean) × (q ≡ records_of t)) qs ts
 
-module _ {S : Type 0} (seen : S → SourceView) where
+module _ {S : Type 0} (seen : S → SourceView) (limits : SessionLimits) where
   -- ---- one session
 
   -- its records are the first of the octets', and with memory all of them
-  given_first : (before after : S) (r : SessionReport) (q : List DataRecord) (g : IsGivenBy seen before after r q) → IsPrefix q (records_of g.gave)
+  given_first : (before after : S) (r : SessionReport) (q : List DataRecord) (g : IsGivenWithin seen limits before after r q) → IsPrefix q (records_within limits.templates g.gave)
   given_first before after r q g =
       let p = g.first in
       (records_in p.0, ap records_in p.1 ∙ records_in-append g.counted p.0 ∙ ap (λ l. l ++ records_in p.0) (sym g.records_are))
 
-  given_whole : (before after : S) (r : SessionReport) (q : List DataRecord) (g : IsGivenBy seen before after r q) → HadMemory r → q ≡ records_of g.gave
+  given_whole : (before after : S) (r : SessionReport) (q : List DataRecord) (g : IsGivenWithin seen limits before after r q) → HadMemory r → q ≡ records_within limits.templates g.gave
   given_whole before after r q g memory = g.records_are ∙ ap records_in (g.all memory)
 
   -- the octets that a source gave, if it tells what it holds
-  pub gave_is : (before after : S) (r : SessionReport) (q : List DataRecord) (b : List ℕ) (g : IsGivenBy seen before after r q) → GaveThese (seen before) (seen after) b → b ≡ g.gave
+  pub gave_is : (before after : S) (r : SessionReport) (q : List DataRecord) (b : List ℕ) (g : IsGivenWithin seen limits before after r q) → GaveThese (seen before) (seen after) b → b ≡ g.gave
   gave_is before after r q b g t = append_cancel_right b g.gave t.left (consumed_known (seen before).text (seen after).text (b ++ t.left) t.left g.gave t.held t.holds g.given.octets)
 
-  pub first_of_text : (before after : S) (r : SessionReport) (q : List DataRecord) (t : List ℕ) → IsGivenBy seen before after r q → (seen before).text ≡ Some t → IsPrefix q (records_of t)
+  pub first_of_text : (before after : S) (r : SessionReport) (q : List DataRecord) (t : List ℕ) → IsGivenWithin seen limits before after r q → (seen before).text ≡ Some t → IsPrefix q (records_within limits.templates t)
   first_of_text before after r q t g is =
       let held = consumed_first (seen before).text (seen after).text t g.gave is g.given.octets in
-      let more : IsPrefix (records_of g.gave) (records_of t) = subst (λ (l : List ℕ). IsPrefix (records_of g.gave) (records_of l)) (sym held.1) (records_of-prefix g.gave held.0) in
-      prefix_trans q (records_of g.gave) (records_of t) (given_first before after r q g) more
+      let more : IsPrefix (records_within limits.templates g.gave) (records_within limits.templates t) = subst (λ (l : List ℕ). IsPrefix (records_within limits.templates g.gave) (records_within limits.templates l)) (sym held.1) (records_within-prefix limits.templates g.gave held.0) in
+      prefix_trans q (records_within limits.templates g.gave) (records_within limits.templates t) (given_first before after r q g) more
 
-  pub report_of_octets : (before after : S) (r : SessionReport) (q : List DataRecord) (b : List ℕ) → IsGivenBy seen before after r q → GaveThese (seen before) (seen after) b → WasReadOut r → IsReport r b
+  pub report_of_octets : (before after : S) (r : SessionReport) (q : List DataRecord) (b : List ℕ) → IsGivenWithin seen limits before after r q → GaveThese (seen before) (seen after) b → WasReadOut r → IsReportWithin limits.templates r b
   report_of_octets before after r q b g t out =
       let all = g.all out.had_memory in
-      let told : Reports r (gives g.gave).messages (length (records_of g.gave)) =
+      let told : Reports r (given_within limits.templates g.gave).messages (length (records_within limits.templates g.gave)) =
       subst (λ (ms : List Message). Reports r ms (length (records_in ms))) all (subst (λ (rs : List DataRecord). Reports r g.counted (length rs)) g.records_are g.report_is) in
-      let due = fault_is_end r.fault _ g.gave (seen before) (seen after) out.had_memory out.no_failure out.in_time g.not_closed g.given.fault_is_due in
-      subst (λ (l : List ℕ). IsReport r l) (sym (gave_is before after r q b g t)) (record { reports = told; fault = due })
+      let due = fault_is_end r.fault limits g.gave (seen before) (seen after) out.had_memory out.no_failure out.in_time g.not_closed g.given.fault_is_due in
+      subst (λ (l : List ℕ). IsReportWithin limits.templates r l) (sym (gave_is before after r q b g t)) (record { reports = told; fault = due })
 
+module _ {S : Type 0} (seen : S → SourceView) where
   -- ---- all sessions
 
   pub all_whole : ((s : S) → (seen s).ended ≡ true → ForSome (seen s).text (λ xs. xs ≡ []))
@@ -109,7 +112,7 @@ module _ {S : Type 0} (seen : S → SourceView) where
       → EachGave seen befores afters bs → All HadMemory rs → qs ≡ map records_of bs
   records_by_octets [] [] [] [] [] e t n = refl
   records_by_octets (s ∷ befores) (a ∷ afters) (r ∷ rs) (q ∷ qs) (b ∷ bs) e t n =
-      let first : q ≡ records_of b = given_whole s a r q e.0 (All-head HadMemory r rs n) ∙ ap records_of (sym (gave_is s a r q b e.0 t.0)) in
+      let first : q ≡ records_of b = given_whole seen (unlimited READ_LIMIT) s a r q e.0 (All-head HadMemory r rs n) ∙ ap records_of (sym (gave_is seen (unlimited READ_LIMIT) s a r q b e.0 t.0)) in
       let rest = records_by_octets befores afters rs qs bs e.1 t.1 (All-tail HadMemory r rs n) in cc
   records_by_octets [] [] [] [] (b ∷ bs) e t n = absurd t
   records_by_octets (s ∷ befores) (a ∷ afters) (r ∷ rs) (q ∷ qs) [] e t n = absurd t
@@ -119,7 +122,7 @@ module _ {S : Type 0} (seen : S → SourceView) where
       → EachGave seen befores afters bs → AllZip (λ r b. WasReadOut r → IsReport r b) rs bs
   reports_each befores afters rs qs bs e t =
       outer_two (λ (r : SessionReport) (q : List DataRecord) (b : List ℕ). WasReadOut r → IsReport r b) (λ (r : SessionReport) (b : List ℕ). WasReadOut r → IsReport r b) (λ r q b is. is) rs qs bs
-      (last_two_beside (IsGivenBy seen) (λ s a b. GaveThese (seen s) (seen a) b) (λ r q b. WasReadOut r → IsReport r b) report_of_octets befores afters rs qs bs e t)
+      (last_two_beside (IsGivenBy seen) (λ s a b. GaveThese (seen s) (seen a) b) (λ r q b. WasReadOut r → IsReport r b) (report_of_octets seen (unlimited READ_LIMIT)) befores afters rs qs bs e t)
 
   pub delivered_each : (befores afters : List S) (rs : List SessionReport) (qs : List (List DataRecord)) → Each4 (IsGivenBy seen) befores afters rs qs
       → AllZip (λ report q. report.delivered ≡ capped (length q)) rs qs
@@ -127,7 +130,7 @@ module _ {S : Type 0} (seen : S → SourceView) where
 
   pub first_each : (befores afters : List S) (rs : List SessionReport) (qs : List (List DataRecord)) (ts : List (List ℕ)) → Each4 (IsGivenBy seen) befores afters rs qs
       → AreTexts seen befores ts → AllZip (λ q t. IsPrefix q (records_of t)) qs ts
-  first_each = last_beside (IsGivenBy seen) (λ s t. (seen s).text ≡ Some t) (λ q t. IsPrefix q (records_of t)) first_of_text
+  first_each = last_beside (IsGivenBy seen) (λ s t. (seen s).text ≡ Some t) (λ q t. IsPrefix q (records_of t)) (first_of_text seen (unlimited READ_LIMIT))
 
 -- ---- whole texts
 

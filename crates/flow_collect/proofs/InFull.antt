@@ -10,12 +10,11 @@ use Rattle.ipfix_message.specs.declared.record.DataRecord.{DataRecord}
 use Rattle.ipfix_session.specs.Balances.{domain_balance, sequence_at_end, accounted_for, AdvanceBy, KeepsCount}
 use Rattle.ipfix_session.specs.Drives.{PutsUpTo, DrivesInFull}
 use Rattle.ipfix_session.specs.Feeding.{PutsWhole}
-use Rattle.ipfix_session.specs.Given.{gives, records_in, records_of, IsPrefix}
+use Rattle.ipfix_session.specs.Given.{given_within, records_in, records_within, IsPrefix}
 use Rattle.ipfix_session.specs.Ledger.{domains_of, domain_report, messages_of}
-use Rattle.ipfix_session.specs.Places.{ReportsInFull, IsFullReport}
+use Rattle.ipfix_session.specs.Places.{ReportsInFull, IsFullReportWithin}
 use Rattle.ipfix_session.specs.Sinks.{SinkView, Takes}
 use Rattle.ipfix_session.specs.Sources.{SourceView}
-use Rattle.ipfix_session.specs.declared.driver.TheConstants.{READ_LIMIT}
 use Rattle.ipfix_session.specs.declared.fault.SessionFault.{SessionFault}
 use Rattle.ipfix_session.specs.declared.fault.SessionFault.TheVariants as faults
 use Rattle.ipfix_session.specs.declared.report.DomainBalance.{DomainBalance}
@@ -23,28 +22,27 @@ use Rattle.ipfix_session.specs.declared.report.DomainReport.{DomainReport}
 use Rattle.ipfix_session.specs.declared.report.FullReport.{FullReport}
 use Rattle.ipfix_session.specs.declared.report.SessionReport.{SessionReport}
 use Rattle.ipfix_session.proofs.Balances.{balances}
-use Rattle.ipfix_session.proofs.Driven.{driven_took_all}
+use Rattle.ipfix_session.proofs.Driven.{driven_took_all_within}
 use Rattle.ipfix_session.proofs.Driving.{drives_told}
-use Rattle.ipfix_session.proofs.Giving.{gives-prefix}
-use Rattle.ipfix_session.proofs.Places.{place_is}
+use Rattle.ipfix_session.proofs.Giving.{given_within-prefix}
+use Rattle.ipfix_session.proofs.Places.{place_is_within}
 use Rattle.ipfix_session.proofs.Reaching.{takes-append}
 use Rattle.flow_table.specs.Plans.{PlanValue}
 use Rattle.flow_table.proofs.FlatTables.{is_same_table}
-use Rattle.flow_collect.specs.Headline.{Answer, Headline, IsGivenBy, all_of}
-use Rattle.flow_collect.specs.Contexts.{alone, sources_of}
+use Rattle.flow_collect.specs.Headline.{Answer, Headline, all_of}
+use Rattle.flow_collect.specs.Contexts.{alone, limits_in, sources_of}
 use Rattle.flow_collect.specs.InFull.{FullAnswer, FullHeadline, IsBalanced, IsGivenInContext, IsGivenInFull, HasBalanced, IsWithoutRest, fulls_in, reports_in}
-use Rattle.flow_collect.specs.Places.{Each4}
-use Rattle.flow_collect.specs.Texts.{EachGave, GaveThese, WasReadOut}
+use Rattle.flow_collect.specs.Places.{Each3, Each4}
+use Rattle.flow_collect.specs.Texts.{EachGave, GaveThese, ReportsOctetsInFull, WasReadOut}
 use Rattle.flow_collect.specs.declared.collected.FilteredReport.{FilteredReport}
 use Rattle.flow_collect.specs.declared.collected.Pool.{Pool}
 use Rattle.flow_collect.specs.declared.session_context.InContext.{InContext}
-use Rattle.flow_collect.proofs.Contexts.{given_alone, owns}
+use Rattle.flow_collect.proofs.Contexts.{given_alone}
 use Rattle.flow_collect.proofs.GivenLists.{gave_is, report_of_octets}
-use Rattle.flow_collect.proofs.PlaceLists.{last_two_beside, outer_two}
 
 -- ---- what a driven session gave, if its sink gave no record back
 
-module _ {S K : Type 0} (seen : S → SourceView) (view : SinkView K) (before after : S) (first last : K) (full : FullReport) where
+module _ {S K : Type 0} (seen : S → SourceView) (view : SinkView K) (before : InContext S) (after : S) (first last : K) (full : FullReport) where
   -- the sink took the records that the source gave, as the full report tells
   pub record TookInFull : Type 0 where
     pub records : List DataRecord
@@ -52,9 +50,9 @@ module _ {S K : Type 0} (seen : S → SourceView) (view : SinkView K) (before af
     pub takes : Takes view first records last
 
   -- these messages count, and their records were put
-  took_whole : (d : DrivesInFull seen view READ_LIMIT before after first last full) (whole : List Message) → IsPrefix whole (gives d.gave).messages
-      → (full.report.fault ≢ Some (faults.Message OutOfMemory) → whole ≡ (gives d.gave).messages) → IsPrefix (gives d.given.stops.earlier).messages whole → full.report.fault ≢ Some faults.SinkClosed
-      → PutsWhole view (gives d.given.stops.earlier).messages whole d.middle last (ReportsInFull full) → TookInFull
+  took_whole : (d : DrivesInFull seen view (limits_in before.context) before.source after first last full) (whole : List Message) → IsPrefix whole (given_within before.context.templates d.gave).messages
+      → (full.report.fault ≢ Some (faults.Message OutOfMemory) → whole ≡ (given_within before.context.templates d.gave).messages) → IsPrefix (given_within before.context.templates d.given.stops.earlier).messages whole → full.report.fault ≢ Some faults.SinkClosed
+      → PutsWhole view (given_within before.context.templates d.given.stops.earlier).messages whole d.middle last (ReportsInFull full) → TookInFull
   took_whole d whole some all from taken p =
       record {
         records = records_in whole;
@@ -62,20 +60,20 @@ module _ {S K : Type 0} (seen : S → SourceView) (view : SinkView K) (before af
           given = record { gave = d.gave; given = d.given; counted = whole; first = some; all = all; earlier = from; records_are = refl; report_is = p.tells.counts.reports; not_closed = taken };
           told = p.tells;
         };
-        takes = subst (λ (rs : List DataRecord). Takes view first rs last) (sym p.records) (takes-append view first d.middle last (records_of d.given.stops.earlier) p.put d.earlier p.takes);
+        takes = subst (λ (rs : List DataRecord). Takes view first rs last) (sym p.records) (takes-append view first d.middle last (records_within before.context.templates d.given.stops.earlier) p.put d.earlier p.takes);
       }
 
   -- all messages count
-  took_each : (d : DrivesInFull seen view READ_LIMIT before after first last full) → full.report.fault ≢ Some faults.SinkClosed
-      → PutsWhole view (gives d.given.stops.earlier).messages (gives d.gave).messages d.middle last (ReportsInFull full) → TookInFull
+  took_each : (d : DrivesInFull seen view (limits_in before.context) before.source after first last full) → full.report.fault ≢ Some faults.SinkClosed
+      → PutsWhole view (given_within before.context.templates d.given.stops.earlier).messages (given_within before.context.templates d.gave).messages d.middle last (ReportsInFull full) → TookInFull
   took_each d taken p =
-      let all = (gives d.gave).messages in
+      let all = (given_within before.context.templates d.gave).messages in
       let stops = d.given.stops in
-      took_whole d all ([], sym (append-nil all)) (λ _. refl) (subst (λ (w : List ℕ). IsPrefix (gives stops.earlier).messages (gives w).messages) (sym stops.is) (gives-prefix stops.earlier stops.last)) taken p
+      took_whole d all ([], sym (append-nil all)) (λ _. refl) (subst (λ (w : List ℕ). IsPrefix (given_within before.context.templates stops.earlier).messages (given_within before.context.templates w).messages) (sym stops.is) (given_within-prefix before.context.templates stops.earlier stops.last)) taken p
 
   -- by the fault
-  took_by : (d : DrivesInFull seen view READ_LIMIT before after first last full) (fault : Option SessionFault) → full.report.fault ≡ fault → full.report.fault ≢ Some faults.SinkClosed
-      → PutsUpTo view fault (gives d.given.stops.earlier).messages (gives d.gave).messages d.middle last (ReportsInFull full) → TookInFull
+  took_by : (d : DrivesInFull seen view (limits_in before.context) before.source after first last full) (fault : Option SessionFault) → full.report.fault ≡ fault → full.report.fault ≢ Some faults.SinkClosed
+      → PutsUpTo view fault (given_within before.context.templates d.given.stops.earlier).messages (given_within before.context.templates d.gave).messages d.middle last (ReportsInFull full) → TookInFull
   took_by d None is taken p = took_each d taken p
   took_by d (Some faults.Truncated) is taken p = took_each d taken p
   took_by d (Some faults.ReadFailed) is taken p = took_each d taken p
@@ -84,9 +82,9 @@ module _ {S K : Type 0} (seen : S → SourceView) (view : SinkView K) (before af
   took_by d (Some (faults.Message e)) is taken p = took_each d taken p
   took_by d (Some faults.SinkClosed) is taken p = absurd (taken is)
 
-  pub took_in_full : DrivesInFull seen view READ_LIMIT before after first last full → view.refused last ≡ 0 → TookInFull
+  pub took_in_full : DrivesInFull seen view (limits_in before.context) before.source after first last full → view.refused last ≡ 0 → TookInFull
   took_in_full d none =
-      let short = driven_took_all seen view READ_LIMIT before after first last full.report (drives_told seen view READ_LIMIT before after first last full.report.fault _ _ (λ ms delivered told. told.counts.reports) d) none in
+      let short = driven_took_all_within seen view (limits_in before.context) before.source after first last full.report (drives_told seen view (limits_in before.context) before.source after first last full.report.fault _ _ (λ ms delivered told. told.counts.reports) d) none in
       took_by d full.report.fault refl short.given.not_closed d.puts
 
 -- ---- the ledgers
@@ -137,31 +135,25 @@ module _ {S : Type 0} (seen : S → SourceView) where
   balanced_each (s ∷ befores) (a ∷ afters) (f ∷ fulls) (q ∷ qs) e = (has_balanced s a f q e.0, balanced_each befores afters fulls qs e.1)
   balanced_each befores afters fulls qs e = absurd e
 
-  -- without the rest
-  pub given_short : (befores afters : List S) (fulls : List FullReport) (qs : List (List DataRecord)) → Each4 (IsGivenInFull seen) befores afters fulls qs → Each4 (IsGivenBy seen) befores afters (reports_in fulls) qs
-  given_short [] [] [] [] e = tt
-  given_short (s ∷ befores) (a ∷ afters) (f ∷ fulls) (q ∷ qs) e = (e.0.given, given_short befores afters fulls qs e.1)
-  given_short befores afters fulls qs e = absurd e
-
-  full_of_octets : (before after : S) (full : FullReport) (q : List DataRecord) (b : List ℕ) → IsGivenInFull seen before after full q → GaveThese (seen before) (seen after) b
-      → WasReadOut full.report → IsFullReport full b
+  full_of_octets : (before : InContext S) (after : S) (full : FullReport) (q : List DataRecord) (b : List ℕ) → IsGivenInFull seen before after full q → GaveThese (seen before.source) (seen after) b
+      → WasReadOut full.report → IsFullReportWithin before.context.templates full b
   full_of_octets before after full q b g t out =
-      let is = gave_is seen before after full.report q b g.given t in
-      let told : ReportsInFull full (gives g.given.gave).messages (length (records_of g.given.gave)) =
+      let limit = before.context.templates in
+      let limits = limits_in before.context in
+      let is = gave_is seen limits before.source after full.report q b g.given t in
+      let told : ReportsInFull full (given_within limit g.given.gave).messages (length (records_within limit g.given.gave)) =
       subst (λ (ms : List Message). ReportsInFull full ms (length (records_in ms))) (g.given.all out.had_memory) (subst (λ (rs : List DataRecord). ReportsInFull full g.given.counted (length rs)) g.given.records_are g.told) in
-      let here : ReportsInFull full (gives b).messages (length (records_of b)) = subst (λ (w : List ℕ). ReportsInFull full (gives w).messages (length (records_of w))) (sym is) told in
-      record { reports = here; fault = (report_of_octets seen before after full.report q b g.given t out).fault; stopped_at = here.counts.stopped_at ∙ place_is b }
-
-  full_each_own : (befores afters : List S) (fulls : List FullReport) (qs : List (List DataRecord)) (bs : List (List ℕ)) → Each4 (IsGivenInFull seen) befores afters fulls qs
-      → EachGave seen befores afters bs → AllZip (λ full b. WasReadOut full.report → IsFullReport full b) fulls bs
-  full_each_own befores afters fulls qs bs e t =
-      outer_two (λ (full : FullReport) (q : List DataRecord) (b : List ℕ). WasReadOut full.report → IsFullReport full b) (λ (full : FullReport) (b : List ℕ). WasReadOut full.report → IsFullReport full b) (λ full q b is. is) fulls qs bs
-      (last_two_beside (IsGivenInFull seen) (λ s a b. GaveThese (seen s) (seen a) b) (λ full q b. WasReadOut full.report → IsFullReport full b) full_of_octets befores afters fulls qs bs e t)
+      let here : ReportsInFull full (given_within limit b).messages (length (records_within limit b)) =
+      subst (λ (w : List ℕ). ReportsInFull full (given_within limit w).messages (length (records_within limit w))) (sym is) told in
+      record { reports = here; fault = (report_of_octets seen limits before.source after full.report q b g.given t out).fault; stopped_at = here.counts.stopped_at ∙ place_is_within limit b }
 
   pub full_each : (befores : List (InContext S)) (afters : List S) (fulls : List FilteredReport) (qs : List (List DataRecord)) (bs : List (List ℕ)) → Each4 (IsGivenInContext seen) befores afters fulls qs
-      → EachGave seen (sources_of befores) afters bs → AllZip (λ full b. WasReadOut full.report → IsFullReport full b) (fulls_in fulls) bs
-  full_each befores afters fulls qs bs e t =
-      let own = owns seen befores afters fulls qs e in full_each_own (sources_of befores) afters (fulls_in fulls) own.0 bs own.1 t
+      → EachGave seen (sources_of befores) afters bs → Each3 ReportsOctetsInFull befores (fulls_in fulls) bs
+  full_each [] [] [] [] [] e t = tt
+  full_each (s ∷ befores) (a ∷ afters) (f ∷ fulls) (q ∷ qs) (b ∷ bs) e t = (full_of_octets s a f.full e.0.own b e.0.given t.0, full_each befores afters fulls qs bs e.1 t.1)
+  full_each [] [] [] [] (b ∷ bs) e t = absurd t
+  full_each (s ∷ befores) (a ∷ afters) (f ∷ fulls) (q ∷ qs) [] e t = absurd t
+  full_each befores afters fulls qs bs e t = absurd e
 
   pub headline_short : (sources : List S) (befores : List (InContext S)) (plan : PlanValue) (pool : Pool) (c : FullAnswer S) (short : Answer S) → befores ≡ map alone sources → FullHeadline seen befores plan pool c → IsWithoutRest c short
       → Headline seen sources plan pool short
@@ -169,6 +161,6 @@ module _ {S : Type 0} (seen : S → SourceView) where
       record {
         records = h.records;
         received = rw w.links_are h.received;
-        given = rw (w.sources_are, w.sessions_are) (given_short sources c.sources.items (fulls_in c.sessions.items) h.records (given_alone seen sources befores c.sources.items c.sessions.items h.records are h.given));
+        given = rw (w.sources_are, w.sessions_are) (given_alone seen sources befores c.sources.items c.sessions.items h.records are h.given);
         added_up = record { table_is = is_same_table plan (all_of h.records) c.table short.table w.same h.added_up.table_is; not_too_large = h.added_up.not_too_large };
       }

@@ -1,3 +1,4 @@
+mod Limited
 pub mod PlaceLists
 pub mod GivenLists
 pub mod Large

@@ -8,7 +8,9 @@ use Rattle.std.specs.declared.net.ip_addr.IpAddr.TheVariants.{V4, V6}
 use Rattle.ipfix_wire.specs.declared.specifier.ElementId.{ElementId}
 use Rattle.ipfix_message.specs.Fields.{Field}
 use Rattle.ipfix_message.specs.declared.record.DataRecord.{DataRecord}
-use Rattle.ipfix_session.specs.Given.{records_of}
+use Rattle.ipfix_session.specs.Given.{records_within}
+use Rattle.ipfix_session.specs.declared.driver.TheConstants.{READ_LIMIT}
+use Rattle.ipfix_session.specs.declared.session_limits.SessionLimits.{SessionLimits}
 use Rattle.exporter_options.specs.Beside.{all_told, asked_first}
 use Rattle.flow_filter.specs.Sinks.{counted, left_out}
 use Rattle.flow_maps.specs.Numbers.{if_mapped}
@@ -76,7 +78,11 @@ all_with_context c records = map (with_context c) (all_told (asked_first c.optio
 
 -- nothing is known, and nothing is wanted
 abbrev pub nothing_known : SessionContext
-nothing_known = record { exporter = None; wanted = NOTHING_WANTED; options = told.NOTHING_WANTED; maps = None; estimates = None; refuses_sampled = false; times = Nothing }
+nothing_known = record { exporter = None; wanted = NOTHING_WANTED; options = told.NOTHING_WANTED; maps = None; estimates = None; refuses_sampled = false; times = Nothing; templates = None }
+
+-- how often a session reads at most, and what its templates may count
+abbrev pub limits_in : SessionContext → SessionLimits
+limits_in c = record { reads = READ_LIMIT; templates = c.templates }
 
 module _ {S : Type 0} where
   abbrev pub sources_of : List (InContext S) → List S
@@ -106,9 +112,10 @@ module _ {S : Type 0} where
   abbrev pub times_in : InContext S → List DataRecord → TimesReport
   times_in s own = times_of s.context.times (counted_in s own)
 
-  -- the records of these texts that count, each with what the session of its source knows
+  -- the records of these texts that count, each with what the session of its source knows: of a session with a limit of templates
+  -- those before the message that is above it
   abbrev pub records_in_context : List (InContext S) → List (List ℕ) → List (List DataRecord)
-  records_in_context (s ∷ sources) (text ∷ texts) = counted_in s (records_of text) ∷ records_in_context sources texts
+  records_in_context (s ∷ sources) (text ∷ texts) = counted_in s (records_within s.context.templates text) ∷ records_in_context sources texts
   records_in_context sources texts = []
 
   -- the records of all sessions, session after session, each with what its session knows, whether it counts or not

@@ -5,6 +5,7 @@ use Rattle.std.specs.List.{AllZip}
 use Rattle.ipfix_message.specs.Domains.{Message}
 use Rattle.ipfix_message.specs.declared.record.DataRecord.{DataRecord}
 use Rattle.ipfix_session.specs.Balances.{sequence_at_end}
+use Rattle.ipfix_session.specs.Drives.{IsGivenWithin}
 use Rattle.ipfix_session.specs.Ledger.{messages_of}
 use Rattle.ipfix_session.specs.Places.{ReportsInFull}
 use Rattle.ipfix_session.specs.Sources.{SourceView}
@@ -17,9 +18,9 @@ use Rattle.flow_table.specs.SameTables.{IsSameTable}
 use Rattle.flow_table.specs.declared.table.Table.{Table}
 use Rattle.flow_filter.specs.Sinks.{counted}
 use Rattle.flow_filter.specs.declared.filter.Filter.{Filter}
-use Rattle.flow_collect.specs.Contexts.{all_in_context, counted_in, known_in, left_out_in, noted_in, sources_of, times_in}
+use Rattle.flow_collect.specs.Contexts.{all_in_context, counted_in, known_in, left_out_in, limits_in, noted_in, times_in}
 use Rattle.flow_collect.specs.Rated.{Tells}
-use Rattle.flow_collect.specs.Headline.{Answer, HeadlineWith, IsAddedUp, IsGivenBy, SerialHeadlineWith}
+use Rattle.flow_collect.specs.Headline.{Answer, HeadlineWith, IsAddedUp, SerialHeadlineWith}
 use Rattle.flow_collect.specs.Places.{Each4}
 use Rattle.flow_collect.specs.declared.collected.Pool.{Pool}
 use Rattle.flow_collect.specs.declared.collected.Collected.{Collected}
@@ -53,11 +54,12 @@ pub record IsBalanced (ms : List Message) (report : DomainReport) (balance : Dom
       → (first.header.sequence + report.count + report.lost + balance.unaccounted) % 2 ^ 32 ≡ sequence_at_end first more
 
 module _ {S : Type 0} (seen : S → SourceView) where
-  -- the records are those of the octets that the source gave, as the report tells; and of the messages that the report
-  -- counts the full report tells the rest: what each domain passed over, the gaps after its unknown sets, and where the
-  -- session stopped
-  pub record IsGivenInFull (before after : S) (full : FullReport) (records : List DataRecord) : Type 0 where
-    pub given : IsGivenBy seen before after full.report records
+  -- the records are those of the octets that the source gave, as the report tells, up to their end or first fault; a message
+  -- after which the session's templates would count more than its context allows has the fault `TooManyFields` (without a limit
+  -- this is `IsGivenBy` of the headline). And of the messages that the report counts the full report tells the rest: what each
+  -- domain passed over, the gaps after its unknown sets, and where the session stopped
+  pub record IsGivenInFull (before : InContext S) (after : S) (full : FullReport) (records : List DataRecord) : Type 0 where
+    pub given : IsGivenWithin seen (limits_in before.context) before.source after full.report records
     pub told : ReportsInFull full given.counted (length records)
 
   -- and with context: of the records that the source gave, each with what its session knows after its own fields, these are
@@ -65,7 +67,7 @@ module _ {S : Type 0} (seen : S → SourceView) where
   -- at which rates those are sampled that count, and of their times
   pub record IsGivenInContext (before : InContext S) (after : S) (told : FilteredReport) (records : List DataRecord) : Type 0 where
     pub own : List DataRecord
-    pub given : IsGivenInFull before.source after told.full own
+    pub given : IsGivenInFull before after told.full own
     pub records_are : records ≡ counted_in before own
     pub filtered_is : told.filtered ≡ left_out_in before own
     pub sampling_is : Tells (known_in before own) (noted_in before own) told.sampling
@@ -88,7 +90,7 @@ module _ {S : Type 0} (seen : S → SourceView) where
   -- filter counts
   pub record IsOfCounted (f : Option (Bor Filter)) (sources : List (InContext S)) (plan : PlanValue) (s : FullSerialAnswer S) : Type 0 where
     pub own : List (List DataRecord)
-    pub given : Each4 IsGivenInFull (sources_of sources) s.sources.items (fulls_in s.sessions.items) own
+    pub given : Each4 IsGivenInFull sources s.sources.items (fulls_in s.sessions.items) own
     pub added_up : IsAddedUp plan (counted f (all_in_context sources own)) s.table
 
   -- each domain's ledger balances, of the messages that the report counts

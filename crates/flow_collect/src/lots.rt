@@ -17,7 +17,7 @@ use flow_filter::FilterSink;
 use flow_table::{Partial, Plan, TableFault};
 use flow_times::TimeNotes;
 use ipfix_message::DataRecord;
-use ipfix_session::{READ_LIMIT, Sink, Source, drive_in_full};
+use ipfix_session::{READ_LIMIT, SessionLimits, Sink, Source, drive_in_full};
 use std::alloc::{AllocError, Global};
 use std::collections::VecDeque;
 use std::thread::{Threads, join};
@@ -144,7 +144,11 @@ fn drive_one<S: Source + Drop>(
     let notes = first_notes(alloc, context.options.sampling)?;
     let rates = RateSink::new(context.estimates, notes, times);
     let mut sink = ContextSink::new(told, fields, FilterSink::new(filter, rates));
-    let full = drive_in_full(alloc, &mut source, &mut sink, READ_LIMIT);
+    let limits = SessionLimits {
+        reads: READ_LIMIT,
+        templates: context.templates,
+    };
+    let full = drive_in_full(alloc, &mut source, &mut sink, limits);
     if sink.lost.is_some() || sink.refused > 0 {
         return Err(AllocError);
     }

@@ -59,6 +59,9 @@ pub struct SessionContext<'a> {
     pub refuses_sampled: bool,
     /// What is noted of the times of the records that count.
     pub times: TimeNoting,
+    /// What the templates of the session may count, if they have a limit: 8 each and its field specifiers, and 16 each
+    /// domain. A message after which they would count more ends the session.
+    pub templates: Option<u64>,
 }
 
 /// No elements of context.
@@ -81,6 +84,7 @@ pub fn no_context<'a>() -> SessionContext<'a>
         estimates: None,
         refuses_sampled: false,
         times: TimeNoting::Nothing,
+        templates: None,
     }
 }
 

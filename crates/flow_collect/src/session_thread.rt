@@ -16,7 +16,7 @@ use exporter_options::ToldFields;
 use flow_filter::{Filter, FilterSink};
 use flow_link::Sender;
 use flow_times::TimeNotes;
-use ipfix_session::{READ_LIMIT, Source, drive_in_full};
+use ipfix_session::{READ_LIMIT, SessionLimits, Source, drive_in_full};
 use std::alloc::Global;
 use std::sync::Wait;
 
@@ -72,7 +72,11 @@ pub fn run_session<'x, S: Source + Drop, G: Gate, R: Wait>(
     };
     let rates = RateSink::new(context.estimates, notes, times);
     let mut sink = ContextSink::new(told, fields, FilterSink::new(filter, rates));
-    let full = drive_in_full(alloc, &mut source, &mut sink, READ_LIMIT);
+    let limits = SessionLimits {
+        reads: READ_LIMIT,
+        templates: context.templates,
+    };
+    let full = drive_in_full(alloc, &mut source, &mut sink, limits);
     let sent = sink.sink.sink.sink.sink.send_last();
     if let Some(shortage) = sink.lost {
         return Err(shortage);

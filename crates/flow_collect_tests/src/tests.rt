@@ -7,4 +7,5 @@ mod meeting;
 mod memory;
 mod runs;
 mod sampling;
+mod template_limits;
 mod texts;

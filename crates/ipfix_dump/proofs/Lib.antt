@@ -3,3 +3,4 @@ pub mod FieldTexts
 mod InFull
 mod Joined
 mod Kept
+mod Limited

@@ -1,5 +1,5 @@
 -- What a sink of lines wrote, and a dump without a fault.
-use Rattle.std.proofs.Common.{◌≡◌, ℕ, List, [], ◌∷◌, Option, None, Some, true, refl, subst, ◌∙◌}
+use Rattle.std.proofs.Common.{◌≡◌, ℕ, List, [], ◌∷◌, Option, None, Some, true, refl, ap, subst, ◌∙◌}
 use Rattle.std.specs.List.{FoldsTo, flat_map}
 use Rattle.std.specs.Option.{ForSome}
 use Rattle.std.specs.Io.KnownBytes.{Appends}
@@ -7,8 +7,9 @@ use Rattle.std.proofs.KnownBytes.{Appends-nil, Appends-trans}
 use Rattle.ipfix_message.specs.declared.record.DataRecord.{DataRecord}
 use Rattle.ipfix_session.specs.declared.report.SessionReport.{SessionReport}
 use Rattle.ipfix_session.specs.Sources.{SourceView}
-use Rattle.ipfix_session.proofs.Driven.{given_all_of}
-use Rattle.ipfix_dump.specs.Dumped.{Dumps, DumpsAll}
+use Rattle.ipfix_session.specs.Given.{Given, records_in}
+use Rattle.ipfix_dump.specs.Dumped.{Dumps, DumpsAll, limits_with}
+use Rattle.ipfix_dump.proofs.Limited.{given_all_within}
 
 module _ {K N : Type 0} (line_of : K → DataRecord → List ℕ) (name : K → N) (contents : K → Option (List ℕ)) where
   -- a record's line is appended to the same writer, and the lines of others stay as they were
@@ -25,9 +26,9 @@ module _ {K N : Type 0} (line_of : K → DataRecord → List ℕ) (name : K → 
 
 -- ---- a dump without a fault
 
-pub dumps_all : {S : Type 0} (seen : S → SourceView) (line_of : DataRecord → List ℕ) (before after : S) (old new : Option (List ℕ)) (r : SessionReport) → ((seen after).ended ≡ true → ForSome (seen after).text (λ xs. xs ≡ []))
-    → Dumps line_of seen before after old new r → r.fault ≡ None → (held : Option (List ℕ)) → (seen before).text ≡ held → DumpsAll line_of held old new
-dumps_all seen line_of before after old new r at_end d none None is = tt
-dumps_all seen line_of before after old new r at_end d none (Some whole) is =
-    let all = given_all_of seen _ before after r d.records whole at_end d.given none is in
-    (all.0, subst (λ (rs : List DataRecord). Appends old new (flat_map line_of rs)) all.1 d.written)
+pub dumps_all : {S : Type 0} (seen : S → SourceView) (line_of : DataRecord → List ℕ) (templates : Option ℕ) (before after : S) (old new : Option (List ℕ)) (r : SessionReport) → ((seen after).ended ≡ true → ForSome (seen after).text (λ xs. xs ≡ []))
+    → Dumps line_of templates seen before after old new r → r.fault ≡ None → (held : Option (List ℕ)) → (seen before).text ≡ held → DumpsAll line_of held old new
+dumps_all seen line_of templates before after old new r at_end d none None is = tt
+dumps_all seen line_of templates before after old new r at_end d none (Some whole) is =
+    let all = given_all_within seen (limits_with templates) before after r d.records whole at_end d.given none is in
+    (all.clean, subst (λ (rs : List DataRecord). Appends old new (flat_map line_of rs)) (all.within ∙ ap (λ (g : Given). records_in g.messages) all.same) d.written)

@@ -18,4 +18,6 @@ pub struct DumpOptions<'a> {
     pub form: Form,
     /// By these, elements are named and their values are read.
     pub elements: &'a Elements,
+    /// What the templates of the session may count, if they have a limit.
+    pub templates: Option<u64>,
 }

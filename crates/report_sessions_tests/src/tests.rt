@@ -42,6 +42,7 @@ fn report_from<S: Source>(alloc: Global, source: &mut S) -> Result<FullReport, F
     let options = DumpOptions {
         form: Form::Text,
         elements: &elements,
+        templates: None,
     };
     Ok(dump_with(alloc, &options, source, &mut out)?)
 }

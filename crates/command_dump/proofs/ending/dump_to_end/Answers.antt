@@ -17,7 +17,7 @@ returns-in-Ok-clause-runs g c =
     record {
       statuses = one_of_three c.end_of.result _ refl c.end_of.ensures.ends;
       all = λ zero.
-          dumps_all g.S.Source.seen (line_in job.form c.args.elements.now) c.args.source.now c.dump_whole.new.source _ _ c.in-Ok.full.report (g.met.S.Source.ended_is_end c.dump_whole.new.source)
+          dumps_all g.S.Source.seen (line_in job.form c.args.elements.now) job.templates c.args.source.now c.dump_whole.new.source _ _ c.in-Ok.full.report (g.met.S.Source.ended_is_end c.dump_whole.new.source)
           c.in-Ok.ensures.dumps (well_no_fault job.verbosity.strict c.in-Ok.full (well.0 zero)) _ refl;
       dumped = λ ran. record {
         full = c.in-Ok.full;

@@ -17,14 +17,14 @@ use Rattle.flow_collect.proofs.session_thread.run_session.Goals as goal
 
 pub returns : goal.returns
 returns g c =
+    let session = given_to c.args.start in
     let first = c.new-sink.result in
     let over = c.drive_in_full-full.new.sink in
     let none : over.refused ≡ 0 = omega (arith, c.if-sink-gt0.false) in
-    let put = took_in_full _ _ _ _ _ _ _ c.drive_in_full-full.ensures none in
+    let put = took_in_full _ _ session _ _ _ _ c.drive_in_full-full.ensures none in
     let new = c.new-sink.ensures in
     let filter = c.new-4.ensures in
     let rates = c.new-rates.ensures in
-    let session = given_to c.args.start in
     let records = counted_in session put.records in
     let kept = kept_counted (rate_view (time_view link_view)) session first over put.records (new.given.0 ∙ c.in_ok-told.ensures) (new.given.1 ∙ c.in_ok-fields.ensures) (ap (λ s. s.filter) new.given.2 ∙ filter.0) (ap (λ s. s.filtered) new.given.2 ∙ filter.1) put.takes.chain c.in_default.is in
     let rate_sink : first.sink.sink ≡ c.new-rates.result = ap (λ s. s.sink) new.given.2 ∙ filter.2 in
