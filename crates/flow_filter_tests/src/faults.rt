@@ -19,20 +19,27 @@ fn fault_of(alloc: Global, kind: Kind, texts: &[&str]) -> Option<FilterFault> {
 #[test]
 fn the_first_fault(rt: HostRuntime) -> Result<(), Fail> {
     let alloc = rt.alloc();
-    assert_eq!(rt; fault_of(alloc, Kind::Octets, &[]), Some(FilterFault::Kind));
-    assert_eq!(rt;
+    let kinds = [
+        fault_of(alloc, Kind::Octets, &[]),
         fault_of(alloc, Kind::Mac, &["9-2"]),
-        Some(FilterFault::Kind)
-    );
-    assert_eq!(rt; fault_of(alloc, PORT, &[]), Some(FilterFault::Count));
-    assert_eq!(rt;
-        fault_of(alloc, PORT, &["80", "9-2", "x"]),
-        Some(FilterFault::Text { place: 1 })
-    );
+    ];
     let most = ["9"; MAX_TEXTS];
-    assert_eq!(rt; fault_of(alloc, PORT, &most), None);
     let too_many = ["9-2"; MAX_TEXTS + 1];
-    assert_eq!(rt; fault_of(alloc, PORT, &too_many), Some(FilterFault::Count));
+    let counts = [
+        fault_of(alloc, PORT, &[]),
+        fault_of(alloc, PORT, &most),
+        fault_of(alloc, PORT, &too_many),
+    ];
+    let text = fault_of(alloc, PORT, &["80", "9-2", "x"]);
+    let count = Some(FilterFault::Count);
+    assert_eq!(rt;
+        (kinds, counts, text),
+        (
+            [Some(FilterFault::Kind); 2],
+            [count, None, count],
+            Some(FilterFault::Text { place: 1 })
+        )
+    );
     Ok(())
 }
 

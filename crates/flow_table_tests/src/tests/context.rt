@@ -10,6 +10,7 @@ use ipfix_elements::{Cell, Kind, Width};
 use ipfix_message::{DataRecord, Fields};
 use ipfix_wire::ElementId;
 use std::alloc::{AllocError, Global};
+use std::process::Abort;
 use std::test::Fail;
 
 /// What a file says of these elements is not heeded: each has a kind of its own.
@@ -55,84 +56,123 @@ fn fault_of(alloc: Global, keys: &[Key]) -> &'static str {
     }
 }
 
-#[test]
-fn each_has_a_name_and_a_kind_whatever_files_say(rt: HostRuntime) -> Result<(), Fail> {
-    let files = known(rt.alloc())?;
-    for (element, number, name, kind) in [
-        (EXPORTER, 32768, "exporter", Kind::Ipv6),
-        (
-            EXPORTER_IPV4_ADDRESS,
-            130,
-            "exporterIPv4Address",
-            Kind::Ipv4,
-        ),
-        (
-            EXPORTER_IPV6_ADDRESS,
-            131,
-            "exporterIPv6Address",
-            Kind::Ipv6,
-        ),
-        (
-            OBSERVATION_DOMAIN_ID,
-            149,
-            "observationDomainId",
-            Kind::Unsigned(Width::Four),
-        ),
-    ] {
-        assert_eq!(rt; element, ElementId::iana(number));
-        assert_eq!(rt; context_name(element), Some(name));
-        assert_eq!(rt; context_named(name), Some(element));
-        assert_eq!(rt; context_kind(element), Some(kind));
-        let plan = plan_of(rt.alloc(), &files, &[key(element)])?;
-        assert_eq!(rt; plan.kinds().first(), Some(&kind));
-    }
-    assert_eq!(rt; context_name(ElementId::iana(8)), None);
-    assert_eq!(rt; context_named("Exporter"), None);
+// The kind that a plan has of its only key.
+fn kind_in_plan(
+    alloc: Global,
+    elements: &Elements,
+    element: ElementId,
+) -> Result<Option<Kind>, PlanFault> {
+    let plan = plan_of(alloc, elements, &[key(element)])?;
+    Ok(plan.kinds().first().copied())
+}
+
+// That an element has this number, name and kind, also in a plan.
+fn assert_known(
+    rt: &impl Abort,
+    alloc: Global,
+    files: &Elements,
+    element: ElementId,
+    (number, name, kind): (u16, &'static str, Kind),
+) -> Result<(), PlanFault> {
+    let kinds = [context_kind(element), kind_in_plan(alloc, files, element)?];
+    let named = (element, context_name(element), context_named(name));
+    assert_eq!(rt; named, (ElementId::iana(number), Some(name), Some(element)));
+    assert_eq!(rt; kinds, [Some(kind), Some(kind)]);
     Ok(())
 }
 
 #[test]
-fn plans_of_records_alone_have_none_of_them(rt: HostRuntime) {
-    for element in [
+fn each_has_a_name_and_a_kind_whatever_files_say(rt: HostRuntime) -> Result<(), Fail> {
+    let alloc = rt.alloc();
+    let files = known(alloc)?;
+    let (address, address_6) = ("exporterIPv4Address", "exporterIPv6Address");
+    let domain = (149, "observationDomainId", Kind::Unsigned(Width::Four));
+    assert_known(
+        &rt,
+        alloc,
+        &files,
         EXPORTER,
+        (32768, "exporter", Kind::Ipv6),
+    )?;
+    assert_known(
+        &rt,
+        alloc,
+        &files,
         EXPORTER_IPV4_ADDRESS,
+        (130, address, Kind::Ipv4),
+    )?;
+    assert_known(
+        &rt,
+        alloc,
+        &files,
         EXPORTER_IPV6_ADDRESS,
-        OBSERVATION_DOMAIN_ID,
-    ] {
-        let keys = [key(element)];
-        let counters = [ElementId::iana(1)];
-        let fault = match Plan::new(rt.alloc(), 60_000, Method::Start, &keys, &counters, 4096) {
-            Ok(_) => "none",
-            Err(fault) => fault.name(),
-        };
-        assert_eq!(rt; fault, "KeyKind");
+        (131, address_6, Kind::Ipv6),
+    )?;
+    assert_known(&rt, alloc, &files, OBSERVATION_DOMAIN_ID, domain)?;
+    let others = (context_name(ElementId::iana(8)), context_named("Exporter"));
+    assert_eq!(rt; others, (None, None));
+    Ok(())
+}
+
+// The fault of a plan of records alone, by its key.
+fn fault_without_context(alloc: Global, element: ElementId) -> &'static str {
+    let counters = [ElementId::iana(1)];
+    match Plan::new(
+        alloc,
+        60_000,
+        Method::Start,
+        &[key(element)],
+        &counters,
+        4096,
+    ) {
+        Ok(_) => "none",
+        Err(fault) => fault.name(),
     }
 }
 
 #[test]
+fn plans_of_records_alone_have_none_of_them(rt: HostRuntime) {
+    let faults = [
+        fault_without_context(rt.alloc(), EXPORTER),
+        fault_without_context(rt.alloc(), EXPORTER_IPV4_ADDRESS),
+        fault_without_context(rt.alloc(), EXPORTER_IPV6_ADDRESS),
+        fault_without_context(rt.alloc(), OBSERVATION_DOMAIN_ID),
+    ];
+    assert_eq!(rt; faults, ["KeyKind"; 4]);
+}
+
+fn assert_fault(rt: &impl Abort, alloc: Global, keys: &[Key], want: &str) {
+    assert_eq!(rt; fault_of(alloc, keys), want);
+}
+
+#[test]
 fn an_exporter_is_a_key_once_and_whole(rt: HostRuntime) {
+    let alloc = rt.alloc();
     let network = Key {
         element: EXPORTER,
         prefix: Some(64),
     };
-    let cases: [(&[Key], &str); 6] = [
-        (&[key(EXPORTER)], "none"),
-        (&[network], "Prefix"),
-        // It is exported as exporterIPv6Address.
-        (&[key(EXPORTER), key(EXPORTER_IPV6_ADDRESS)], "Repeated"),
-        (&[key(EXPORTER), key(EXPORTER_IPV4_ADDRESS)], "none"),
-        (&[key(EXPORTER), key(EXPORTER)], "Repeated"),
-        // A number that no template can name, and that is no element of context.
-        (&[key(ElementId::iana(32769))], "KeyKind"),
-    ];
-    for (keys, want) in cases {
-        assert_eq!(rt; fault_of(rt.alloc(), keys), want);
-    }
-    assert_eq!(rt; key(EXPORTER).exported_element(), EXPORTER_IPV6_ADDRESS);
-    assert_eq!(rt;
-        key(EXPORTER_IPV4_ADDRESS).exported_element(),
-        EXPORTER_IPV4_ADDRESS
+    let (exporter, address) = (key(EXPORTER), key(EXPORTER_IPV4_ADDRESS));
+    assert_fault(&rt, alloc, &[exporter], "none");
+    assert_fault(&rt, alloc, &[network], "Prefix");
+    // It is exported as exporterIPv6Address.
+    assert_fault(
+        &rt,
+        alloc,
+        &[exporter, key(EXPORTER_IPV6_ADDRESS)],
+        "Repeated",
     );
+    assert_fault(&rt, alloc, &[exporter, address], "none");
+    assert_fault(&rt, alloc, &[exporter, exporter], "Repeated");
+    // A number that no template can name, and that is no element of context.
+    assert_fault(&rt, alloc, &[key(ElementId::iana(32769))], "KeyKind");
+    let exported = [exporter.exported_element(), address.exported_element()];
+    assert_eq!(rt; exported, [EXPORTER_IPV6_ADDRESS, EXPORTER_IPV4_ADDRESS]);
+}
+
+// Which of them a plan's keys name.
+fn context_of(alloc: Global, elements: &Elements, keys: &[Key]) -> Result<Context, PlanFault> {
+    Ok(plan_of(alloc, elements, keys)?.context())
 }
 
 #[test]
@@ -143,44 +183,43 @@ fn a_plan_says_which_of_them_its_keys_name(rt: HostRuntime) -> Result<(), Fail> 
         exporter_ipv6_address: false,
         observation_domain_id: false,
     };
-    let elements = Elements::built_in(rt.alloc());
-    let address = key(ElementId::iana(8));
-    let plan = plan_of(rt.alloc(), &elements, &[address])?;
-    assert!(rt; plan.context() == none);
-    let plan = plan_of(rt.alloc(), &elements, &[address, key(EXPORTER)])?;
-    assert!(rt;
-        plan.context()
-            == Context {
-                exporter: true,
-                ..none
-            }
-    );
-    let keys = [key(OBSERVATION_DOMAIN_ID), key(EXPORTER_IPV4_ADDRESS)];
-    let plan = plan_of(rt.alloc(), &elements, &keys)?;
+    let exporter = Context {
+        exporter: true,
+        ..none
+    };
     let both = Context {
         exporter_ipv4_address: true,
         observation_domain_id: true,
         ..none
     };
-    assert!(rt; plan.context() == both);
-    let plan = plan_of(rt.alloc(), &elements, &[key(EXPORTER_IPV6_ADDRESS)])?;
-    assert!(rt;
-        plan.context()
-            == Context {
-                exporter_ipv6_address: true,
-                ..none
-            }
-    );
+    let address_6 = Context {
+        exporter_ipv6_address: true,
+        ..none
+    };
+    let (alloc, elements) = (rt.alloc(), Elements::built_in(rt.alloc()));
+    let address = key(ElementId::iana(8));
+    let named = [key(OBSERVATION_DOMAIN_ID), key(EXPORTER_IPV4_ADDRESS)];
+    let found = [
+        context_of(alloc, &elements, &[address])?,
+        context_of(alloc, &elements, &[address, key(EXPORTER)])?,
+        context_of(alloc, &elements, &named)?,
+        context_of(alloc, &elements, &[key(EXPORTER_IPV6_ADDRESS)])?,
+    ];
+    assert_eq!(rt; found, [none, exporter, both, address_6]);
     Ok(())
+}
+
+fn push_flow(fields: &mut Fields, octets: u64) -> Result<(), AllocError> {
+    fields.push(ElementId::iana(152), &1000u64.to_be_bytes())?;
+    fields.push(ElementId::iana(153), &2000u64.to_be_bytes())?;
+    fields.push(ElementId::iana(1), &octets.to_be_bytes())?;
+    fields.push(EXPORTER_IPV4_ADDRESS, &[198, 51, 100, 7])
 }
 
 // A flow of the first minute that says 198.51.100.7 of its exporter.
 fn flow(alloc: Global, octets: u64) -> Result<DataRecord, AllocError> {
     let mut fields = Fields::new(alloc);
-    fields.push(ElementId::iana(152), &1000u64.to_be_bytes())?;
-    fields.push(ElementId::iana(153), &2000u64.to_be_bytes())?;
-    fields.push(ElementId::iana(1), &octets.to_be_bytes())?;
-    fields.push(EXPORTER_IPV4_ADDRESS, &[198, 51, 100, 7])?;
+    push_flow(&mut fields, octets)?;
     Ok(DataRecord {
         domain: 1,
         export_time: 1_700_000_000,
@@ -206,16 +245,22 @@ fn parts_of(row: &Row) -> (Option<Cell>, Option<u64>, u64) {
     )
 }
 
-// The first row, and how many records are unkeyed, of two flows in context and one without.
+// Adds two flows in context and one without.
+fn add_flows(alloc: Global, partial: &mut Partial) -> Result<(), Fail> {
+    partial.add(&flow_in_context(alloc, 1500)?)?;
+    partial.add(&flow_in_context(alloc, 40)?)?;
+    partial.add(&flow(alloc, 7)?)?;
+    Ok(())
+}
+
+// The first row, and how many records are unkeyed, of these flows.
 fn rows_by(
     alloc: Global,
     element: ElementId,
 ) -> Result<(Option<(Option<Cell>, Option<u64>, u64)>, u64), Fail> {
     let plan = plan_of(alloc, &Elements::built_in(alloc), &[key(element)])?;
     let mut partial = Partial::new(alloc, &plan)?;
-    partial.add(&flow_in_context(alloc, 1500)?)?;
-    partial.add(&flow_in_context(alloc, 40)?)?;
-    partial.add(&flow(alloc, 7)?)?;
+    add_flows(alloc, &mut partial)?;
     let table = partial.finish()?;
     Ok((table.rows.first().map(parts_of), table.tally.unkeyed))
 }
@@ -223,14 +268,15 @@ fn rows_by(
 // What stands first of an element wins: a record's own field, and an exporter's address is none of these.
 #[test]
 fn rows_are_told_apart_by_exporter(rt: HostRuntime) -> Result<(), Fail> {
-    let (row, unkeyed) = rows_by(rt.alloc(), EXPORTER)?;
-    assert_eq!(rt; row, Some((Some(Cell::Ipv6(MAPPED)), Some(1540), 2)));
-    assert_eq!(rt; unkeyed, 1);
-    let (row, unkeyed) = rows_by(rt.alloc(), EXPORTER_IPV4_ADDRESS)?;
+    let own = Cell::Ipv4([198, 51, 100, 7]);
+    let known = (Some(Cell::Ipv6(MAPPED)), Some(1540), 2);
+    let found = [
+        rows_by(rt.alloc(), EXPORTER)?,
+        rows_by(rt.alloc(), EXPORTER_IPV4_ADDRESS)?,
+    ];
     assert_eq!(rt;
-        row,
-        Some((Some(Cell::Ipv4([198, 51, 100, 7])), Some(1547), 3))
+        found,
+        [(Some(known), 1), (Some((Some(own), Some(1547), 3)), 0)]
     );
-    assert_eq!(rt; unkeyed, 0);
     Ok(())
 }

@@ -3,11 +3,12 @@
 ghost use Rattle.std.specs.Prelude.{◌<◌, ◌^◌, length};
 
 use element_registry::{ElementKind, Elements, ElementsFault, Entry, add_file};
-use flow_table::{Choices, Key, Method, Partial, Plan, PlanFault, Row};
+use flow_table::{Choices, Key, Method, Partial, Plan, PlanFault, Row, Table};
 use ipfix_elements::{Cell, Kind, Width, name_of};
 use ipfix_message::{DataRecord, Fields};
 use ipfix_wire::ElementId;
 use std::alloc::{AllocError, Global};
+use std::process::Abort;
 use std::test::Fail;
 
 /// A truth value, a text, a delta counter and a total, and a counter, a port and an address of the way
@@ -83,9 +84,23 @@ fn fault_of(
     }
 }
 
+// That a plan of this key and this counter has this fault.
+fn assert_fault(
+    rt: &impl Abort,
+    alloc: Global,
+    elements: &Elements,
+    (key, prefix): (ElementId, Option<u8>),
+    counter: ElementId,
+    want: &str,
+) {
+    let fault = fault_of(alloc, elements, key, prefix, counter);
+    assert_eq!(rt; fault, want, "{}.{}", key.pen, key.number);
+}
+
 #[test]
 fn what_a_file_names_may_be_a_key_or_a_counter(rt: HostRuntime) -> Result<(), Fail> {
-    let elements = known(rt.alloc())?;
+    let alloc = rt.alloc();
+    let elements = known(alloc)?;
     for (key, prefix, counter, want) in [
         (RELIABLE, None, CONNECTIONS, "none"),
         (reverse(7), None, reverse(1), "none"),
@@ -102,42 +117,73 @@ fn what_a_file_names_may_be_a_key_or_a_counter(rt: HostRuntime) -> Result<(), Fa
         (RELIABLE, None, reverse(7), "CounterKind"),
         (CONNECTIONS, None, CONNECTIONS, "Repeated"),
     ] {
-        let fault = fault_of(rt.alloc(), &elements, key, prefix, counter);
-        assert_eq!(rt; fault, want, "{}.{}", key.pen, key.number);
+        assert_fault(&rt, alloc, &elements, (key, prefix), counter, want);
     }
     Ok(())
 }
 
 #[test]
 fn without_files_there_are_built_in_elements_alone(rt: HostRuntime) {
-    let elements = Elements::built_in(rt.alloc());
-    for (key, counter, want) in [
-        (RELIABLE, ElementId::iana(1), "KeyKind"),
-        (ElementId::iana(7), CONNECTIONS, "CounterKind"),
-        (ElementId::iana(7), ElementId::iana(1), "none"),
-    ] {
-        let fault = fault_of(rt.alloc(), &elements, key, None, counter);
-        assert_eq!(rt; fault, want);
-    }
+    let alloc = rt.alloc();
+    let elements = Elements::built_in(alloc);
+    let (port, octets) = (ElementId::iana(7), ElementId::iana(1));
+    assert_fault(&rt, alloc, &elements, (RELIABLE, None), octets, "KeyKind");
+    assert_fault(
+        &rt,
+        alloc,
+        &elements,
+        (port, None),
+        CONNECTIONS,
+        "CounterKind",
+    );
+    assert_fault(&rt, alloc, &elements, (port, None), octets, "none");
+}
+
+// That a plan has this kind of its only key.
+fn assert_kind(
+    rt: &impl Abort,
+    alloc: Global,
+    elements: &Elements,
+    key: ElementId,
+    want: Kind,
+) -> Result<(), PlanFault> {
+    let plan = plan_of(alloc, elements, key, None, ElementId::iana(1))?;
+    assert_eq!(rt; plan.kinds().first().copied(), Some(want));
+    Ok(())
 }
 
 #[test]
 fn a_plan_has_the_kinds_of_its_keys(rt: HostRuntime) -> Result<(), Fail> {
-    let elements = known(rt.alloc())?;
-    let octet = Kind::Unsigned(Width::One);
-    let port = Kind::Unsigned(Width::Two);
-    for (key, want) in [
-        (RELIABLE, octet),
-        // A delta counter, of type unsigned32 in the file.
-        (CONNECTIONS, Kind::Unsigned(Width::Eight)),
-        (reverse(7), port),
-        (reverse(8), Kind::Ipv4),
-    ] {
-        let plan = plan_of(rt.alloc(), &elements, key, None, ElementId::iana(1))?;
-        let kind = plan.kinds().first().copied();
-        assert_eq!(rt; kind, Some(want));
-    }
+    let alloc = rt.alloc();
+    let elements = known(alloc)?;
+    assert_kind(&rt, alloc, &elements, RELIABLE, Kind::Unsigned(Width::One))?;
+    // A delta counter, of type unsigned32 in the file.
+    assert_kind(
+        &rt,
+        alloc,
+        &elements,
+        CONNECTIONS,
+        Kind::Unsigned(Width::Eight),
+    )?;
+    assert_kind(
+        &rt,
+        alloc,
+        &elements,
+        reverse(7),
+        Kind::Unsigned(Width::Two),
+    )?;
+    assert_kind(&rt, alloc, &elements, reverse(8), Kind::Ipv4)?;
     Ok(())
+}
+
+// The fields of such a flow.
+fn push_flow(fields: &mut Fields, reliable: u8, connections: &[u8]) -> Result<(), AllocError>
+    requires { length connections.now < 2 ^ 16 }
+{
+    fields.push(ElementId::iana(152), &1000u64.to_be_bytes())?;
+    fields.push(ElementId::iana(153), &2000u64.to_be_bytes())?;
+    fields.push(RELIABLE, &[reliable])?;
+    fields.push(CONNECTIONS, connections)
 }
 
 // A flow of the first minute with a truth value, and a number of connections.
@@ -145,10 +191,7 @@ fn flow(alloc: Global, reliable: u8, connections: &[u8]) -> Result<DataRecord, A
     requires { length connections.now < 2 ^ 16 }
 {
     let mut fields = Fields::new(alloc);
-    fields.push(ElementId::iana(152), &1000u64.to_be_bytes())?;
-    fields.push(ElementId::iana(153), &2000u64.to_be_bytes())?;
-    fields.push(RELIABLE, &[reliable])?;
-    fields.push(CONNECTIONS, connections)?;
+    push_flow(&mut fields, reliable, connections)?;
     Ok(DataRecord {
         domain: 1,
         export_time: 1_700_000_000,
@@ -166,23 +209,39 @@ fn parts_of(row: &Row) -> (Option<Cell>, Option<u64>, u64) {
     )
 }
 
+// A plan of truth values, and of the numbers of connections.
+fn plan_of_connections(alloc: Global) -> Result<Plan, Fail> {
+    let elements = known(alloc)?;
+    Ok(plan_of(alloc, &elements, RELIABLE, None, CONNECTIONS)?)
+}
+
+fn add_three(alloc: Global, partial: &mut Partial) -> Result<(), Fail> {
+    partial.add(&flow(alloc, 1, &10u32.to_be_bytes())?)?;
+    partial.add(&flow(alloc, 2, &5u32.to_be_bytes())?)?;
+    partial.add(&flow(alloc, 1, &7u32.to_be_bytes())?)?;
+    Ok(())
+}
+
+// The table of these three.
+fn table_of_three(alloc: Global) -> Result<Table, Fail> {
+    let plan = plan_of_connections(alloc)?;
+    let mut partial = Partial::new(alloc, &plan)?;
+    add_three(alloc, &mut partial)?;
+    Ok(partial.finish()?)
+}
+
 #[test]
 fn truth_values_are_told_apart_and_deltas_added_up(rt: HostRuntime) -> Result<(), Fail> {
-    let elements = known(rt.alloc())?;
-    let plan = plan_of(rt.alloc(), &elements, RELIABLE, None, CONNECTIONS)?;
-    let mut partial = Partial::new(rt.alloc(), &plan)?;
-    for (reliable, connections) in [(1, 10u32), (2, 5), (1, 7)] {
-        partial.add(&flow(rt.alloc(), reliable, &connections.to_be_bytes())?)?;
-    }
-    let table = partial.finish()?;
-    assert_eq!(rt; table.rows.len(), 2);
-    let want = [
-        (Some(Cell::Number(1)), Some(17), 2),
-        (Some(Cell::Number(2)), Some(5), 1),
+    let table = table_of_three(rt.alloc())?;
+    let rows = [
+        table.rows.first().map(parts_of),
+        table.rows.get(1).map(parts_of),
     ];
-    for (row, parts) in table.rows.iter().zip(want) {
-        assert_eq!(rt; parts_of(row), parts);
-    }
+    let want = [
+        Some((Some(Cell::Number(1)), Some(17), 2)),
+        Some((Some(Cell::Number(2)), Some(5), 1)),
+    ];
+    assert_eq!(rt; (rows, table.rows.len()), (want, 2));
     Ok(())
 }
 
@@ -197,18 +256,37 @@ const COUNTED: [(&[u8], u64, u64); 6] = [
     (&[], 0, 1),
 ];
 
+// The table of one flow.
+fn table_of_one(rt: &impl Abort, alloc: Global, plan: &Plan, octets: &[u8]) -> Result<Table, Fail> {
+    assert!(rt; octets.len() < 1 << 16);
+    let mut partial = Partial::new(alloc, plan)?;
+    partial.add(&flow(alloc, 1, octets)?)?;
+    Ok(partial.finish()?)
+}
+
+// That octets count so much in it, or are absent.
+fn assert_counted(
+    rt: &impl Abort,
+    alloc: Global,
+    plan: &Plan,
+    octets: &[u8],
+    sum: u64,
+    absent: u64,
+) -> Result<(), Fail> {
+    let table = table_of_one(rt, alloc, plan, octets)?;
+    let row = table.rows.first().map(parts_of);
+    let missing = table.missing.counters.first().copied();
+    let want = Some((Some(Cell::Number(1)), Some(sum), 1));
+    assert_eq!(rt; (row, missing), (want, Some(absent)));
+    Ok(())
+}
+
 #[test]
 fn a_counter_of_a_file_has_up_to_eight_octets(rt: HostRuntime) -> Result<(), Fail> {
-    let elements = known(rt.alloc())?;
-    let plan = plan_of(rt.alloc(), &elements, RELIABLE, None, CONNECTIONS)?;
+    let alloc = rt.alloc();
+    let plan = plan_of_connections(alloc)?;
     for (octets, sum, absent) in COUNTED {
-        assert!(rt; octets.len() < 1 << 16);
-        let mut partial = Partial::new(rt.alloc(), &plan)?;
-        partial.add(&flow(rt.alloc(), 1, octets)?)?;
-        let table = partial.finish()?;
-        let row = table.rows.first().map(parts_of);
-        assert_eq!(rt; row, Some((Some(Cell::Number(1)), Some(sum), 1)));
-        assert_eq!(rt; table.missing.counters.first(), Some(&absent));
+        assert_counted(&rt, alloc, &plan, octets, sum, absent)?;
     }
     Ok(())
 }
@@ -228,21 +306,24 @@ fn with_delta(alloc: Global, kind: ElementKind) -> Result<Elements, ElementsFaul
     Ok(elements)
 }
 
+// The fault of a plan with a counter of this kind.
+fn fault_by_kind(alloc: Global, kind: ElementKind) -> Result<&'static str, ElementsFault> {
+    let elements = with_delta(alloc, kind)?;
+    let protocol = ElementId::iana(4);
+    Ok(fault_of(alloc, &elements, protocol, None, CONNECTIONS))
+}
+
 #[test]
 fn counters_are_unsigned_numbers_of_64_bits(rt: HostRuntime) -> Result<(), Fail> {
-    let protocol = ElementId::iana(4);
-    for (kind, want) in [
-        (ElementKind::Plain(Kind::Unsigned(Width::Eight)), "none"),
-        (
-            ElementKind::Plain(Kind::Unsigned(Width::Four)),
-            "CounterKind",
-        ),
-        (ElementKind::Signed(Width::Eight), "CounterKind"),
-        (ElementKind::Plain(Kind::Octets), "CounterKind"),
-    ] {
-        let elements = with_delta(rt.alloc(), kind)?;
-        let fault = fault_of(rt.alloc(), &elements, protocol, None, CONNECTIONS);
-        assert_eq!(rt; fault, want);
-    }
+    let alloc = rt.alloc();
+    let eight = ElementKind::Plain(Kind::Unsigned(Width::Eight));
+    let four = ElementKind::Plain(Kind::Unsigned(Width::Four));
+    assert_eq!(rt; fault_by_kind(alloc, eight)?, "none");
+    let others = [
+        fault_by_kind(alloc, four)?,
+        fault_by_kind(alloc, ElementKind::Signed(Width::Eight))?,
+        fault_by_kind(alloc, ElementKind::Plain(Kind::Octets))?,
+    ];
+    assert_eq!(rt; others, ["CounterKind"; 3]);
     Ok(())
 }

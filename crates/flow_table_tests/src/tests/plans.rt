@@ -4,6 +4,7 @@ use super::records::by_source;
 use flow_table::{Key, Method, Plan, PlanFault, share};
 use ipfix_wire::ElementId;
 use std::alloc::{AllocError, Global};
+use std::process::Abort;
 use std::test::Fail;
 
 /// The number of a key's element, and its prefix.
@@ -57,20 +58,28 @@ fn fault_of(
     }
 }
 
+// The fault of a plan with this length and this spread.
+fn fault_at(alloc: Global, length: u32, max_spread: u32) -> &'static str {
+    fault_of(alloc, length, &[NETWORK], &[1], max_spread)
+}
+
 #[test]
 fn refuses_lengths_and_spreads(rt: HostRuntime) {
-    for (length, max_spread, want) in [
-        (0, 4096, "Length"),
-        (60_000, 0, "Spread"),
-        (60_000, 4097, "Spread"),
-        (0, 0, "Length"),
-        (1, 1, "none"),
-        (u32::MAX, 4096, "none"),
-    ] {
-        let fault = fault_of(rt.alloc(), length, &[NETWORK], &[1], max_spread);
-        assert_eq!(rt; fault, want, "at {length} and {max_spread}");
-    }
-    assert_eq!(rt; PlanFault::Spread.number(), 2);
+    let alloc = rt.alloc();
+    let refused = [
+        fault_at(alloc, 0, 4096),
+        fault_at(alloc, 60_000, 0),
+        fault_at(alloc, 60_000, 4097),
+        fault_at(alloc, 0, 0),
+    ];
+    assert_eq!(rt; refused, ["Length", "Spread", "Spread", "Length"]);
+    let taken = [fault_at(alloc, 1, 1), fault_at(alloc, u32::MAX, 4096)];
+    assert_eq!(rt; (taken, PlanFault::Spread.number()), (["none"; 2], 2));
+}
+
+// That a plan with these keys and counters has this fault.
+fn assert_fault(rt: &impl Abort, alloc: Global, keys: &[KeyPair], counters: &[u16], want: &str) {
+    assert_eq!(rt; fault_of(alloc, 60_000, keys, counters, 4096), want);
 }
 
 const EIGHT: [KeyPair; 8] = [
@@ -87,6 +96,7 @@ const EIGHT: [KeyPair; 8] = [
 // A prefix comes after all kinds, and before the counters.
 #[test]
 fn refuses_keys(rt: HostRuntime) {
+    let alloc = rt.alloc();
     let cases: [(&[KeyPair], &[u16], &str); 14] = [
         (&EIGHT, &[1], "none"),
         (&[], &[1], "none"),
@@ -104,25 +114,19 @@ fn refuses_keys(rt: HostRuntime) {
         (&[(27, None), (56, None)], &[1], "none"),
     ];
     for (keys, counters, want) in cases {
-        let fault = fault_of(rt.alloc(), 60_000, keys, counters, 4096);
-        assert_eq!(rt; fault, want);
+        assert_fault(&rt, alloc, keys, counters, want);
     }
 }
 
 #[test]
 fn refuses_counters(rt: HostRuntime) {
-    let cases: [(&[u16], &str); 6] = [
-        (&[], "CounterCount"),
-        (&[1, 2, 3, 23, 24], "CounterCount"),
-        (&[1, 2, 3, 23], "none"),
-        (&[4], "CounterKind"),
-        (&[1, 1], "Repeated"),
-        (&[24, 132, 133], "none"),
-    ];
-    for (counters, want) in cases {
-        let fault = fault_of(rt.alloc(), 60_000, &[NETWORK], counters, 4096);
-        assert_eq!(rt; fault, want);
-    }
+    let alloc = rt.alloc();
+    assert_fault(&rt, alloc, &[NETWORK], &[], "CounterCount");
+    assert_fault(&rt, alloc, &[NETWORK], &[1, 2, 3, 23, 24], "CounterCount");
+    assert_fault(&rt, alloc, &[NETWORK], &[1, 2, 3, 23], "none");
+    assert_fault(&rt, alloc, &[NETWORK], &[4], "CounterKind");
+    assert_fault(&rt, alloc, &[NETWORK], &[1, 1], "Repeated");
+    assert_fault(&rt, alloc, &[NETWORK], &[24, 132, 133], "none");
 }
 
 #[test]
@@ -130,32 +134,32 @@ fn a_plan_keeps_its_arguments(rt: HostRuntime) -> Result<(), Fail> {
     let plan = plan_of(rt.alloc(), 1000, &[NETWORK], &[2, 1], 7)?;
     let copy = plan.copy(rt.alloc())?;
     let other = by_source(rt.alloc(), Method::Mid)?;
-    assert_eq!(rt; [plan == copy, plan == other], [true, false]);
+    let same = [plan == copy, plan == other];
+    let kept = (copy.length(), copy.method(), copy.max_spread());
+    let counts = [copy.keys().len(), copy.kinds().len(), copy.counters().len()];
     assert_eq!(rt;
-        (copy.length(), copy.method(), copy.max_spread()),
-        (1000, Method::Mid, 7)
-    );
-    assert_eq!(rt;
-        (copy.keys().len(), copy.kinds().len(), copy.counters().len()),
-        (1, 1, 2)
+        (same, kept, counts),
+        ([true, false], (1000, Method::Mid, 7), [1, 1, 2])
     );
     Ok(())
 }
 
+// The number of the element as which a key is exported.
+fn exported(number: u16, prefix: Option<u8>) -> u16 {
+    let element = ElementId::iana(number);
+    Key { element, prefix }.exported_element().number
+}
+
 #[test]
-fn a_prefix_is_exported_as_its_own_element(rt: HostRuntime) -> Result<(), Fail> {
-    let pairs = [
-        (8, None),
-        NETWORK,
-        (12, Some(24)),
-        (27, Some(48)),
-        (28, Some(0)),
+fn a_prefix_is_exported_as_its_own_element(rt: HostRuntime) {
+    let numbers = [
+        exported(8, None),
+        exported(8, Some(24)),
+        exported(12, Some(24)),
+        exported(27, Some(48)),
+        exported(28, Some(0)),
     ];
-    let keys = keys_of(rt.alloc(), &pairs)?;
-    for (key, number) in keys.iter().zip([8, 44, 45, 170, 169]) {
-        assert_eq!(rt; key.exported_element().number, number);
-    }
-    Ok(())
+    assert_eq!(rt; numbers, [8, 44, 45, 170, 169]);
 }
 
 // The shares that the first three intervals have of a flow's value.
@@ -169,8 +173,22 @@ fn shares_of(plan: &Plan, start: u32, length: u32, value: u64) -> [u64; 3] {
     ]
 }
 
+fn assert_shares(
+    rt: &impl Abort,
+    alloc: Global,
+    method: Method,
+    (start, length): (u32, u32),
+    value: u64,
+    want: [u64; 3],
+) -> Result<(), PlanFault> {
+    let plan = by_source(alloc, method)?;
+    assert_eq!(rt; shares_of(&plan, start, length, value), want);
+    Ok(())
+}
+
 #[test]
 fn shares_follow_the_method(rt: HostRuntime) -> Result<(), Fail> {
+    let alloc = rt.alloc();
     let half = 9_223_372_036_854_775_807;
     for (method, start, length, value, want) in [
         (Method::Start, 59_000, 2000, 7, [7, 0, 0]),
@@ -190,8 +208,7 @@ fn shares_follow_the_method(rt: HostRuntime) -> Result<(), Fail> {
         ),
         (Method::Proportional, 59_999, 0, 5, [5, 0, 0]),
     ] {
-        let plan = by_source(rt.alloc(), method)?;
-        assert_eq!(rt; shares_of(&plan, start, length, value), want);
+        assert_shares(&rt, alloc, method, (start, length), value, want)?;
     }
     Ok(())
 }

@@ -6,13 +6,18 @@ use ipfix_message::{DataRecord, Fields};
 use ipfix_wire::ElementId;
 use std::alloc::{AllocError, Global};
 
-/// A flow from `start` to `end` in milliseconds, from 192.0.2.1, with this many octets.
-pub fn flow(alloc: Global, start: u64, end: u64, octets: u64) -> Result<DataRecord, AllocError> {
-    let mut fields = Fields::new(alloc);
+// The fields of such a flow.
+fn push_flow(fields: &mut Fields, start: u64, end: u64, octets: u64) -> Result<(), AllocError> {
     fields.push(ElementId::iana(152), &start.to_be_bytes())?;
     fields.push(ElementId::iana(153), &end.to_be_bytes())?;
     fields.push(ElementId::iana(8), &[192, 0, 2, 1])?;
-    fields.push(ElementId::iana(1), &octets.to_be_bytes())?;
+    fields.push(ElementId::iana(1), &octets.to_be_bytes())
+}
+
+/// A flow from `start` to `end` in milliseconds, from 192.0.2.1, with this many octets.
+pub fn flow(alloc: Global, start: u64, end: u64, octets: u64) -> Result<DataRecord, AllocError> {
+    let mut fields = Fields::new(alloc);
+    push_flow(&mut fields, start, end, octets)?;
     Ok(DataRecord {
         domain: 1,
         export_time: 1_700_000_000,

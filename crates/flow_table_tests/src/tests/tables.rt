@@ -9,7 +9,8 @@ use super::records::{by_source, flow, push_row, text_of};
 use flow_table::{
     FlatTable, Method, Missing, Partial, Plan, Row, RowTotals, Table, TableFault, Tally,
 };
-use std::alloc::Global;
+use std::alloc::{AllocError, Global};
+use std::process::Abort;
 use std::test::Fail;
 
 // The table of a flow in the first minute and one in the second.
@@ -48,20 +49,24 @@ fn added_up(alloc: Global, octets: u64, others: u64) -> Result<String, Fail> {
     Ok(text_of(alloc, &table.rows)?)
 }
 
+fn assert_added(
+    rt: &impl Abort,
+    alloc: Global,
+    octets: u64,
+    others: u64,
+    want: &str,
+) -> Result<(), Fail> {
+    assert_eq!(rt; added_up(alloc, octets, others)?.as_str(), want);
+    Ok(())
+}
+
 #[test]
 fn adds_up_rows_to_the_limit_and_refuses_more(rt: HostRuntime) -> Result<(), Fail> {
-    for (octets, others, want) in [
-        (1500, 500, "0:192.0.2.1=2000,2;1:192.0.2.1=2,2;"),
-        (
-            u64::MAX,
-            0,
-            "0:192.0.2.1=18446744073709551615,2;1:192.0.2.1=2,2;",
-        ),
-        (u64::MAX, 1, "SumTooLarge"),
-    ] {
-        assert_eq!(rt; added_up(rt.alloc(), octets, others)?.as_str(), want);
-    }
-    Ok(())
+    let alloc = rt.alloc();
+    let largest = "0:192.0.2.1=18446744073709551615,2;1:192.0.2.1=2,2;";
+    assert_added(&rt, alloc, 1500, 500, "0:192.0.2.1=2000,2;1:192.0.2.1=2,2;")?;
+    assert_added(&rt, alloc, u64::MAX, 0, largest)?;
+    assert_added(&rt, alloc, u64::MAX, 1, "SumTooLarge")
 }
 
 // The rows of a table, each of which is left in the same row.
@@ -75,28 +80,43 @@ fn text_in_turn(alloc: Global, table: &FlatTable) -> Result<String, Fail> {
     Ok(text)
 }
 
-#[test]
-fn rows_come_one_by_one_or_all_at_once(rt: HostRuntime) -> Result<(), Fail> {
-    let alloc = rt.alloc();
-    let mut partial = Partial::new(alloc, &by_source(alloc, Method::Start)?)?;
-    for (start, octets) in [(61_000, 1), (1000, 7), (2000, 5)] {
-        let _ = partial.add(&flow(alloc, start, start, octets)?)?;
-    }
-    let table = partial.finish_flat()?;
-    let want = "0:192.0.2.1=12,2;1:192.0.2.1=1,1;";
-    assert_eq!(rt; text_in_turn(alloc, &table)?.as_str(), want);
-    assert_eq!(rt; table.tally().used, 3);
-    assert_eq!(rt; text_of(alloc, &table.into_table()?.rows)?.as_str(), want);
+fn add_three(alloc: Global, partial: &mut Partial) -> Result<(), Fail> {
+    partial.add(&flow(alloc, 61_000, 61_000, 1)?)?;
+    partial.add(&flow(alloc, 1000, 1000, 7)?)?;
+    partial.add(&flow(alloc, 2000, 2000, 5)?)?;
     Ok(())
 }
 
-// The number of the fault of a partial table of two flows whose octets are 2^64.
+// The table of these three.
+fn table_of_three(alloc: Global) -> Result<FlatTable, Fail> {
+    let mut partial = Partial::new(alloc, &by_source(alloc, Method::Start)?)?;
+    add_three(alloc, &mut partial)?;
+    Ok(partial.finish_flat()?)
+}
+
+#[test]
+fn rows_come_one_by_one_or_all_at_once(rt: HostRuntime) -> Result<(), Fail> {
+    let table = table_of_three(rt.alloc())?;
+    let used = table.tally().used;
+    let one_by_one = text_in_turn(rt.alloc(), &table)?;
+    let all = text_of(rt.alloc(), &table.into_table()?.rows)?;
+    let want = "0:192.0.2.1=12,2;1:192.0.2.1=1,1;";
+    assert_eq!(rt; (one_by_one.as_str(), all.as_str(), used), (want, want, 3));
+    Ok(())
+}
+
+// Adds two flows whose octets are 2^64.
+fn add_largest(alloc: Global, partial: &mut Partial) -> Result<(), AllocError> {
+    let _ = partial.add(&flow(alloc, 1000, 2000, u64::MAX)?);
+    let _ = partial.add(&flow(alloc, 1000, 2000, 1)?);
+    Ok(())
+}
+
+// The number of the fault of a partial table of these.
 fn fault_of_largest(alloc: Global) -> Result<Option<u8>, Fail> {
     let plan = by_source(alloc, Method::Start)?;
     let mut partial = Partial::new(alloc, &plan)?;
-    for octets in [u64::MAX, 1] {
-        let _ = partial.add(&flow(alloc, 1000, 2000, octets)?);
-    }
+    add_largest(alloc, &mut partial)?;
     Ok(partial.fault().map(|fault| fault.number()))
 }
 

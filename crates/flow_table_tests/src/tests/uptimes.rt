@@ -2,10 +2,11 @@
 //! (22) and systemInitTimeMilliseconds (160).
 
 use element_registry::Elements;
-use flow_table::{Choices, Key, Method, Partial, Plan, Times, Totals};
+use flow_table::{Choices, Key, Method, Partial, Plan, PlanFault, Times, Totals};
 use ipfix_message::{DataRecord, Fields};
 use ipfix_wire::ElementId;
 use std::alloc::{AllocError, Global};
+use std::process::Abort;
 use std::test::Fail;
 
 /// All messages are exported at 1,700,000,100 s.
@@ -178,19 +179,27 @@ const FLOWS: [Sent; 22] = [
     ),
 ];
 
+fn push_value(fields: &mut Fields, element: ElementId, value: Value) -> Result<(), AllocError> {
+    match value {
+        Value::Three(octets) => fields.push(element, &octets),
+        Value::Four(n) => fields.push(element, &n.to_be_bytes()),
+        Value::Eight(n) => fields.push(element, &n.to_be_bytes()),
+    }
+}
+
+// The fields of a flow of one packet.
+fn push_flow(fields: &mut Fields, sent: &[(u16, Value)]) -> Result<(), AllocError> {
+    for (number, value) in sent {
+        push_value(fields, ElementId::iana(*number), *value)?;
+    }
+    fields.push(ElementId::iana(4), &[17])?;
+    fields.push(ElementId::iana(2), &[1])
+}
+
 // A flow of one packet.
 fn record(alloc: Global, sent: &[(u16, Value)]) -> Result<DataRecord, AllocError> {
     let mut fields = Fields::new(alloc);
-    for (number, value) in sent {
-        let element = ElementId::iana(*number);
-        match value {
-            Value::Three(octets) => fields.push(element, octets)?,
-            Value::Four(n) => fields.push(element, &n.to_be_bytes())?,
-            Value::Eight(n) => fields.push(element, &n.to_be_bytes())?,
-        }
-    }
-    fields.push(ElementId::iana(4), &[17])?;
-    fields.push(ElementId::iana(2), &[1])?;
+    push_flow(&mut fields, sent)?;
     Ok(DataRecord {
         domain: 1,
         export_time: EXPORT_TIME,
@@ -200,13 +209,8 @@ fn record(alloc: Global, sent: &[(u16, Value)]) -> Result<DataRecord, AllocError
     })
 }
 
-// The only interval of a flow, which a millisecond each is.
-fn interval(
-    alloc: Global,
-    times: Times,
-    method: Method,
-    sent: &[(u16, Value)],
-) -> Result<Option<u64>, Fail> {
+// A plan whose intervals are a millisecond each.
+fn plan_of(alloc: Global, times: Times, method: Method) -> Result<Plan, PlanFault> {
     let choices = Choices {
         times,
         totals: Totals::Refused,
@@ -217,7 +221,7 @@ fn interval(
     };
     let elements = Elements::built_in(alloc);
     let packets = ElementId::iana(2);
-    let plan = Plan::with_elements(
+    Plan::with_elements(
         alloc,
         &elements,
         1,
@@ -226,20 +230,41 @@ fn interval(
         &[packets],
         1,
         choices,
-    )?;
+    )
+}
+
+// The only interval of a flow.
+fn interval(
+    alloc: Global,
+    times: Times,
+    method: Method,
+    sent: &[(u16, Value)],
+) -> Result<Option<u64>, Fail> {
+    let plan = plan_of(alloc, times, method)?;
     let mut partial = Partial::new(alloc, &plan)?;
     partial.add(&record(alloc, sent)?)?;
     let table = partial.finish()?;
     Ok(table.rows.first().map(|row| row.interval))
 }
 
+// That a flow starts and ends then.
+fn assert_times(rt: &impl Abort, alloc: Global, sent: Sent) -> Result<(), Fail> {
+    let (what, fields, times) = sent;
+    let start = interval(alloc, Times::All, Method::Start, fields)?;
+    let end = interval(alloc, Times::All, Method::End, fields)?;
+    let want = match times {
+        Some((start, end)) => (Some(start), Some(end)),
+        None => (None, None),
+    };
+    assert_eq!(rt; (start, end), want, "{what}");
+    Ok(())
+}
+
 #[test]
 fn uptimes_are_times_where_they_are_known(rt: HostRuntime) -> Result<(), Fail> {
-    for (what, sent, times) in FLOWS {
-        let start = interval(rt.alloc(), Times::All, Method::Start, sent)?;
-        let end = interval(rt.alloc(), Times::All, Method::End, sent)?;
-        assert_eq!(rt; start, times.map(|(start, _)| start), "{what}");
-        assert_eq!(rt; end, times.map(|(_, end)| end), "{what}");
+    let alloc = rt.alloc();
+    for sent in FLOWS {
+        assert_times(&rt, alloc, sent)?;
     }
     Ok(())
 }

@@ -7,6 +7,7 @@ use ipfix_session::SessionFault;
 use recording_files::{MemoryFiles, RecordFault};
 use recording_peer::PeerRecorder;
 use std::alloc::Global;
+use std::process::Abort;
 use std::test::*;
 use worked_examples::recordings::{FIRST_OF_1, FIRST_OF_2};
 use worked_examples::text_of;
@@ -37,17 +38,16 @@ fn fill(alloc: Global) -> (MemoryFiles, Told, bool) {
 fn a_full_place_ends_the_peer(rt: HostRuntime) -> Result<(), Fail> {
     let alloc: Global = rt.alloc();
     let (files, told, right) = fill(alloc);
-    assert!(rt; right);
-    assert_eq!(rt; (files.failed, files.finished.len()), (1, 0));
     let whole = text_of(alloc, &[FIRST_OF_1, &FIRST_OF_2[..29]])?;
-    assert_eq!(rt; files.unfinished.as_slice(), whole.as_slice());
+    let counts = (files.failed, files.finished.len());
     assert_eq!(rt;
-        (told.ended, told.last.messages),
-        (Err(RecordFault::NotWritten), 1)
+        (right, counts, files.unfinished.as_slice()),
+        (true, (1, 0), whole.as_slice())
     );
+    let closed = Some(SessionFault::SinkClosed);
     assert_eq!(rt;
-        (told.messages, told.fault),
-        (1, Some(SessionFault::SinkClosed))
+        (told.ended, told.last.messages, told.messages, told.fault),
+        (Err(RecordFault::NotWritten), 1, 1, closed)
     );
     Ok(())
 }
@@ -61,21 +61,64 @@ fn is_ended(alloc: Global, peer: &mut PeerRecorder, files: &mut MemoryFiles) -> 
     ended == out_of_memory && taken == Err(out_of_memory) && finished == Err(out_of_memory)
 }
 
+// Takes a datagram and ends the peer. Answers the files, what is told of it, and whether each call answered well.
+fn take_and_end(alloc: Global) -> (MemoryFiles, Told, [bool; 2]) {
+    let mut peer = new_peer(alloc);
+    let mut files = MemoryFiles::new(alloc, 1000);
+    let taken = take(alloc, &mut peer, FIRST_OF_1, &mut files);
+    let right = is_ended(alloc, &mut peer, &mut files);
+    (files, end(peer), [is_recorded(taken), right])
+}
+
 // The datagrams before stand whole, and are told.
 #[test]
 fn a_peer_is_ended(rt: HostRuntime) -> Result<(), Fail> {
-    let alloc: Global = rt.alloc();
-    let mut peer = new_peer(alloc);
-    let mut files = MemoryFiles::new(alloc, 1000);
-    assert!(rt; is_recorded(take(alloc, &mut peer, FIRST_OF_1, &mut files)));
-    assert!(rt; is_ended(alloc, &mut peer, &mut files));
-    assert_eq!(rt; files.unfinished.as_slice(), FIRST_OF_1);
-    let told = end(peer);
+    let (files, told, right) = take_and_end(rt.alloc());
+    let out_of_memory = RecordFault::Message(MessageFault::OutOfMemory);
     assert_eq!(rt;
-        (told.ended, told.messages),
-        (Err(RecordFault::Message(MessageFault::OutOfMemory)), 1)
+        (
+            right,
+            files.unfinished.as_slice(),
+            told.ended,
+            told.messages
+        ),
+        ([true; 2], FIRST_OF_1, Err(out_of_memory), 1)
     );
     Ok(())
+}
+
+// Whether a datagram was recorded. If not, memory ran out.
+fn is_taken(rt: &impl Abort, answer: Result<Answer, RecordFault>) -> bool {
+    match answer {
+        Ok(Answer::Recorded(_)) => true,
+        Ok(other) => {
+            assert_eq!(rt; other, Answer::Refused(MessageFault::OutOfMemory));
+            false
+        }
+        // (files in memory are not written if they find none)
+        Err(fault) => {
+            let out_of_memory = RecordFault::Message(MessageFault::OutOfMemory);
+            assert!(rt; fault == out_of_memory || fault == RecordFault::NotWritten);
+            false
+        }
+    }
+}
+
+// How many of all datagrams were recorded.
+fn count_taken(
+    rt: &impl Abort,
+    alloc: Global,
+    peer: &mut PeerRecorder,
+    files: &mut MemoryFiles,
+) -> u64 {
+    let mut recorded: u64 = 0;
+    for datagram in DATAGRAMS {
+        let answer = take(alloc, peer, datagram, files);
+        if is_taken(rt, answer) {
+            recorded = recorded.saturating_add(1);
+        }
+    }
+    recorded
 }
 
 // A refused allocation refuses the datagram or ends the peer; what was recorded before stands whole. Here
@@ -84,22 +127,7 @@ fn a_peer_is_ended(rt: HostRuntime) -> Result<(), Fail> {
 fn recording_survives_refused_memory(rt: HostRuntime) -> Result<(), Fail> {
     let mut peer = new_peer(rt.alloc());
     let mut files = MemoryFiles::new(rt.alloc(), 100_000);
-    let mut recorded: u64 = 0;
-    for datagram in DATAGRAMS {
-        match take(rt.alloc(), &mut peer, datagram, &mut files) {
-            Ok(Answer::Recorded(_)) => recorded = recorded.saturating_add(1),
-            Ok(Answer::Refused(fault)) => {
-                assert_eq!(rt; fault, MessageFault::OutOfMemory);
-            }
-            Ok(Answer::TooMuch) => assert!(rt; false, "too much"),
-            Ok(Answer::Ignored) => assert!(rt; false, "ignored"),
-            // (files in memory are not written if they find none)
-            Err(fault) => {
-                let out_of_memory = RecordFault::Message(MessageFault::OutOfMemory);
-                assert!(rt; fault == out_of_memory || fault == RecordFault::NotWritten);
-            }
-        }
-    }
+    let recorded = count_taken(&rt, rt.alloc(), &mut peer, &mut files);
     if recorded == 6 {
         assert_eq!(rt; files.finished.len(), 0);
         let _ = eprintln!(rt; "take: right");

@@ -5,6 +5,7 @@ use super::running::{files_of, told_as_one, told_by};
 use super::told::{finish, new_peer, take};
 use recording_files::MemoryFiles;
 use std::alloc::{AllocError, Global};
+use std::process::Abort;
 use std::test::*;
 use worked_examples::recordings::{FIRST_OF_1, FIRST_OF_2};
 use worked_examples::{header, text_of};
@@ -26,9 +27,9 @@ fn datagrams_stand_as_they_came(rt: HostRuntime) -> Result<(), Fail> {
     let alloc: Global = rt.alloc();
     let datagrams = [FIRST_OF_1, FIRST_OF_2, SECOND_OF_1];
     let files = files_of(&rt, rt.alloc(), &datagrams, NEVER);
-    assert_eq!(rt; files.finished.len(), 0);
     let text = text_of(alloc, &datagrams)?;
-    assert_eq!(rt; files.unfinished.as_slice(), text.as_slice());
+    let found = (files.finished.len(), files.unfinished.as_slice());
+    assert_eq!(rt; found, (0, text.as_slice()));
     Ok(())
 }
 
@@ -37,7 +38,6 @@ fn datagrams_stand_as_they_came(rt: HostRuntime) -> Result<(), Fail> {
 #[test]
 fn a_changed_template_is_withdrawn(rt: HostRuntime) -> Result<(), Fail> {
     let files = files_of(&rt, rt.alloc(), &DATAGRAMS, NEVER);
-    assert_eq!(rt; files.finished.len(), 0);
     let text = text_of(
         rt.alloc(),
         &[
@@ -50,7 +50,8 @@ fn a_changed_template_is_withdrawn(rt: HostRuntime) -> Result<(), Fail> {
             LAST_OF_2,
         ],
     )?;
-    assert_eq!(rt; files.unfinished.as_slice(), text.as_slice());
+    let found = (files.finished.len(), files.unfinished.as_slice());
+    assert_eq!(rt; found, (0, text.as_slice()));
     Ok(())
 }
 
@@ -78,17 +79,21 @@ fn a_withdrawn_template_is_defined_again(rt: HostRuntime) -> Result<(), Fail> {
 // templates; before the first datagram of domain 2 stands its own.
 #[test]
 fn a_changed_template_is_withdrawn_after_the_preamble(rt: HostRuntime) -> Result<(), Fail> {
-    let alloc: Global = rt.alloc();
     let files = files_of(&rt, rt.alloc(), &DATAGRAMS, 3);
-    let first = text_of(alloc, &[FIRST_OF_1, FIRST_OF_2, SECOND_OF_1])?;
-    assert_eq!(rt; files.finished.len(), 1);
+    let first = text_of(rt.alloc(), &[FIRST_OF_1, FIRST_OF_2, SECOND_OF_1])?;
+    let second = text_after_preambles(rt.alloc())?;
+    let finished = files.finished.first().map(|file| file.as_slice());
     assert_eq!(rt;
-        files.finished.first().map(|file| file.as_slice()),
-        Some(first.as_slice())
+        (files.finished.len(), finished, files.unfinished.as_slice()),
+        (1, Some(first.as_slice()), second.as_slice())
     );
+    Ok(())
+}
+
+fn text_after_preambles(alloc: Global) -> Result<Vec<u8>, AllocError> {
     let of_1 = preamble(alloc, 5, 1, &FIRST_OF_1[16..36])?;
     let of_2 = preamble(alloc, 1, 2, &FIRST_OF_2[16..34])?;
-    let second = text_of(
+    text_of(
         alloc,
         &[
             &of_1,
@@ -99,9 +104,7 @@ fn a_changed_template_is_withdrawn_after_the_preamble(rt: HostRuntime) -> Result
             &of_2,
             LAST_OF_2,
         ],
-    )?;
-    assert_eq!(rt; files.unfinished.as_slice(), second.as_slice());
-    Ok(())
+    )
 }
 
 // Each file is read by itself, and one after another they give the records of the datagrams.
@@ -115,12 +118,30 @@ fn files_have_the_records_of_the_datagrams(rt: HostRuntime) -> Result<(), Fail> 
 // The same wherever a file is finished; and one after another the files are read as one.
 #[test]
 fn a_file_is_finished_before_any_datagram(rt: HostRuntime) -> Result<(), Fail> {
-    for (before, finished) in [0, 1, 1, 1, 1, 1].iter().enumerate() {
-        let files = files_of(&rt, rt.alloc(), &DATAGRAMS, before);
-        assert_eq!(rt; files.finished.len(), *finished);
-        assert_eq!(rt; told_by(&rt, rt.alloc(), &files)?.as_slice(), TOLD);
-        assert_eq!(rt; told_as_one(&rt, rt.alloc(), &files)?.as_slice(), TOLD);
-    }
+    let alloc: Global = rt.alloc();
+    assert_told(&rt, alloc, 0, 0)?;
+    assert_told(&rt, alloc, 1, 1)?;
+    assert_told(&rt, alloc, 2, 1)?;
+    assert_told(&rt, alloc, 3, 1)?;
+    assert_told(&rt, alloc, 4, 1)?;
+    assert_told(&rt, alloc, 5, 1)?;
+    Ok(())
+}
+
+// That so many files are finished where one is before the datagram of this number, and what they tell.
+fn assert_told(
+    rt: &impl Abort,
+    alloc: Global,
+    before: usize,
+    finished: usize,
+) -> Result<(), AllocError> {
+    let files = files_of(rt, alloc, &DATAGRAMS, before);
+    let told = told_by(rt, alloc, &files)?;
+    let as_one = told_as_one(rt, alloc, &files)?;
+    assert_eq!(rt;
+        (files.finished.len(), told.as_slice(), as_one.as_slice()),
+        (finished, TOLD, TOLD)
+    );
     Ok(())
 }
 
@@ -132,7 +153,7 @@ fn ended_often(alloc: Global) -> (MemoryFiles, bool) {
     let taken = take(alloc, &mut peer, FIRST_OF_1, &mut files);
     let second = finish(&mut peer, &mut files);
     let third = finish(&mut peer, &mut files);
-    let right = first.is_ok() && taken.is_ok() && second.is_ok() && third.is_ok();
+    let right = (taken.is_ok(), [first, second, third]) == (true, [Ok(()); 3]);
     (files, right)
 }
 
@@ -140,8 +161,8 @@ fn ended_often(alloc: Global) -> (MemoryFiles, bool) {
 #[test]
 fn no_file_is_empty(rt: HostRuntime) -> Result<(), Fail> {
     let (files, right) = ended_often(rt.alloc());
-    assert!(rt; right);
-    assert_eq!(rt; (files.finished.len(), files.unfinished.len()), (1, 0));
+    let found = (right, files.finished.len(), files.unfinished.len());
+    assert_eq!(rt; found, (true, 1, 0));
     Ok(())
 }
 
@@ -150,14 +171,12 @@ fn no_file_is_empty(rt: HostRuntime) -> Result<(), Fail> {
 fn a_template_changes_again_and_again(rt: HostRuntime) -> Result<(), Fail> {
     let datagrams = [FIRST_OF_1, CHANGES_257, FIRST_OF_1, CHANGES_257];
     let files = files_of(&rt, rt.alloc(), &datagrams, NEVER);
-    assert_eq!(rt; files.finished.len(), 0);
-    let told = text_of(
+    let due = text_of(
         rt.alloc(),
         &[TOLD_FIRST, TOLD_CHANGED, TOLD_FIRST, TOLD_CHANGED],
     )?;
-    assert_eq!(rt;
-        told_by(&rt, rt.alloc(), &files)?.as_slice(),
-        told.as_slice()
-    );
+    let told = told_by(&rt, rt.alloc(), &files)?;
+    let found = (files.finished.len(), told.as_slice());
+    assert_eq!(rt; found, (0, due.as_slice()));
     Ok(())
 }

@@ -4,7 +4,7 @@ use super::datagrams::*;
 use super::running::{files_of, told_by};
 use super::told::{Answer, Count, end, is_recorded, new_peer, take};
 use ipfix_message::MessageFault;
-use recording_files::MemoryFiles;
+use recording_files::{MemoryFiles, RecordFault};
 use recording_peer::PeerRecorder;
 use std::alloc::Global;
 use std::collections::BTreeMap;
@@ -15,17 +15,19 @@ use worked_examples::templates::{CHANGED_TEMPLATE, ZERO_LENGTH_TEMPLATE};
 
 // Whether a datagram of version 9, one that is cut, and others with faults are each refused with its fault.
 fn are_refused(alloc: Global, peer: &mut PeerRecorder, files: &mut MemoryFiles) -> bool {
-    let mut right = true;
-    for (datagram, fault) in [
-        (VERSION_9, MessageFault::Version),
-        (CUT_FLOW, MessageFault::MessageLength),
-        (ZERO_LENGTH_TEMPLATE, MessageFault::ZeroLength),
-        (CHANGED_TEMPLATE, MessageFault::TemplateChanged),
-    ] {
-        let answer = take(alloc, peer, datagram, files);
-        right = right && answer == Ok(Answer::Refused(fault));
-    }
-    right
+    let answers = [
+        take(alloc, peer, VERSION_9, files),
+        take(alloc, peer, CUT_FLOW, files),
+        take(alloc, peer, ZERO_LENGTH_TEMPLATE, files),
+        take(alloc, peer, CHANGED_TEMPLATE, files),
+    ];
+    answers
+        == [
+            Ok(Answer::Refused(MessageFault::Version)),
+            Ok(Answer::Refused(MessageFault::MessageLength)),
+            Ok(Answer::Refused(MessageFault::ZeroLength)),
+            Ok(Answer::Refused(MessageFault::TemplateChanged)),
+        ]
 }
 
 // Takes all datagrams, and those before each of them. Answers whether only they were recorded.
@@ -55,10 +57,14 @@ fn refused_datagrams_change_nothing(rt: HostRuntime) -> Result<(), Fail> {
     let alloc: Global = rt.alloc();
     let mut peer = new_peer(alloc);
     let mut files = MemoryFiles::new(alloc, 100_000);
-    assert!(rt; take_among_refused(alloc, &mut peer, &mut files));
-    assert!(rt; are_same(&files, &files_of(&rt, alloc, &DATAGRAMS, 100)));
-    assert_eq!(rt; told_by(&rt, alloc, &files)?.as_slice(), TOLD);
-    assert_eq!(rt; end(peer).messages, 6);
+    let taken = take_among_refused(alloc, &mut peer, &mut files);
+    let messages = end(peer).messages;
+    let same = are_same(&files, &files_of(&rt, alloc, &DATAGRAMS, 100));
+    let told = told_by(&rt, alloc, &files)?;
+    assert_eq!(rt;
+        (taken, messages, same, told.as_slice()),
+        (true, 6, true, TOLD)
+    );
     Ok(())
 }
 
@@ -71,31 +77,50 @@ const DEFINES_300_AND_CHANGES_256: &[u8] = &[
     0x00, 0x01, 0x00, 0x04,
 ];
 
+// What is answered of flows by template 256, which is defined, changed in vain and defined again.
+fn answers_without_room(
+    alloc: Global,
+    peer: &mut PeerRecorder,
+    files: &mut MemoryFiles,
+) -> [Result<Answer, RecordFault>; 6] {
+    [
+        take(alloc, peer, ONE_FLOW, files),
+        take(alloc, peer, DEFINES_300_AND_CHANGES_256, files),
+        take(alloc, peer, NEXT_FLOW, files),
+        take(alloc, peer, NEXT_FLOW, files),
+        take(alloc, peer, ONE_FLOW, files),
+        take(alloc, peer, NEXT_FLOW, files),
+    ]
+}
+
+// What is answered of the next flow, if it has so many records, and so many unknown sets.
+fn next_flow(records: u64, unknown_sets: u64) -> Result<Answer, RecordFault> {
+    Ok(Answer::Recorded(Count {
+        sequence: 1,
+        records,
+        unknown_sets,
+    }))
+}
+
 // A domain with a template of four fields counts 28. What has no room changes a template: that is known no more.
 #[test]
 fn a_template_without_room_is_known_no_more(rt: HostRuntime) -> Result<(), Fail> {
     let alloc: Global = rt.alloc();
     let mut peer = PeerRecorder::new(alloc, BTreeMap::new(alloc), 28, 0);
     let mut files = MemoryFiles::new(alloc, 100_000);
-    assert!(rt; is_recorded(take(alloc, &mut peer, ONE_FLOW, &mut files)));
-    let answer = take(alloc, &mut peer, DEFINES_300_AND_CHANGES_256, &mut files);
-    assert!(rt; answer == Ok(Answer::TooMuch));
-    let unknown = Count {
-        sequence: 1,
-        records: 0,
-        unknown_sets: 1,
-    };
-    for _time in 0..2 {
-        let answer = take(alloc, &mut peer, NEXT_FLOW, &mut files);
-        assert!(rt; answer == Ok(Answer::Recorded(unknown)));
-    }
-    assert!(rt; is_recorded(take(alloc, &mut peer, ONE_FLOW, &mut files)));
-    let answer = take(alloc, &mut peer, NEXT_FLOW, &mut files);
-    let known = Count {
-        sequence: 1,
-        records: 1,
-        unknown_sets: 0,
-    };
-    assert!(rt; answer == Ok(Answer::Recorded(known)));
+    let [first, changed, next, again, later, last] = answers_without_room(
+        alloc, &mut peer, &mut files,
+    );
+    let unknown = next_flow(0, 1);
+    let defined = [is_recorded(first), is_recorded(later)];
+    assert_eq!(rt;
+        (defined, changed, [next, again], last),
+        (
+            [true; 2],
+            Ok(Answer::TooMuch),
+            [unknown; 2],
+            next_flow(1, 0)
+        )
+    );
     Ok(())
 }

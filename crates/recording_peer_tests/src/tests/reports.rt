@@ -36,21 +36,29 @@ fn each_file_has_its_report(rt: HostRuntime) -> Result<(), Fail> {
         ..FileReport::EMPTY
     };
     let (peer, files) = recorded(&rt, rt.alloc());
-    assert_eq!(rt; files.reports.as_slice(), [first].as_slice());
     let told = end(peer);
-    assert_eq!(rt; (told.ended, told.last), (Ok(()), second));
-    assert_eq!(rt; (told.messages, told.delivered, told.domains), (6, 10, 2));
+    let counts = [told.messages, told.delivered];
+    assert_eq!(rt;
+        (files.reports.as_slice(), told.ended, told.last),
+        ([first].as_slice(), Ok(()), second)
+    );
+    assert_eq!(rt; (counts, told.domains), ([6, 10], 2));
     Ok(())
+}
+
+// What is told then of the domain at an index.
+fn domain_told(rt: &impl Abort, alloc: Global, index: usize) -> Option<(u32, u64, u64, u64)> {
+    let (peer, _) = recorded(rt, alloc);
+    domain_of(peer, index)
 }
 
 // The losses of domain 1 are told, though a file begins between its datagrams: its sequence number advanced
 // by nine before the third, and five records came (RFC 7011, section 3.1).
 #[test]
 fn the_ledger_goes_on_in_the_next_file(rt: HostRuntime) -> Result<(), Fail> {
-    for (index, expected) in [(0, (1, 8, 4, 0)), (1, (2, 2, 0, 0))] {
-        let (peer, _) = recorded(&rt, rt.alloc());
-        assert_eq!(rt; domain_of(peer, index), Some(expected));
-    }
+    let alloc: Global = rt.alloc();
+    let told = [domain_told(&rt, alloc, 0), domain_told(&rt, alloc, 1)];
+    assert_eq!(rt; told, [Some((1, 8, 4, 0)), Some((2, 2, 0, 0))]);
     Ok(())
 }
 
@@ -67,29 +75,36 @@ fn answer_after(
     take(alloc, &mut peer, datagram, &mut files)
 }
 
+// That a datagram after others is counted so.
+fn assert_count(
+    rt: &impl Abort,
+    alloc: Global,
+    before: &[&[u8]],
+    datagram: &[u8],
+    (sequence, records, unknown_sets): (u32, u64, u64),
+) {
+    let count = Count {
+        sequence,
+        records,
+        unknown_sets,
+    };
+    let answer = answer_after(rt, alloc, before, datagram);
+    assert_eq!(rt; answer, Ok(Answer::Recorded(count)));
+}
+
 // The header, the data records and the unknown sets are those of the datagram, and not of the messages in front
 // of it, which withdraw template 257 or define template 256 again.
 #[test]
 fn the_count_is_of_the_datagram(rt: HostRuntime) -> Result<(), Fail> {
-    let nothing: &[&[u8]] = &[];
+    let alloc: Global = rt.alloc();
     let first: &[&[u8]] = &[FIRST_OF_1];
     let withdrawn: &[&[u8]] = &[FIRST_OF_1, WITHDRAWS_256];
-    for (before, datagram, (sequence, records, unknown_sets)) in [
-        (nothing, FIRST_OF_1, (0, 3, 0)),
-        (nothing, SECOND_OF_1, (3, 0, 1)),
-        (first, SECOND_OF_1, (3, 2, 0)),
-        (first, CHANGES_257, (9, 1, 0)),
-        (first, WITHDRAWS_256, (12, 0, 0)),
-        (withdrawn, SECOND_OF_1, (3, 2, 0)),
-    ] {
-        let count = Count {
-            sequence,
-            records,
-            unknown_sets,
-        };
-        let answer = answer_after(&rt, rt.alloc(), before, datagram);
-        assert_eq!(rt; answer, Ok(Answer::Recorded(count)));
-    }
+    assert_count(&rt, alloc, &[], FIRST_OF_1, (0, 3, 0));
+    assert_count(&rt, alloc, &[], SECOND_OF_1, (3, 0, 1));
+    assert_count(&rt, alloc, first, SECOND_OF_1, (3, 2, 0));
+    assert_count(&rt, alloc, first, CHANGES_257, (9, 1, 0));
+    assert_count(&rt, alloc, first, WITHDRAWS_256, (12, 0, 0));
+    assert_count(&rt, alloc, withdrawn, SECOND_OF_1, (3, 2, 0));
     Ok(())
 }
 
@@ -126,32 +141,40 @@ fn late_and_doubled_datagrams_came(rt: HostRuntime) -> Result<(), Fail> {
     Ok(())
 }
 
+// Whether a datagram was taken, and not ignored.
+fn is_kept(answer: Result<Answer, RecordFault>) -> bool {
+    answer.is_ok() && answer != Ok(Answer::Ignored)
+}
+
 // A file with a datagram that withdraws a template, where others of withdrawals alone came before it and after it.
-fn ignored(alloc: Global) -> (PeerRecorder, MemoryFiles, bool) {
-    let mut peer = new_peer(alloc);
-    let mut files = MemoryFiles::new(alloc, 100_000);
-    let mut right = true;
-    for (datagram, is_kept) in [
-        (WITHDRAWS_ALL, false),
-        (FIRST_OF_1, true),
-        (WITHDRAWS_256, true),
-        (WITHDRAWS_ALL, false),
-    ] {
-        let answer = take(alloc, &mut peer, datagram, &mut files);
-        right = right && answer.is_ok() && (answer != Ok(Answer::Ignored)) == is_kept;
-    }
-    let finished = finish(&mut peer, &mut files);
-    let last = take(alloc, &mut peer, WITHDRAWS_ALL, &mut files);
-    right = right && finished.is_ok() && last == Ok(Answer::Ignored);
-    (peer, files, right)
+// Answers which were kept, and which ignored, and how the file was finished.
+fn ignore(
+    alloc: Global,
+    peer: &mut PeerRecorder,
+    files: &mut MemoryFiles,
+) -> ([bool; 2], [bool; 3], Result<(), RecordFault>) {
+    let ignored = Ok(Answer::Ignored);
+    let before = take(alloc, peer, WITHDRAWS_ALL, files);
+    let first = take(alloc, peer, FIRST_OF_1, files);
+    let second = take(alloc, peer, WITHDRAWS_256, files);
+    let after = take(alloc, peer, WITHDRAWS_ALL, files);
+    let finished = finish(peer, files);
+    let last = take(alloc, peer, WITHDRAWS_ALL, files);
+    (
+        [is_kept(first), is_kept(second)],
+        [before == ignored, after == ignored, last == ignored],
+        finished,
+    )
 }
 
 // Nothing of them is in the file. Their withdrawals count for the file that isn't finished, with those of the
 // datagram that is in it.
 #[test]
 fn ignored_withdrawals_are_counted(rt: HostRuntime) -> Result<(), Fail> {
-    let (peer, files, right) = ignored(rt.alloc());
-    assert!(rt; right);
+    let mut peer = new_peer(rt.alloc());
+    let mut files = MemoryFiles::new(rt.alloc(), 100_000);
+    let answers = ignore(rt.alloc(), &mut peer, &mut files);
+    let told = end(peer);
     let expected = FileReport {
         messages: 2,
         records: 3,
@@ -159,12 +182,18 @@ fn ignored_withdrawals_are_counted(rt: HostRuntime) -> Result<(), Fail> {
         ignored_withdrawals: 5,
         ..FileReport::EMPTY
     };
-    assert_eq!(rt; files.reports.as_slice(), [expected].as_slice());
-    assert!(rt; files.unfinished.is_empty());
     let last = FileReport {
         ignored_withdrawals: 2,
         ..FileReport::EMPTY
     };
-    assert_eq!(rt; end(peer).last, last);
+    let reports = (files.reports.as_slice(), told.last);
+    assert_eq!(rt;
+        (answers, reports, files.unfinished.len()),
+        (
+            ([true; 2], [true; 3], Ok(())),
+            ([expected].as_slice(), last),
+            0
+        )
+    );
     Ok(())
 }

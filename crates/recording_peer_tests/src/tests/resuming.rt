@@ -1,8 +1,8 @@
 //! Datagrams that go on after an earlier run (RFC 7011, sections 3.1 and 8).
 
 use super::datagrams::*;
-use super::told::{Answer, BUDGET, Count, take};
-use recording_files::MemoryFiles;
+use super::told::{Answer, BUDGET, Count, answers_of};
+use recording_files::{MemoryFiles, RecordFault};
 use recording_peer::{PeerRecorder, Resumption};
 use recording_resumption::{EarlierDomains, EarlierReading, domains_left};
 use std::alloc::{AllocError, Global};
@@ -59,16 +59,33 @@ fn recorded(sequence: u32, records: u64, unknown_sets: u64) -> Answer {
     })
 }
 
+// A peer of an earlier run whose file has its first datagram.
+fn resumed_peer(alloc: Global) -> Result<PeerRecorder, AllocError> {
+    let left = left_by(alloc, FIRST_OF_1)?;
+    Ok(PeerRecorder::new(alloc, left, BUDGET, 0))
+}
+
+// What is answered of such a peer's datagrams, and what stands in its file.
+fn go_on(
+    alloc: Global,
+    datagrams: &[&[u8]],
+) -> Result<(Vec<Result<Answer, RecordFault>>, Vec<u8>), AllocError> {
+    let mut files = MemoryFiles::new(alloc, 100_000);
+    let mut peer = resumed_peer(alloc)?;
+    let answers = answers_of(alloc, &mut peer, datagrams, &mut files)?;
+    Ok((answers, files.unfinished))
+}
+
 // The templates of the earlier run are defined before the first datagram, so the file can be read by itself.
 #[test]
 fn templates_are_resumed(rt: HostRuntime) -> Result<(), Fail> {
-    let alloc: Global = rt.alloc();
-    let mut peer = PeerRecorder::new(alloc, left_by(alloc, FIRST_OF_1)?, BUDGET, 0);
-    let mut files = MemoryFiles::new(alloc, 100_000);
-    let answer = take(alloc, &mut peer, SECOND_OF_1, &mut files);
-    assert_eq!(rt; answer, Ok(recorded(3, 2, 0)));
-    let text = text_of(alloc, &[RESUMED_256, RESUMED_257, SECOND_OF_1])?;
-    assert_eq!(rt; files.unfinished.as_slice(), text.as_slice());
+    let (answers, file) = go_on(rt.alloc(), &[SECOND_OF_1])?;
+    let text = text_of(rt.alloc(), &[RESUMED_256, RESUMED_257, SECOND_OF_1])?;
+    let want = [Ok(recorded(3, 2, 0))];
+    assert_eq!(rt;
+        (answers.as_slice(), file.as_slice()),
+        (want.as_slice(), text.as_slice())
+    );
     Ok(())
 }
 
@@ -76,11 +93,10 @@ fn templates_are_resumed(rt: HostRuntime) -> Result<(), Fail> {
 #[test]
 fn a_domain_goes_on_once(rt: HostRuntime) -> Result<(), Fail> {
     let alloc: Global = rt.alloc();
-    let mut peer = PeerRecorder::new(alloc, left_by(alloc, FIRST_OF_1)?, BUDGET, 0);
     let mut files = MemoryFiles::new(alloc, 100_000);
-    let _ = take(alloc, &mut peer, FROM_BEFORE, &mut files);
-    let _ = take(alloc, &mut peer, SECOND_OF_1, &mut files);
-    let _ = take(alloc, &mut peer, SECOND_OF_1, &mut files);
+    let mut peer = resumed_peer(alloc)?;
+    let datagrams = [FROM_BEFORE, SECOND_OF_1, SECOND_OF_1];
+    let _ = answers_of(alloc, &mut peer, &datagrams, &mut files)?;
     let once = Resumption {
         domain: 1,
         templates: 2,
@@ -92,52 +108,43 @@ fn a_domain_goes_on_once(rt: HostRuntime) -> Result<(), Fail> {
 // What is missing between the two runs is a gap behind the recorder's own messages.
 #[test]
 fn what_is_missing_between_is_a_gap(rt: HostRuntime) -> Result<(), Fail> {
-    let alloc: Global = rt.alloc();
-    let mut peer = PeerRecorder::new(alloc, left_by(alloc, FIRST_OF_1)?, BUDGET, 0);
-    let mut files = MemoryFiles::new(alloc, 100_000);
-    let answer = take(alloc, &mut peer, AFTER_A_GAP, &mut files);
-    assert_eq!(rt; answer, Ok(recorded(5, 1, 0)));
-    let text = text_of(alloc, &[RESUMED_256, RESUMED_257, AFTER_A_GAP])?;
-    assert_eq!(rt; files.unfinished.as_slice(), text.as_slice());
+    let (answers, file) = go_on(rt.alloc(), &[AFTER_A_GAP])?;
+    let text = text_of(rt.alloc(), &[RESUMED_256, RESUMED_257, AFTER_A_GAP])?;
+    let want = [Ok(recorded(5, 1, 0))];
+    assert_eq!(rt;
+        (answers.as_slice(), file.as_slice()),
+        (want.as_slice(), text.as_slice())
+    );
     Ok(())
 }
 
 // One datagram from before is read without them, and loses nothing.
 #[test]
 fn one_from_before_is_read_without_them(rt: HostRuntime) -> Result<(), Fail> {
-    let alloc: Global = rt.alloc();
-    let mut peer = PeerRecorder::new(alloc, left_by(alloc, FIRST_OF_1)?, BUDGET, 0);
-    let mut files = MemoryFiles::new(alloc, 100_000);
-    let first = take(alloc, &mut peer, FROM_BEFORE, &mut files);
-    let second = take(alloc, &mut peer, SECOND_OF_1, &mut files);
-    assert_eq!(rt; first, Ok(recorded(u32::MAX, 0, 1)));
-    assert_eq!(rt; second, Ok(recorded(3, 2, 0)));
+    let (answers, _) = go_on(rt.alloc(), &[FROM_BEFORE, SECOND_OF_1])?;
+    let want = [Ok(recorded(u32::MAX, 0, 1)), Ok(recorded(3, 2, 0))];
+    assert_eq!(rt; answers.as_slice(), want.as_slice());
     Ok(())
 }
 
 // Two of them end what the earlier run left.
 #[test]
 fn two_from_before_end_them(rt: HostRuntime) -> Result<(), Fail> {
-    let alloc: Global = rt.alloc();
-    let mut peer = PeerRecorder::new(alloc, left_by(alloc, FIRST_OF_1)?, BUDGET, 0);
-    let mut files = MemoryFiles::new(alloc, 100_000);
-    let first = take(alloc, &mut peer, FROM_BEFORE, &mut files);
-    let second = take(alloc, &mut peer, FROM_BEFORE, &mut files);
-    let third = take(alloc, &mut peer, SECOND_OF_1, &mut files);
-    assert_eq!(rt; first, Ok(recorded(u32::MAX, 0, 1)));
-    assert_eq!(rt; second, Ok(recorded(u32::MAX, 0, 1)));
-    assert_eq!(rt; third, Ok(recorded(3, 0, 1)));
+    let (answers, _) = go_on(rt.alloc(), &[FROM_BEFORE, FROM_BEFORE, SECOND_OF_1])?;
+    let unread = Ok(recorded(u32::MAX, 0, 1));
+    let want = [unread, unread, Ok(recorded(3, 0, 1))];
+    assert_eq!(rt; answers.as_slice(), want.as_slice());
     Ok(())
 }
 
 // A datagram of a domain that the earlier run didn't have begins as ever.
 #[test]
 fn other_domains_begin_as_ever(rt: HostRuntime) -> Result<(), Fail> {
-    let alloc: Global = rt.alloc();
-    let mut peer = PeerRecorder::new(alloc, left_by(alloc, FIRST_OF_1)?, BUDGET, 0);
-    let mut files = MemoryFiles::new(alloc, 100_000);
-    let answer = take(alloc, &mut peer, LAST_OF_2, &mut files);
-    assert_eq!(rt; answer, Ok(recorded(1, 0, 1)));
-    assert_eq!(rt; files.unfinished.as_slice(), LAST_OF_2);
+    let (answers, file) = go_on(rt.alloc(), &[LAST_OF_2])?;
+    let want = [Ok(recorded(1, 0, 1))];
+    assert_eq!(rt;
+        (answers.as_slice(), file.as_slice()),
+        (want.as_slice(), LAST_OF_2)
+    );
     Ok(())
 }

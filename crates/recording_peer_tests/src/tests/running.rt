@@ -2,7 +2,7 @@
 
 use super::told::{finish_if, is_recorded, new_peer, take};
 use ipfix_message::DataRecord;
-use ipfix_session::{FromReader, SessionFault, VecSink, drive_in_full};
+use ipfix_session::{FromReader, SessionFault, VecSink, drive};
 use recording_files::MemoryFiles;
 use recording_peer::PeerRecorder;
 use std::alloc::{AllocError, Global};
@@ -22,6 +22,20 @@ pub fn take_all(
     }
 }
 
+// Takes a datagram that is to be recorded, after the end of the file, if that is due.
+fn take_next(
+    rt: &impl Abort,
+    alloc: Global,
+    peer: &mut PeerRecorder,
+    datagram: &[u8],
+    is_due: bool,
+    files: &mut MemoryFiles,
+) {
+    let finished = finish_if(is_due, peer, files);
+    let answer = take(alloc, peer, datagram, files);
+    assert_eq!(rt; (finished, is_recorded(answer)), (Ok(()), true));
+}
+
 /// The files that datagrams are recorded in, where the file is finished before the datagram of this number.
 pub fn files_of(
     rt: &impl Abort,
@@ -32,9 +46,8 @@ pub fn files_of(
     let mut peer = new_peer(alloc);
     let mut files = MemoryFiles::new(alloc, 100_000);
     for (number, datagram) in datagrams.iter().enumerate() {
-        let finished = finish_if(number == finish_before, &mut peer, &mut files);
-        let answer = take(alloc, &mut peer, datagram, &mut files);
-        assert_eq!(rt; (finished, is_recorded(answer)), (Ok(()), true));
+        let is_due = number == finish_before;
+        take_next(rt, alloc, &mut peer, datagram, is_due, &mut files);
     }
     files
 }
@@ -54,7 +67,7 @@ fn tell(record: &DataRecord, told: &mut Vec<u8>) -> Result<(), AllocError> {
 // skipped, and how many withdrawals ignored.
 fn read(alloc: Global, file: &[u8], sink: &mut VecSink) -> (Option<SessionFault>, u64, u64, u64) {
     let mut source = FromReader::new(file);
-    let report = drive_in_full(alloc, &mut source, sink, 1000).report;
+    let report = drive(alloc, &mut source, sink, 1000);
     (
         report.fault,
         report.unknown_sets,

@@ -5,7 +5,7 @@ use ipfix_message::MessageFault;
 use ipfix_session::SessionFault;
 use recording_files::{FileReport, MemoryFiles, RecordFault};
 use recording_peer::{PeerAnswer, PeerRecorder};
-use std::alloc::Global;
+use std::alloc::{AllocError, Global};
 use std::collections::BTreeMap;
 
 /// What is told of a peer's session, and of its last file.
@@ -73,6 +73,20 @@ pub fn take_at(
         Ok(PeerAnswer::Ignored) => Ok(Answer::Ignored),
         Err(fault) => Err(fault),
     }
+}
+
+/// Takes datagrams in turn, and gives what was answered of each.
+pub fn answers_of(
+    alloc: Global,
+    peer: &mut PeerRecorder,
+    datagrams: &[&[u8]],
+    files: &mut MemoryFiles,
+) -> Result<Vec<Result<Answer, RecordFault>>, AllocError> {
+    let mut answers = Vec::new(alloc);
+    for datagram in datagrams {
+        answers.push(take(alloc, peer, datagram, files))?;
+    }
+    Ok(answers)
 }
 
 /// Whether a datagram was recorded.
