@@ -52,6 +52,7 @@ module _ (chosen : Chosen) where
   pub record IsDump (told : DumpArguments) : Type 0 where
     pub format : text_given chosen (codes "format") ≡ Some (form_word told.form)
     pub elements : map (λ path. path.now) told.element_files.now ≡ texts_given chosen (codes "elements")
+    pub templates : IsNumberGiven chosen (codes "templates") told.templates
     pub verbosity : IsVerbosity told.verbosity
 
   pub record IsOutput (told : Output) : Type 0 where
@@ -68,6 +69,7 @@ module _ (chosen : Chosen) where
     pub table : IsTable told.table
     pub workers : IsNumberGiven chosen (codes "workers") (Some told.pool.workers)
     pub ring : IsNumberGiven chosen (codes "ring") (Some told.pool.capacity)
+    pub templates : IsNumberGiven chosen (codes "templates") told.templates
     pub receipt : option_map (λ path. path.now) told.receipt ≡ text_given chosen (codes "receipt")
     pub progress : told.progress ≡ progress_shown (count_given chosen (codes "progress"))
 

@@ -1,8 +1,9 @@
 //! What the words of each command say.
 
-ghost use Rattle.std.specs.Prelude.{◌≡◌, IfSome, IsSome};
+ghost use Rattle.std.specs.Prelude.{◌≡◌, IfSome, IsSome, codes};
 ghost use Rattle.cli_inputs.specs.Given.{IsCollect, IsDump, IsFiles, IsFinish, IsGiven, IsMerge, IsOutput, IsRecord, IsTable, IsTableOf, IsTables, IsTcp, IsDurationGiven, IsVerbosity, IsVerify};
 ghost use Rattle.cli_words.specs.Arguments.{OneNumber, reading_of};
+ghost use Rattle.cli_words.specs.Given.{IsNumberGiven};
 
 use crate::formats::{dump_form, merge_interval, table_format};
 use cli_words::{
@@ -10,8 +11,9 @@ use cli_words::{
     FILES_FROM, FLOW_FILES, FOLDER, FOLLOW, FROM, GRACE, IDLE, INCOMPLETE, INTO, KEEP_RECORDINGS,
     LISTEN, MERGE_INTO, PEERS, PERIODS_FROM, PLAN, PLANS, PROGRESS, RECEIPT, RECEIPT_FILE,
     RECEIPT_OF, RECEIPTS, RECORD_IDLE, RECORD_LISTEN, RECORD_SESSIONS, RECORD_VERBOSE,
-    RECORDED_EVERY, REORDER, RING, ROWS_OF_A_SESSION, SESSIONS, STRICT, Subcommand, TABLE,
-    TABLE_FILES, TABLE_FORMAT, TABLES_INTO, TEMPLATES, TIME, UDP, VERBOSE, WORD, WORKERS, ZONE,
+    RECORDED_EVERY, REORDER, RING, ROWS_OF_A_SESSION, SESSION_TEMPLATES, SESSIONS, STRICT,
+    Subcommand, TABLE, TABLE_FILES, TABLE_FORMAT, TABLES_INTO, TEMPLATES, TIME, UDP, VERBOSE, WORD,
+    WORKERS, ZONE,
 };
 use flow_collect::Pool;
 use ipfix_dump::Form;
@@ -42,6 +44,8 @@ pub struct DumpArguments<'m, 'w> {
     pub form: Form,
     /// The paths of files of elements, in the order in which they are read.
     pub element_files: &'m [&'w str],
+    /// What the templates of the session may count, if that was given.
+    pub templates: Option<u64>,
     pub verbosity: Verbosity,
 }
 
@@ -61,6 +65,8 @@ pub struct TableArguments<'m, 'w> {
 pub struct CollectArguments<'m, 'w> {
     pub table: TableArguments<'m, 'w>,
     pub pool: Pool,
+    /// What the templates of a session may count, if that was given.
+    pub templates: Option<u64>,
     /// The path of the receipt, if there is to be one.
     pub receipt: Option<&'w str>,
     pub progress: ShowProgress,
@@ -114,7 +120,7 @@ pub struct RecordArguments<'m, 'w> {
     /// How many seconds a datagram waits for those before it if it is ahead of the due sequence number. With 0 none
     /// waits, and none is held for doubled.
     pub reorder: u64,
-    /// What the templates of a peer that sends datagrams may count.
+    /// What the templates of each session may count.
     pub templates: u64,
     /// How many octets of datagrams that nobody took yet the system is asked to keep.
     pub buffer: u32,
@@ -251,8 +257,17 @@ fn read_dump<'m, 'w>(chosen: Chosen<'m, 'w>) -> Option<DumpArguments<'m, 'w>>
     Some(DumpArguments {
         form: dump_form(chosen.text(DUMP_FORMAT)?)?,
         element_files: chosen.texts(ELEMENTS),
+        templates: read_templates(chosen),
         verbosity: read_verbosity(chosen),
     })
+}
+
+// What the templates of a session may count, if that was given.
+fn read_templates(chosen: Chosen) -> Option<u64>
+    ensures { IsNumberGiven chosen.entry (codes "templates") result }
+{
+    let fields = chosen.number(SESSION_TEMPLATES)?;
+    Some(u64::from(fields))
 }
 
 fn read_verbosity(chosen: Chosen) -> Verbosity
@@ -297,6 +312,7 @@ fn read_collect<'m, 'w>(chosen: Chosen<'m, 'w>) -> Option<CollectArguments<'m, '
             workers: workers as usize,
             capacity: capacity as usize,
         },
+        templates: read_templates(chosen),
         receipt: chosen.text(RECEIPT),
         progress: match chosen.count(PROGRESS) {
             0 => ShowProgress::Nowhere,

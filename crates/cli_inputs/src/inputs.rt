@@ -11,7 +11,7 @@ use input_sources::{LoadedPlan, WithReason, load_plan};
 use output_tables::write_export_fault;
 use report_writing::{CheckedWriter, Status};
 use std::fs::File;
-use std::io::{BufWriter, Stderr, Stdout};
+use std::io::{BufWriter, Stderr, Stdout, Write};
 
 /// The octets that are gathered before they are written.
 const OUTPUT_BUFFER: usize = 1 << 16;
@@ -80,6 +80,7 @@ pub fn prepare_collecting<'r>(
     arguments: &CollectArguments,
     err: &mut Stderr,
 ) -> Result<Collecting<'r>, Status> {
+    check_limit(arguments, err)?;
     let PlanAndReceipt {
         loaded,
         maps,
@@ -98,6 +99,15 @@ pub fn prepare_collecting<'r>(
         receipt,
         terminal,
     })
+}
+
+// Sees to it that there is to be no receipt if templates have a limit, which no receipt tells. If not, `err` has a line.
+fn check_limit(arguments: &CollectArguments, err: &mut Stderr) -> Result<(), Status> {
+    if arguments.templates.is_some() && arguments.receipt.is_some() {
+        let _ = writeln!(err, "error: --receipt can't be given with --templates");
+        return Err(Status::NotOpened);
+    }
+    Ok(())
 }
 
 /// Where progress is written: on this terminal, if it is shown on one.

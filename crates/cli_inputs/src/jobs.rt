@@ -2,7 +2,7 @@
 
 ghost use Rattle.std.specs.Prelude.{◌≡◌};
 ghost use Rattle.std.specs.Option.{option_map};
-ghost use Rattle.flow_filtered_plan.specs.FilteredPlans.{filter_of};
+ghost use Rattle.flow_plan_fields.specs.FilteredPlans.{filter_of};
 ghost use Rattle.flow_times.specs.Noted.{noted_under};
 ghost use Rattle.flow_plan_fields.specs.Wants.{refuses_sampled as is_refusing, wanted_context as context_wanted, wanted_options as options_wanted};
 
@@ -14,12 +14,13 @@ use flow_times::TimeNoting;
 use input_sources::LoadedPlan;
 use std::net::IpAddr;
 
-/// What a run is to do with what this engine collects.
+/// What a run is to do with what this engine collects, of sessions whose templates may count so much, or anything.
 pub fn collect_job<'a>(
     loaded: &'a LoadedPlan,
     maps: Option<&'a Maps>,
     table: &TableArguments,
     engine: Engine,
+    templates: Option<u64>,
     exporters: &'a [Option<IpAddr>],
 ) -> CollectJob<'a>
     // It names the plan's keys and counters by the elements that the plan was read with.
@@ -40,6 +41,7 @@ pub fn collect_job<'a>(
     ensures exporters { result.exporters.now ≡ exporters.now }
     // The rest is as the command is given.
     ensures engine { result.engine ≡ engine }
+    ensures templates { result.templates ≡ templates }
     ensures output { result.output ≡ table.now.output }
     ensures verbosity { result.verbosity ≡ table.now.verbosity }
 {
@@ -55,6 +57,7 @@ pub fn collect_job<'a>(
         estimates: loaded.estimates.as_ref(),
         refuses_sampled: refuses_sampled(&loaded.read),
         times: TimeNoting::under(loaded.read.plan.choices().times, table.verbosity.verbose),
+        templates,
         filter: loaded.read.conditions(),
         exporters,
     }

@@ -7,7 +7,7 @@ use crate::inputs::{load_from, load_table_plan};
 use crate::plan_maps::load_plan_maps;
 use crate::receipt_place::is_of_part;
 use cli_words::VERSION;
-use command_receipt::{MadeWith, ReceiptFault, RunFault, SystemPlace, write_run_fault};
+use command_collect::{MadeWith, ReceiptFault, RunFault, SystemPlace, write_run_fault};
 use element_registry::Elements;
 use flow_maps::Maps;
 use input_files::{ReadText, load_elements};

@@ -8,8 +8,8 @@ use crate::listen_options::{
 };
 use crate::options::{
     AGAIN, DIRECT, DUMP_FORMAT, ELEMENTS, EXPORTER, FILES_FROM, INCOMPLETE, MERGE_INTO,
-    MERGE_RECEIPT, MERGE_STRICT, PLAN, PROGRESS, RECEIPT, RECEIPT_OF, RECEIPTS, RING, STRICT,
-    TABLE, TABLE_FORMAT, TIME, VERBOSE, WORKERS, ZONE,
+    MERGE_RECEIPT, MERGE_STRICT, PLAN, PROGRESS, RECEIPT, RECEIPT_OF, RECEIPTS, RING,
+    SESSION_TEMPLATES, STRICT, TABLE, TABLE_FORMAT, TIME, VERBOSE, WORKERS, ZONE,
 };
 use crate::period_options::{
     DAYS, FOLLOW, GRACE, KEEP_RECORDINGS, PERIODS_FROM, PLANS, RECORDED_EVERY, ROWS_OF_A_SESSION,
@@ -30,11 +30,12 @@ pub struct CommandWords {
 }
 
 /// The options of the commands that collect.
-const COLLECTING: [Argument; 10] = [
+const COLLECTING: [Argument; 11] = [
     PLAN,
     ELEMENTS,
     WORKERS,
     RING,
+    SESSION_TEMPLATES,
     TABLE_FORMAT,
     TIME,
     RECEIPT,
@@ -47,7 +48,7 @@ pub const DUMP: CommandWords = CommandWords {
     about: "Reads IPFIX messages from standard input and writes a line for each data record",
     example: "Example:\n  collectd dump < flows.ipfix",
     shared: &[],
-    own: &[DUMP_FORMAT, ELEMENTS, VERBOSE, STRICT],
+    own: &[DUMP_FORMAT, ELEMENTS, SESSION_TEMPLATES, VERBOSE, STRICT],
 };
 
 pub const FILES: CommandWords = CommandWords {

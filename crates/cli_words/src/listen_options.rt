@@ -84,12 +84,12 @@ pub const REORDER: Argument = Argument {
     help: "How many seconds a datagram waits for those before it if it is ahead of the due sequence number, 0 to 60; 0 turns order and doubles off",
 };
 
-/// What the templates of a peer that sends datagrams may count.
+/// What the templates of a session that is recorded may count.
 pub const TEMPLATES: Argument = Argument {
     word: "templates",
     takes: Takes::Number("FIELDS", 1, LARGEST),
     due: Due::Default("16384"),
-    help: "What the templates of a peer over UDP may count, from 1: each counts 8 and its fields, a domain 16; a datagram that defines more is refused",
+    help: "What the templates of a session may count, from 1: each counts 8 and its fields, a domain 16; a message that leaves more ends its connection, and a datagram that does is refused",
 };
 
 /// How many octets of datagrams that nobody took yet the system is asked to keep.

@@ -36,6 +36,14 @@ pub const RING: Argument = Argument {
     help: "How many records may wait between a session and its worker, 1 to 65536; 1024 is faster, 64 takes the least memory",
 };
 
+/// What the templates of a session may count. `record` has the same word for a peer over UDP.
+pub const SESSION_TEMPLATES: Argument = Argument {
+    word: "templates",
+    takes: Takes::Number("FIELDS", 1, LARGEST),
+    due: Due::Never,
+    help: "End a session whose templates would count more (a template counts 8 and its fields, a domain 16)",
+};
+
 pub const DIRECT: Argument = Argument {
     word: "direct",
     takes: Takes::Nothing(None),

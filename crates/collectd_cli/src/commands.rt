@@ -13,14 +13,12 @@ use cli_inputs::{
     write_refused_output, zone_borders,
 };
 use command_collect::{
-    CollectJob, Connections, Engine, run_files_with, run_tcp_with, write_collect_fault, write_limit,
+    CollectJob, Connections, Ended, Engine, MadeWith, Receipted, SystemPlace, run_files_receipted,
+    run_files_with, run_tcp_receipted, run_tcp_with, write_collect_fault, write_limit,
 };
 use command_dump::{DumpJob, run_dump_with, write_dump_fault};
 use command_merge::{MergeJob, run_merge_with};
 use command_merge_receipts::{MergedEnd, MergedTo, PartsJob, run_merge_parts};
-use command_receipt::{
-    Ended, MadeWith, Receipted, SystemPlace, run_files_receipted, run_tcp_receipted,
-};
 use command_verify::{VerifyJob, run_verify, table_of_receipt};
 use flow_collect::{CollectFault, Pool};
 use flow_export::Intervals;
@@ -47,11 +45,13 @@ pub fn dump(rt: &HostRuntime, arguments: &DumpArguments) -> Result<Status, Statu
     let DumpArguments {
         form,
         element_files,
+        templates,
         verbosity,
     } = *arguments;
     let job = DumpJob {
         form,
         element_files,
+        templates,
         origin: Origin::Unknown,
         verbosity,
     };
@@ -99,7 +99,9 @@ pub fn files<R: Clock + Threads + Wait + Sync>(
         terminal,
     } = prepare_collecting(rt, &collect, &mut err)?;
     let engine = engine_of(direct, collect.pool);
-    let job = collect_job(&loaded, maps.as_ref(), &collect.table, engine, &exporters);
+    let table = &collect.table;
+    let limit = collect.templates;
+    let job = collect_job(&loaded, maps.as_ref(), table, engine, limit, &exporters);
     let progress = progress_writer(collect.progress, &terminal, rt);
     let to = TableTo { out, receipt };
     let TableWritten { status, out } = if direct {
@@ -226,7 +228,9 @@ pub fn tcp<R: Clock + Threads + Wait + Sync>(
         count: sessions,
         idle,
     };
-    let job = collect_job(&loaded, maps.as_ref(), &collect.table, engine, &[]);
+    let table = &collect.table;
+    let limit = collect.templates;
+    let job = collect_job(&loaded, maps.as_ref(), table, engine, limit, &[]);
     let progress = progress_writer(collect.progress, &terminal, rt);
     let to = TableTo { out, receipt };
     let TableWritten { status, out } = collect_connections(

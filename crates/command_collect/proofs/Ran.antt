@@ -21,7 +21,7 @@ use Rattle.flow_table.specs.Plans.{PlanValue}
 use Rattle.flow_table.specs.declared.table.Table.{Table}
 use Rattle.flow_collect.specs.Contexts.{sources_of}
 use Rattle.flow_collect.specs.Headline.{IsAddedUp, IsGivenBy, SerialAnswer, all_of}
-use Rattle.flow_collect.specs.InFull.{FullSerialAnswer, FullSerialHeadline, IsGivenInContext, IsGivenInFull, fulls_in}
+use Rattle.flow_collect.specs.InFull.{FullSerialAnswer, FullSerialHeadline, IsGivenInContext, fulls_in, reports_in}
 use Rattle.flow_collect.specs.Places.{Each4}
 use Rattle.flow_collect.specs.Refusals.{AreTooLarge}
 use Rattle.flow_collect.specs.Texts.{AreTexts}
@@ -30,7 +30,7 @@ use Rattle.flow_collect.specs.declared.fault.CollectFault.TheVariants.{Sampled}
 use Rattle.flow_collect.specs.declared.session_context.InContext.{InContext}
 use Rattle.flow_collect.specs.declared.session_context.TheConstants.{NOTHING_WANTED}
 use Rattle.flow_collect.proofs.Contexts.{IsUnwanted, first_in_context, given_plain, if_late_plain, never_refused, records_plain, too_large_plain, whole_in_context}
-use Rattle.flow_collect.proofs.InFull.{given_short, short_sessions}
+use Rattle.flow_collect.proofs.InFull.{short_sessions}
 use Rattle.flow_export.specs.declared.fault.ExportFault.{ExportFault}
 use Rattle.flow_table.specs.AddedUp.{rows_in}
 use Rattle.std.specs.declared.io.ErrorKind.{ErrorKind}
@@ -53,7 +53,8 @@ pub record IsPlain {S : Type 0} (given : List (InContext S)) (sources : List S) 
   pub sources_are : sources_of given ≡ sources
   pub unwanted : All IsUnwanted given
 
--- a job that tells nothing more, wants no context and nothing of options records, and has no maps, no estimates and no filter
+-- a job that tells nothing more, wants no context and nothing of options records, and has no maps, no estimates, no filter and no limit of
+-- templates
 pub record IsPlainJob (job : CollectJob) : Type 0 where
   pub no_files : job.elements.now ≡ []
   pub quiet : job.verbosity ≡ NOTHING_MORE
@@ -64,6 +65,7 @@ pub record IsPlainJob (job : CollectJob) : Type 0 where
   pub unestimated : job.estimates ≡ None
   pub none_refused : job.refuses_sampled ≡ false
   pub no_times : job.times ≡ Nothing
+  pub no_limit : job.templates ≡ None
 
 -- asks for nothing
 nothing_asked : (job : CollectJob) → IsPlainJob job → asked_of job ≡ asked.NOTHING_WANTED
@@ -73,7 +75,7 @@ plain_places : {S : Type 0} (job : CollectJob) (sources : List S) (told : List (
 plain_places job [] told origins plain = record { sources_are = refl; unwanted = All-nil IsUnwanted }
 plain_places job (s ∷ sources) told origins plain =
     let rest = plain_places job sources (others_told told) (other_origins origins) plain in
-    record { sources_are = ap (λ (l : List _). s ∷ l) rest.sources_are; unwanted = All-cons IsUnwanted _ _ (plain.unwanted, nothing_asked job plain, plain.unmapped, plain.all, plain.unestimated, plain.none_refused) rest.unwanted }
+    record { sources_are = ap (λ (l : List _). s ∷ l) rest.sources_are; unwanted = All-cons IsUnwanted _ _ (plain.unwanted, nothing_asked job plain, plain.unmapped, plain.all, plain.unestimated, plain.none_refused, plain.no_limit) rest.unwanted }
 
 pub plainly_given : {S : Type 0} (job : CollectJob) (sources : List S) (origins : List Origin) → IsPlainJob job → IsPlain (in_context job sources origins) sources
 plainly_given job sources origins plain = plain_places job sources job.exporters.now origins plain
@@ -152,8 +154,8 @@ module _ {S : Type 0} (seen : S → SourceView) where
       collects_short c b =
           let h = b.headline in
           let own = given_plain seen given c.sources.items c.sessions.items h.records plain.unwanted h.given in
-          let there = subst (λ (l : List S). Each4 (IsGivenInFull seen) l c.sources.items (fulls_in c.sessions.items) h.records) plain.sources_are own in
-          record { headline = record { records = h.records; given = given_short seen sources c.sources.items (fulls_in c.sessions.items) h.records there; added_up = h.added_up }; came = b.came }
+          let there = subst (λ (l : List S). Each4 (IsGivenBy seen) l c.sources.items (reports_in (fulls_in c.sessions.items)) h.records) plain.sources_are own in
+          record { headline = record { records = h.records; given = there; added_up = h.added_up }; came = b.came }
 
       pub not_exported_short : (output : Output) (IsUntouched : Type 0) (fault : ExportFault)
           → IsNotExported (texts_in_context seen) (IsGivenInContext seen) plan engine output IsUntouched given fault → IsNotExported (plain_texts seen) (IsGivenBy seen) plan engine output IsUntouched sources fault

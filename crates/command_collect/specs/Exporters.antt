@@ -55,16 +55,17 @@ noting job =
       estimates = job.estimates;
       refuses_sampled = job.refuses_sampled;
       times = job.times;
+      templates = job.templates;
       filter = job.filter;
       exporters = job.exporters;
     }
 
 -- the sources, each with what its session knows by what has its place: the exporter that is told, and the origin; with what it
--- asks of options records; and with its maps, its estimates and its filter
+-- asks of options records; and with its maps, its estimates, its limit of templates and its filter
 abbrev pub in_places : {S : Type 0} → CollectJob → List S → List (Option IpAddr) → List Origin → List (InContext S)
 in_places job [] told origins = []
 in_places job (source ∷ sources) told origins =
-    record { source = source; context = record { exporter = exporter_of (first_told told) (first_origin origins); wanted = job.wanted; options = asked_of job; maps = job.maps; estimates = job.estimates; refuses_sampled = job.refuses_sampled; times = job.times }; filter = job.filter }
+    record { source = source; context = record { exporter = exporter_of (first_told told) (first_origin origins); wanted = job.wanted; options = asked_of job; maps = job.maps; estimates = job.estimates; refuses_sampled = job.refuses_sampled; times = job.times; templates = job.templates }; filter = job.filter }
     ∷ in_places job sources (others_told told) (other_origins origins)
 
 -- as far as the job wants it

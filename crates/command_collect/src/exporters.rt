@@ -11,7 +11,8 @@ use std::collections::VecDeque;
 use std::net::IpAddr;
 
 /// The sources, each with what its session knows: the exporter that is told of it, or the peer that is its origin, by
-/// its place, as far as the job wants it; with what the job asks of options records; and with its maps, estimates and filter.
+/// its place, as far as the job wants it; with what the job asks of options records; and with its maps, estimates, filter and
+/// limit of templates.
 pub fn in_context<'a, S: Drop>(
     alloc: Global,
     sources: Vec<S>,
@@ -33,6 +34,7 @@ pub fn in_context<'a, S: Drop>(
             estimates: job.estimates,
             refuses_sampled: job.refuses_sampled,
             times: job.times,
+            templates: job.templates,
         };
         all.push(InContext {
             source,

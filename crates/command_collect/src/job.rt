@@ -43,6 +43,8 @@ pub struct CollectJob<'a> {
     pub refuses_sampled: bool,
     /// What is noted of the times of records that count, and told of each session.
     pub times: TimeNoting,
+    /// What the templates of a session may count, if they have a limit.
+    pub templates: Option<u64>,
     /// Which records count, where the plan has conditions.
     pub filter: Option<&'a Filter>,
     /// The exporter that is told of each session, if one is, by its place. Of a connection it is the peer if none is
@@ -51,8 +53,8 @@ pub struct CollectJob<'a> {
 }
 
 impl<'a> CollectJob<'a> {
-    /// One that tells nothing more, wants no context and nothing of options records, and has no maps, no estimates and no
-    /// filter.
+    /// One that tells nothing more, wants no context and nothing of options records, and has no maps, no estimates, no
+    /// filter and no limit of templates.
     pub fn plain(elements: &'a Elements, plan: &'a Plan, engine: Engine, output: Output) -> Self
         ensures elements { result.elements.now ≡ elements.now }
         ensures plan { result.plan.now ≡ plan.now }
@@ -65,6 +67,7 @@ impl<'a> CollectJob<'a> {
         ensures estimates { result.estimates ≡ None }
         ensures refuses { result.refuses_sampled ≡ false }
         ensures times { result.times ≡ TimeNoting.Nothing }
+        ensures templates { result.templates ≡ None }
         ensures filter { result.filter ≡ None }
     {
         CollectJob {
@@ -79,6 +82,7 @@ impl<'a> CollectJob<'a> {
             estimates: None,
             refuses_sampled: false,
             times: TimeNoting::Nothing,
+            templates: None,
             filter: None,
             exporters: &[],
         }

@@ -1,4 +1,5 @@
-//! The commands that collect: what is written is the text of what was collected.
+//! The commands that collect: what is written is the text of what was collected. With a receipt, which says what the table was
+//! made of.
 #![tactic(auto)]
 
 mod collect_fault;
@@ -10,6 +11,7 @@ mod exporters;
 mod gathered;
 mod job;
 mod limits;
+mod receipts;
 mod table;
 
 pub use collect_fault::write_collect_fault;
@@ -21,4 +23,9 @@ pub use engine::Engine;
 pub use gathered::Gathered;
 pub use job::{CollectJob, Connections};
 pub use limits::write_limit;
+pub use receipts::{
+    Ended, Hindrance, MadeWith, ReceiptFault, ReceiptPlace, Receipted, Remade, RemakeFault,
+    RunFault, SystemPlace, TextDigest, WrittenTable, export_hashed, put_text, remake,
+    run_files_receipted, run_receipted, run_tcp_receipted, table_of, write_run_fault,
+};
 pub use table::{collect_job, run, run_with};

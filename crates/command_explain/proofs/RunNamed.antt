@@ -10,7 +10,7 @@ use Rattle.flow_merge.specs.declared.row_fault.RowFault.TheVariants as rows
 use Rattle.flow_export.specs.declared.fault.ExportFault.TheVariants as exports
 use Rattle.ipfix_dump.specs.declared.fault.DumpFault.TheVariants as dumps
 use Rattle.receipt_merging.specs.declared.part_fault.PartFault.TheVariants as parts
-use Rattle.command_receipt.specs.declared.fault.ReceiptFault.TheVariants as receipts
+use Rattle.command_collect.specs.declared.receipts.fault.ReceiptFault.TheVariants as receipts
 use Rattle.command_explain.specs.declared.run_faults.RunFault.{RunFault}
 use Rattle.command_explain.specs.declared.run_faults.RunFault.TheVariants.{PlanText, Plan, Elements, Collect, Merge, Row, Part, Export, Dump, Receipt}
 use Rattle.command_explain.specs.declared.run_faults.TheConstants.{RUN_FAULTS}

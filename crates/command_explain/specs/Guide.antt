@@ -1,11 +1,11 @@
 -- The explanation of each fault of a session.
 use Rattle.std.specs.Prelude.{ℕ, List, codes}
 use Rattle.ipfix_message.specs.declared.fault.MessageFault.{MessageFault}
-use Rattle.ipfix_message.specs.declared.fault.MessageFault.TheVariants.{Version, MessageLength, SetHeader, SetLength, TemplateId, TemplateCut, Scope, ZeroLength, TemplateChanged, RecordCut, TooManyDomains, OutOfMemory, Spent}
+use Rattle.ipfix_message.specs.declared.fault.MessageFault.TheVariants.{Version, MessageLength, SetHeader, SetLength, TemplateId, TemplateCut, Scope, ZeroLength, TemplateChanged, RecordCut, TooManyDomains, OutOfMemory, Spent, TooManyFields}
 use Rattle.ipfix_session.specs.declared.fault.SessionFault.{SessionFault}
 use Rattle.ipfix_session.specs.declared.fault.SessionFault.TheVariants.{Message, Truncated, ReadFailed, TooManyReads, SinkClosed}
 use Rattle.command_explain.specs.declared.ending_fault.EndingFault.{EndingFault}
-use Rattle.command_explain.specs.declared.ending_fault.EndingFault.TheVariants.{Session, NotWritten, TooManyFields}
+use Rattle.command_explain.specs.declared.ending_fault.EndingFault.TheVariants.{Session, NotWritten}
 
 -- what was found, by which rule it is a fault, and what an operator does about it
 pub record Texts : Type 0 where
@@ -43,6 +43,8 @@ texts_of_message OutOfMemory = texts (codes "memory was refused; may come in pla
     (codes "Give the program more memory, or fewer sessions at once, or shorter rings (--ring); or\nmake the table smaller: longer intervals, fewer keys, a smaller max_spread.")
 texts_of_message Spent = texts (codes "an earlier message of the session had a fault") (codes "none of RFC 7011")
     (codes "Look for the fault of that message: it came first.")
+texts_of_message TooManyFields = texts (codes "more templates are defined than --templates allows") (codes "none of RFC 7011")
+    (codes "A template counts 8 and its fields, a domain 16. If the exporter needs so many, give a\nlarger --templates. A session ends so; of a UDP peer the datagram alone is refused, and\nthe ids that it would have changed have no template until they are defined again.")
 
 abbrev pub texts_of_session : SessionFault → Texts
 texts_of_session (Message fault) = texts_of_message fault
@@ -59,5 +61,3 @@ abbrev pub texts_of : EndingFault → Texts
 texts_of (Session fault) = texts_of_session fault
 texts_of NotWritten = texts (codes "a file of the recorded session could not be written, or not be finished") (codes "none of RFC 7011")
     (codes "Look for a full disk, or for a folder without permission. The messages that were written\nare whole in the session's files. Let the exporter connect again.")
-texts_of TooManyFields = texts (codes "a datagram defines more than record --templates allows its peer") (codes "none of RFC 7011")
-    (codes "A template counts 8 and its fields, a domain 16. If the exporter needs so many, give a\nlarger --templates; the ids that it would have changed have no template until then.")

@@ -21,8 +21,8 @@ use Rattle.ipfix_dump.specs.Faults as of_dumps
 use Rattle.ipfix_dump.specs.declared.fault.DumpFault.TheVariants as dumps
 use Rattle.receipt_merging.specs.PartFaults as of_parts
 use Rattle.receipt_merging.specs.declared.part_fault.PartFault.TheVariants as parts
-use Rattle.command_receipt.specs.Faults as of_receipts
-use Rattle.command_receipt.specs.declared.fault.ReceiptFault.TheVariants as receipts
+use Rattle.command_collect.specs.Faults as of_receipts
+use Rattle.command_collect.specs.declared.receipts.fault.ReceiptFault.TheVariants as receipts
 use Rattle.element_registry.specs.declared.fault.Heading.TheVariants as headings
 use Rattle.ipfix_session.specs.declared.fault.SessionFault.TheVariants as sessions
 use Rattle.command_explain.specs.declared.run_faults.RunFault.{RunFault}

@@ -9,12 +9,10 @@ use recording_files::RecordFault;
 /// A fault that ends a session, or for which a datagram is refused.
 #[derive(Clone, Copy, Debug, PartialEq, Eq)]
 pub enum EndingFault {
-    /// One that any session may have.
+    /// One that any session may have, or for which a datagram is refused.
     Session(SessionFault),
     /// A file of a recorded session could not be written, or not be finished.
     NotWritten,
-    /// A datagram defines more templates than the budget of its peer allows.
-    TooManyFields,
 }
 
 impl EndingFault {
@@ -25,7 +23,6 @@ impl EndingFault {
         match self {
             EndingFault::Session(fault) => fault.number(),
             EndingFault::NotWritten => RecordFault::NotWritten.number(),
-            EndingFault::TooManyFields => 21,
         }
     }
 
@@ -36,7 +33,6 @@ impl EndingFault {
         match self {
             EndingFault::Session(fault) => fault.name(),
             EndingFault::NotWritten => RecordFault::NotWritten.name(),
-            EndingFault::TooManyFields => "TooManyFields",
         }
     }
 }

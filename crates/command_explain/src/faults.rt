@@ -24,5 +24,5 @@ pub const FAULTS: [EndingFault; 19] = [
     EndingFault::Session(SessionFault::TooManyReads),
     EndingFault::Session(SessionFault::SinkClosed),
     EndingFault::NotWritten,
-    EndingFault::TooManyFields,
+    EndingFault::Session(SessionFault::Message(MessageFault::TooManyFields)),
 ];

@@ -33,12 +33,6 @@ impl Explanation {
                 advice: "Look for a full disk, or for a folder without permission. The messages that were written\n\
                     are whole in the session's files. Let the exporter connect again.",
             },
-            EndingFault::TooManyFields => Explanation {
-                found: "a datagram defines more than record --templates allows its peer",
-                rule: "none of RFC 7011",
-                advice: "A template counts 8 and its fields, a domain 16. If the exporter needs so many, give a\n\
-                    larger --templates; the ids that it would have changed have no template until then.",
-            },
         }
     }
 }
@@ -162,6 +156,13 @@ pub fn explanation_of_message(fault: MessageFault) -> Explanation
             found: "an earlier message of the session had a fault",
             rule: "none of RFC 7011",
             advice: "Look for the fault of that message: it came first.",
+        },
+        MessageFault::TooManyFields => Explanation {
+            found: "more templates are defined than --templates allows",
+            rule: "none of RFC 7011",
+            advice: "A template counts 8 and its fields, a domain 16. If the exporter needs so many, give a\n\
+                larger --templates. A session ends so; of a UDP peer the datagram alone is refused, and\n\
+                the ids that it would have changed have no template until they are defined again.",
         },
     }
 }

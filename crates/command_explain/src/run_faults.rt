@@ -3,7 +3,7 @@
 ghost use Rattle.std.specs.Prelude.{◌≡◌};
 ghost use Rattle.command_explain.specs.RunFaults.{name_of, namesakes as namesakes_of};
 
-use command_receipt::ReceiptFault;
+use command_collect::ReceiptFault;
 use element_registry::{ElementsFault, Heading};
 use flow_collect::CollectFault;
 use flow_export::ExportFault;

@@ -8,7 +8,7 @@ use crate::run_faults::RunFault::{
     self, Collect, Dump, Elements, Export, Filter, Map, Merge, NotAReceipt, Part, Plan, PlanText,
     Receipt, Row, Sampling,
 };
-use command_receipt::ReceiptFault;
+use command_collect::ReceiptFault;
 use element_registry::ElementsFault;
 use flow_collect::CollectFault;
 use flow_export::ExportFault;

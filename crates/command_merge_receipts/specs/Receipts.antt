@@ -8,12 +8,12 @@ use Rattle.receipt_merging.specs.Parts.{PartValue, counts_from, inputs_in, is_co
 use Rattle.table_receipts.specs.Texts.{receipt_text}
 use Rattle.table_receipts.specs.Values.{IntoValue, ReceiptValue, TableValue, file_value, into_value}
 use Rattle.table_receipts.specs.declared.receipt.MergedInto.{MergedInto}
-use Rattle.command_receipt.specs.Digests.{IsDigestOfAppended}
-use Rattle.command_receipt.specs.Runs.{IsOfReceipt}
-use Rattle.command_receipt.specs.Tables.{table_of}
-use Rattle.command_receipt.specs.declared.fault.RunFault.{RunFault}
-use Rattle.command_receipt.specs.declared.fault.RunFault.TheVariants.{Export, Receipt}
-use Rattle.command_receipt.specs.declared.hashed_table.TextDigest.{TextDigest}
+use Rattle.command_collect.specs.Digests.{IsDigestOfAppended}
+use Rattle.command_collect.specs.ReceiptedRuns.{IsOfReceipt}
+use Rattle.command_collect.specs.Tables.{table_of}
+use Rattle.command_collect.specs.declared.receipts.fault.RunFault.{RunFault}
+use Rattle.command_collect.specs.declared.receipts.fault.RunFault.TheVariants.{Export, Receipt}
+use Rattle.command_collect.specs.declared.receipts.hashed_table.TextDigest.{TextDigest}
 use Rattle.command_merge_receipts.specs.declared.job.MergedTo.{MergedTo}
 use Rattle.command_merge_receipts.specs.declared.job.PartsJob.{PartsJob}
 

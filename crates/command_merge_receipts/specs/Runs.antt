@@ -7,8 +7,8 @@ use Rattle.report_writing.specs.declared.reason.Reason.{Reason}
 use Rattle.report_writing.specs.declared.status.Status.{Status}
 use Rattle.report_writing.specs.declared.status.Status.TheVariants.{Well, SessionFault, Failed}
 use Rattle.command_merge.specs.MergeLines.{files_opened_lines, merged_line}
-use Rattle.command_receipt.specs.Faults.{run_fault_line}
-use Rattle.command_receipt.specs.declared.fault.RunFault.{RunFault}
+use Rattle.command_collect.specs.Faults.{run_fault_line}
+use Rattle.command_collect.specs.declared.receipts.fault.RunFault.{RunFault}
 use Rattle.command_merge_receipts.specs.Lines.{counted_twice_lines, not_merged_parts_lines, parts_status_of}
 use Rattle.command_merge_receipts.specs.Receipts.{IsReceipted, IsUnfinished, IsWritten}
 use Rattle.command_merge_receipts.specs.Stops.{AreRefused, AreTaken, StopsAmong}

@@ -3,7 +3,7 @@
 ghost use Rattle.std.specs.Prelude.{Bool, List};
 ghost use Rattle.flow_table.specs.declared.table.Table.{Table};
 ghost use Rattle.receipt_merging.specs.Parts.{PartValue};
-ghost use Rattle.command_receipt.specs.declared.hashed_table.TextDigest.{TextDigest};
+ghost use Rattle.command_collect.specs.declared.receipts.hashed_table.TextDigest.{TextDigest};
 ghost use Rattle.command_merge_receipts.specs.Receipts.{merged_receipt_of};
 ghost use Rattle.command_merge_receipts.specs.Steps.{IsMergedOf, StepsSayTheSame};
 ghost use Rattle.command_merge_receipts.specs.declared.job.PartsJob.{PartsJob};

@@ -8,7 +8,7 @@ ghost use Rattle.table_receipts.specs.Values.{file_value, into_value, receipt_va
 ghost use Rattle.command_merge_receipts.specs.Receipts.{into_told, merged_receipt_of};
 
 use crate::job::PartsJob;
-use command_receipt::{TextDigest, table_of};
+use command_collect::{TextDigest, table_of};
 use flow_table::FlatTable;
 use receipt_merging::MergedParts;
 use std::alloc::{AllocError, Global};

@@ -5,12 +5,12 @@ ghost use Rattle.flow_table.specs.Fitting.{FitsPlan};
 ghost use Rattle.receipt_merging.specs.Judging.{AreMerged};
 ghost use Rattle.receipt_merging.specs.Parts.{PartValue};
 ghost use Rattle.table_receipts.specs.Texts.{receipt_text};
-ghost use Rattle.command_receipt.specs.Runs.{IsOfReceipt};
+ghost use Rattle.command_collect.specs.ReceiptedRuns.{IsOfReceipt};
 ghost use Rattle.command_merge_receipts.specs.Receipts.{IsReceipted, IsUnfinished, IsWritten, merged_receipt_of};
 
 use crate::job::{MergedTo, PartsJob};
 use crate::receipt::make_merged_receipt;
-use command_receipt::{
+use command_collect::{
     ReceiptFault, ReceiptPlace, RunFault, TextDigest, WrittenTable, export_hashed, put_text,
 };
 use flow_export::AnyTable;

@@ -10,13 +10,13 @@ use Rattle.command_record.specs.declared.system.Sockets.{Sockets}
 
 -- ---- what a run takes
 
--- of connections and of datagrams only what is taken, as it is asked for; which address the system gave to a socket no contract sees
+-- of connections and of datagrams only what is taken, as it is asked for, and what the templates of each session may count; which address the system gave to a socket no contract sees
 pub record IsIntake (sockets : Sockets) (order : RecordOrder) (limits : PeerLimits) (i : Intake) : Type 0 where
   pub listen : sockets.listener ≡ None → i.listen ≡ None
   pub udp : sockets.socket ≡ None → i.udp ≡ None
   pub sessions : i.sessions ≡ option_map (λ _. order.sessions) sockets.listener
   pub peers : i.peers ≡ option_map (λ _. non_zero_usize_get limits.most) sockets.socket
-  pub templates : i.templates ≡ option_map (λ _. limits.templates) sockets.socket
+  pub templates : i.templates ≡ order.templates
   pub buffer : i.buffer ≡ option_map (λ socket. socket.buffer) sockets.socket
 
 -- ---- the first line
@@ -42,9 +42,9 @@ most_part word (Some most) = most_text word most
 abbrev pub addresses_text : Option SocketAddr → Option SocketAddr → List ℕ
 addresses_text listen udp = address_part (codes "listen") listen ++ address_part (codes "udp") udp
 
--- what the templates of a peer may count, and how many octets of datagrams the system keeps until they are taken
+-- what the templates of a session may count, and how many octets of datagrams the system keeps until they are taken
 abbrev pub room_texts : Intake → List ℕ
-room_texts i = most_part (codes "templates") i.templates ++ (most_part (codes "buffer") i.buffer ++ codes "\n")
+room_texts i = most_text (codes "templates") i.templates ++ (most_part (codes "buffer") i.buffer ++ codes "\n")
 
 -- how many peers that send datagrams, and those
 abbrev pub datagram_texts : Intake → List ℕ

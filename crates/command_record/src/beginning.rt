@@ -22,8 +22,8 @@ pub(crate) struct Intake {
     pub sessions: Option<usize>,
     /// How many peers that send datagrams it keeps.
     pub peers: Option<usize>,
-    /// What the templates of each of them may count.
-    pub templates: Option<usize>,
+    /// What the templates of each session may count.
+    pub templates: u64,
     /// How many octets of datagrams that nobody took yet the system keeps.
     pub buffer: Option<usize>,
 }
@@ -44,7 +44,7 @@ impl Intake {
             },
             sessions: sockets.listener.as_ref().map(|_| order.sessions),
             peers: sockets.socket.as_ref().map(|_| limits.most.get()),
-            templates: sockets.socket.as_ref().map(|_| limits.templates as usize),
+            templates: order.templates,
             buffer: sockets.socket.as_ref().map(|socket| socket.buffer as usize),
         }
     }
@@ -124,7 +124,7 @@ fn write_datagrams<W: WriteLines>(intake: Intake, out: &mut W) -> io::Result<()>
 fn write_rooms<W: WriteLines>(intake: Intake, out: &mut W) -> io::Result<()>
     ensures { Tells W.contents W.failed out.old out.new result (room_texts intake) }
 {
-    write_most_part("templates", intake.templates, out)?;
+    write_most_text("templates", intake.templates as usize, out)?;
     write_last(intake.buffer, out)
 }
 

@@ -193,6 +193,7 @@ fn order_of<E: WriteLines>(
     ensures every { IfOk result (λ order. order.every ≡ arguments.now.every) }
     ensures sessions { IfOk result (λ order. order.sessions ≡ arguments.now.sessions) }
     ensures idle { IfOk result (λ order. order.idle ≡ arguments.now.idle) }
+    ensures templates { IfOk result (λ order. order.templates ≡ arguments.now.templates) }
     ensures verbosity { IfOk result (λ order. order.verbosity ≡ arguments.now.verbosity) }
     ensures filter { IfOk result (λ order.
         ArePrefixes arguments.now.prefixes.now order.filter.prefixes.items) }
@@ -205,6 +206,7 @@ fn order_of<E: WriteLines>(
         every: arguments.every,
         sessions: arguments.sessions,
         idle: arguments.idle,
+        templates: arguments.templates,
         verbosity: arguments.verbosity,
         filter: filter_of(alloc, arguments.prefixes, err)?,
     })

@@ -1,2 +1,10 @@
 pub mod Each
 pub mod Naming
+pub mod EachZipped
+pub mod OneDay
+pub mod MergeRuns
+pub mod Branches
+pub mod Settled
+pub mod Lacking
+pub mod TextsAdded
+pub mod TablesIn

@@ -7,9 +7,9 @@ use Rattle.jiff.specs.declared.tz.timezone.TimeZone.{TimeZone}
 use Rattle.local_days.specs.declared.local_interval.LocalInterval.{LocalInterval}
 use Rattle.local_days.specs.declared.local_interval.LocalInterval.TheVariants.{Day, Month}
 use Rattle.output_tables.specs.declared.output.Output.{Output}
-use Rattle.period_days.specs.declared.calendar.Calendar.{Calendar}
-use Rattle.period_days.specs.declared.day_tables.DayTexts.{DayTexts}
-use Rattle.period_texts.specs.declared.job.TextJob.{TextJob}
+use Rattle.command_tables.specs.declared.days.calendar.Calendar.{Calendar}
+use Rattle.command_tables.specs.declared.days.day_tables.DayTexts.{DayTexts}
+use Rattle.command_tables.specs.declared.texts.job.TextJob.{TextJob}
 use Rattle.tables_folder.specs.PlanPlaces.{HasTablesOf}
 use Rattle.tables_folder.specs.declared.plan_names.TablesOf.{TablesOf}
 use Rattle.tables_folder.specs.declared.plan_names.TablesOf.TheVariants.{Periods, Days, Months}
@@ -67,6 +67,7 @@ pub record IsWorkOf (read : ReadPlan) (arguments : TablesArguments) (zone : Opti
   pub plan_is : plan.work.desk.maker.job.collect.plan.now ≡ read.made.loaded.read.plan
   pub made : plan.work.desk.maker.job.made.now ≡ read.made.made
   pub output_is : plan.work.desk.maker.job.collect.output ≡ record arguments.output { format = Ipfix }
+  pub no_limit : plan.work.desk.maker.job.collect.templates ≡ None
   pub rows_of_a_session : plan.work.desk.maker.job.rows_of_a_session ≡ arguments.rows_of_a_session
   pub place : HasTablesOf Periods (format_word Ipfix) plan.work.desk.tables
   pub texts : AreTextsOf read arguments.output plan.texts

@@ -5,14 +5,14 @@ ghost use Rattle.std.specs.Option.{option_map};
 ghost use Rattle.period_tables.specs.Rounds.{first_taken};
 ghost use Rattle.period_tables.specs.Telling.{reason_status};
 
+use crate::days::{days_of, place_periods, take_day_of, take_day_text};
 use crate::opening::{check_engine, name_plans, open_tables};
 use crate::plans::{PlanDays, PlanTexts, PlanWork, TablesWork, keep_plans, open_plans, read_plans};
 use crate::removing::remove_old;
+use crate::texts::take_text_of;
 use cli_inputs::{TablesArguments, known_zones, zone_of_days};
 use command_collect::Engine;
-use period_days::{days_of, place_periods, take_day_of, take_day_text};
 use period_tables::{Round, Rounds, status_of_reason, take_periods, tell_unlisted, worse_of};
-use period_texts::take_text_of;
 use recording_folder::second_now;
 use recording_names::Period;
 use recording_periods::PeriodRule;

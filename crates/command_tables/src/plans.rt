@@ -7,7 +7,9 @@ ghost use Rattle.period_tables.specs.Rounds.{AreNew};
 ghost use Rattle.tables_folder.specs.PlanPlaces.{HasTablesOf};
 ghost use Rattle.command_tables.specs.Plans.{AreDayTextsOf, AreLocalOf, AreTextsOf, IsDaysOf, IsTextJob, IsWorkOf, tables_of as tables_for};
 
+use crate::days::{Calendar, DayJob, DayTables, DayTexts};
 use crate::opening::{NamedPlan, ending_of, tell_plan};
+use crate::texts::{TextJob, Texts};
 use cli_inputs::{PlanMade, TableArguments, TablesArguments, collect_job, load_plan_made};
 use command_collect::Engine;
 use flow_export::Format;
@@ -17,9 +19,7 @@ use jiff::tz::TimeZone;
 use local_days::LocalInterval;
 use output_tables::Output;
 use period_collect::{PeriodJob, TableMaker};
-use period_days::{Calendar, DayJob, DayTables, DayTexts};
 use period_tables::{Desk, Rounds, Work};
-use period_texts::{TextJob, Texts};
 use recording_folder::Folder;
 use report_writing::{CheckedWriter, Status};
 use std::io::{Stderr, Stdout};
@@ -140,7 +140,7 @@ fn open_plan<'a>(
     let table = as_ipfix(&arguments.table(path));
     let job = PeriodJob {
         recordings: arguments.from,
-        collect: collect_job(loaded, maps.as_ref(), &table, engine, &[]),
+        collect: collect_job(loaded, maps.as_ref(), &table, engine, None, &[]),
         made,
         rows_of_a_session: arguments.rows_of_a_session,
     };

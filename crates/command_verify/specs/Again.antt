@@ -22,8 +22,8 @@ use Rattle.receipt_differences.specs.Differences.{table_differs}
 use Rattle.receipt_differences.specs.Remade.{elements_differ, maps_differ}
 use Rattle.command_collect.specs.CollectLines.{collect_fault_line}
 use Rattle.command_collect.specs.Told.{TellsBehind, TellsNotOpened}
-use Rattle.command_receipt.specs.Faults.{run_fault_line}
-use Rattle.command_receipt.specs.declared.remaking.RemakeFault.TheVariants.{Collect, Run}
+use Rattle.command_collect.specs.Faults.{run_fault_line}
+use Rattle.command_collect.specs.declared.receipts.remaking.RemakeFault.TheVariants.{Collect, Run}
 use Rattle.table_remaking.specs.Again.{IsCompared}
 use Rattle.table_remaking.specs.Faults.{IsFaultOf}
 use Rattle.table_remaking.specs.declared.again.AgainFault.{AgainFault}

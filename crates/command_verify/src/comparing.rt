@@ -10,8 +10,7 @@ ghost use Rattle.command_verify.specs.Again.{ComparesAlone, ComparesFiles, Compa
 use crate::maps::load_said_maps;
 use crate::telling::{tell_differences, tell_fault, tell_merged};
 use crate::verify::VerifyJob;
-use command_collect::write_collect_fault;
-use command_receipt::{RemakeFault, write_run_fault};
+use command_collect::{RemakeFault, write_collect_fault, write_run_fault};
 use element_registry::Elements;
 use flow_maps::Maps;
 use input_files::ReadText;

@@ -11,8 +11,8 @@ use Rattle.ipfix_session.specs.Sources.{SourceView}
 use Rattle.report_writing.specs.declared.reason.Reason.{Reason}
 use Rattle.report_writing.specs.declared.status.Status.{Status}
 use Rattle.report_writing.specs.declared.status.Status.TheVariants.{Failed}
-use Rattle.command_receipt.specs.declared.run.Ended.{Ended}
-use Rattle.command_receipt.specs.declared.run.Hindrance.{Hindrance}
+use Rattle.command_collect.specs.declared.receipts.run.Ended.{Ended}
+use Rattle.command_collect.specs.declared.receipts.run.Hindrance.{Hindrance}
 use Rattle.period_collect.specs.declared.kept_receipt.KeptReceipt.{KeptReceipt}
 use Rattle.period_collect.specs.declared.maker.MadeTable.{MadeTable}
 use Rattle.period_collect.specs.declared.maker.TableMaker.{TableMaker}

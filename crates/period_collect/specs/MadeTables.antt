@@ -13,12 +13,12 @@ use Rattle.report_writing.specs.declared.status.Status.{Status}
 use Rattle.report_writing.specs.declared.status.Status.TheVariants.{Well, SessionFault, NotOpened, Failed}
 use Rattle.table_receipts.specs.Values.{file_value}
 use Rattle.command_collect.specs.declared.job.CollectJob.{CollectJob}
-use Rattle.command_receipt.specs.Runs.{HinderFiles, ReceiptedFiles}
-use Rattle.command_receipt.specs.declared.making.MadeWith.{MadeWith}
-use Rattle.command_receipt.specs.declared.run.Ended.{Ended}
-use Rattle.command_receipt.specs.declared.run.Hindrance.{Hindrance}
-use Rattle.command_receipt.specs.declared.run.Hindrance.TheVariants.{SumTooLarge, InputTwice}
-use Rattle.command_receipt.specs.declared.run.Receipted.{Receipted}
+use Rattle.command_collect.specs.ReceiptedRuns.{HinderFiles, ReceiptedFiles}
+use Rattle.command_collect.specs.declared.receipts.making.MadeWith.{MadeWith}
+use Rattle.command_collect.specs.declared.receipts.run.Ended.{Ended}
+use Rattle.command_collect.specs.declared.receipts.run.Hindrance.{Hindrance}
+use Rattle.command_collect.specs.declared.receipts.run.Hindrance.TheVariants.{SumTooLarge, InputTwice}
+use Rattle.command_collect.specs.declared.receipts.run.Receipted.{Receipted}
 use Rattle.period_collect.specs.Exporters.{IsJobWith}
 use Rattle.period_collect.specs.LeftOutFiles.{has_any, kept_of, paths_at}
 use Rattle.period_collect.specs.ManyRows.{LeavesOutForRows, SaysRows}

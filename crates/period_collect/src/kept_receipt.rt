@@ -2,7 +2,7 @@
 
 ghost use Rattle.std.specs.Prelude.{◌≡◌, None, Some};
 
-use command_receipt::ReceiptPlace;
+use command_collect::ReceiptPlace;
 use std::alloc::Global;
 use std::io;
 

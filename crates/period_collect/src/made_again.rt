@@ -6,7 +6,7 @@ ghost use Rattle.period_collect.specs.LeftOutFiles.{paths_at};
 ghost use Rattle.period_collect.specs.MadeTables.{IsSameMade};
 
 use crate::places::names_at;
-use command_receipt::MadeWith;
+use command_collect::MadeWith;
 use std::alloc::{AllocError, Global};
 use table_receipts::FileReceipt;
 

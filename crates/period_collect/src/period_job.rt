@@ -1,7 +1,6 @@
 //! How the tables of periods are made.
 
-use command_collect::CollectJob;
-use command_receipt::MadeWith;
+use command_collect::{CollectJob, MadeWith};
 
 /// How the tables of the periods of a folder of recordings are made.
 #[derive(Clone, Copy)]

@@ -1,7 +1,6 @@
 //! Rounds over a folder of recordings on the disk.
 
-use command_collect::{CollectJob, Engine};
-use command_receipt::MadeWith;
+use command_collect::{CollectJob, Engine, MadeWith};
 use element_registry::Elements;
 use flow_export::Format;
 use flow_plan::read_plan;

@@ -11,10 +11,10 @@ use Rattle.receipt_differences.specs.Inputs.{HaveSameInputs, inputs_differ}
 use Rattle.receipt_differences.specs.Remade.{bool_same, complete_with, remade_differs, text_differs}
 use Rattle.receipt_differences.proofs.Silent.{both_empty, its_table, same_inputs, same_text}
 use Rattle.command_collect.specs.declared.job.CollectJob.{CollectJob}
-use Rattle.command_receipt.specs.Inputs.{inputs_of}
-use Rattle.command_receipt.specs.Remade.{IsRemade}
-use Rattle.command_receipt.specs.declared.making.MadeWith.{MadeWith}
-use Rattle.command_receipt.specs.declared.remaking.Remade.{Remade}
+use Rattle.command_collect.specs.Inputs.{inputs_of}
+use Rattle.command_collect.specs.Remade.{IsRemade}
+use Rattle.command_collect.specs.declared.receipts.making.MadeWith.{MadeWith}
+use Rattle.command_collect.specs.declared.receipts.remaking.Remade.{Remade}
 use Rattle.table_remaking.specs.Again.{IsVerified, again_differs}
 
 -- a receipt that was made has the inputs of its run

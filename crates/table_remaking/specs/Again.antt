@@ -1,5 +1,5 @@
 -- How the table of a receipt was made again, and compared.
-use Rattle.std.specs.Prelude.{◌≡◌, ℕ, List, [], ◌++◌, option_copied}
+use Rattle.std.specs.Prelude.{◌≡◌, ℕ, List, [], ◌++◌, None, option_copied}
 use Rattle.std.specs.List.{AllZip}
 use Rattle.std.specs.Option.{option_map}
 use Rattle.flow_collect.specs.Contexts.{records_in_context, sources_of}
@@ -7,7 +7,7 @@ use Rattle.flow_collect.specs.InFull.{FullSerialAnswer, IsGivenInContext, fulls_
 use Rattle.flow_collect.specs.Texts.{AreTexts}
 use Rattle.flow_export.specs.declared.format.Format.{Format}
 use Rattle.flow_export.specs.declared.format.Format.TheVariants.{Csv, Json, Ipfix}
-use Rattle.flow_filtered_plan.specs.FilteredPlans.{filter_of}
+use Rattle.flow_plan_fields.specs.FilteredPlans.{filter_of}
 use Rattle.flow_plan_fields.specs.Wants.{refuses_sampled, wanted_context, wanted_options}
 use Rattle.ipfix_session.specs.Given.{IsPrefix}
 use Rattle.ipfix_session.specs.Sources.{SourceView}
@@ -24,12 +24,12 @@ use Rattle.command_collect.specs.Engines.{CollectsBy}
 use Rattle.command_collect.specs.Exporters.{in_noting_context}
 use Rattle.command_collect.specs.declared.engine.Engine.TheVariants.{Lots}
 use Rattle.command_collect.specs.declared.job.CollectJob.{CollectJob}
-use Rattle.command_receipt.specs.Digests.{AreDigestsOf}
-use Rattle.command_receipt.specs.Inputs.{inputs_of}
-use Rattle.command_receipt.specs.Remade.{IsNotRemade, IsRemade}
-use Rattle.command_receipt.specs.declared.making.MadeWith.{MadeWith}
-use Rattle.command_receipt.specs.declared.remaking.Remade.{Remade}
-use Rattle.command_receipt.specs.declared.remaking.RemakeFault.{RemakeFault}
+use Rattle.command_collect.specs.Digests.{AreDigestsOf}
+use Rattle.command_collect.specs.Inputs.{inputs_of}
+use Rattle.command_collect.specs.Remade.{IsNotRemade, IsRemade}
+use Rattle.command_collect.specs.declared.receipts.making.MadeWith.{MadeWith}
+use Rattle.command_collect.specs.declared.receipts.remaking.Remade.{Remade}
+use Rattle.command_collect.specs.declared.receipts.remaking.RemakeFault.{RemakeFault}
 use Rattle.table_remaking.specs.declared.again.MadeBy.{MadeBy}
 
 -- ---- what it is made by
@@ -50,6 +50,7 @@ pub record IsJobOf (by : MadeBy) (said : TableValue) (job : CollectJob) : Type 0
   pub maps : option_copied job.maps ≡ by.maps
   pub estimates : option_map (λ e. e.now) job.estimates ≡ by.loaded.estimates
   pub refuses : job.refuses_sampled ≡ refuses_sampled by.loaded.read
+  pub no_limit : job.templates ≡ None
   pub filter : option_map (λ f. f.now) job.filter ≡ filter_of by.loaded.read
   pub exporters : job.exporters.now ≡ by.exporters.items
 

@@ -7,8 +7,7 @@ ghost use Rattle.receipt_differences.specs.Orders.{IsOrderOf};
 ghost use Rattle.table_remaking.specs.Again.{IsCompared, IsJobOf, IsNotMade, again_differs, format_of as format};
 ghost use Rattle.table_remaking.specs.Faults.{IsFaultOf};
 
-use command_collect::{CollectJob, Engine};
-use command_receipt::{MadeWith, Remade, RemakeFault, remake};
+use command_collect::{CollectJob, Engine, MadeWith, Remade, RemakeFault, remake};
 use flow_export::Format;
 use flow_maps::Maps;
 use flow_plan_fields::{refuses_sampled, wanted_context, wanted_options};
@@ -110,6 +109,7 @@ fn collect_job<'a>(by: &'a MadeBy, said: &TableReceipt) -> CollectJob<'a>
         estimates: loaded.estimates.as_ref(),
         refuses_sampled: refuses_sampled(&loaded.read),
         times: TimeNoting::Nothing,
+        templates: None,
         filter: loaded.read.conditions(),
         exporters: by.exporters.as_slice(),
     }

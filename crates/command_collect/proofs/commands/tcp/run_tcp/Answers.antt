@@ -12,7 +12,7 @@ returns-clause-collects g c =
     let job = c.plain-job.ensures in
     let elements = job.elements ∙ c.built_in-elements.ensures in
     let plain : IsPlainJob c.plain-job.result =
-    record { no_files = elements; quiet = job.verbosity; unwanted = job.wanted; unasked = job.options; unmapped = job.maps; all = job.filter; unestimated = job.estimates; none_refused = job.refuses; no_times = job.times } in
+    record { no_files = elements; quiet = job.verbosity; unwanted = job.wanted; unasked = job.options; unmapped = job.maps; all = job.filter; unestimated = job.estimates; none_refused = job.refuses; no_times = job.times; no_limit = job.templates } in
     let collects = collects_plainly g.S.Source.seen g.S.Source.failure g.W.Write.contents _ _ c.plain-job.result _ _ _ _ _ _ plain (not_verbose c.plain-job.result job.verbosity (listening_line c.args.addr.now c.args.count)) c.run_connections.ensures.collects in
     rw c.number.ensures (rw (job.plan, job.engine, job.output, job.verbosity) at collects)
 

@@ -1,0 +1,127 @@
+//! Collecting from sources that are hashed as they are read.
+
+ghost use Rattle.std.specs.Prelude.{◌≡◌, None, IfOk, length, map, vec_len};
+ghost use Rattle.flow_table.specs.Fitting.{FitsPlan};
+ghost use Rattle.flow_collect.specs.InFull.{IsGivenInContext};
+ghost use Rattle.command_collect.specs.Engines.{due_fault, HasFaultsBy};
+ghost use Rattle.command_collect.specs.Exporters.{in_context, in_noting_context};
+ghost use Rattle.command_collect.specs.Gathered.{GathersBy};
+ghost use Rattle.command_collect.specs.Digests.{AreDigestsOf, AreOfSessions, StartAt};
+
+use crate::gathered::Gathered;
+use crate::job::CollectJob;
+use crate::receipts::hashing::{FinishedSources, finish_each, hash_each};
+use crate::table::collect_job;
+use flow_collect::{CollectFault, Serial};
+use input_digests::{HashedSource, Start};
+use ipfix_session::Source;
+use report_writing::Origin;
+use std::alloc::{AllocError, Global};
+use std::marker::Brand;
+use std::sync::Wait;
+use std::thread::Threads;
+
+/// What was collected, and for each session the digest of the messages that count.
+#[derive(Drop)]
+pub struct HashedRun<S: Drop> {
+    pub gathered: Gathered<S>,
+    pub digests: Vec<[u8; 32]>,
+}
+
+/// Does as [`collect_job`], notes the rates of sampling, and hashes what the sources give.
+pub fn collect_hashed<S: Source + Send + Drop, R: Threads + Wait + Sync>(
+    rt: &R,
+    alloc: Global,
+    sources: Vec<S>,
+    origins: &[Origin],
+    job: &CollectJob,
+) -> Result<HashedRun<S>, CollectFault>
+    ensures ok { IfOk result (λ h. GathersBy job.now.engine (IsGivenInContext S.seen)
+        (in_noting_context job.now sources.items origins.now) job.now.plan.now h.gathered) }
+    ensures digests { IfOk result (λ h. AreDigestsOf S.seen sources.items
+        h.gathered.run.sessions.items h.digests.items) }
+    ensures fits { IfOk result (λ h. FitsPlan job.now.plan.now h.gathered.run.table) }
+    ensures faults { HasFaultsBy S.seen job.now.engine (in_noting_context job.now sources.items origins.now)
+        job.now.plan.now (vec_len sources) result }
+{
+    if let Some(fault) = job.engine.refusal(sources.len()) {
+        return Err(fault);
+    }
+    let noting = job.noting_rates();
+    collect_from::<S, R, Brand>(rt, alloc, sources, origins, &noting)
+}
+
+// The same of sources that hold what there is at the start, and are not too many.
+fn collect_from<S: Source + Send + Drop, R: Threads + Wait + Sync, T: Start + Send>(
+    rt: &R,
+    alloc: Global,
+    sources: Vec<S>,
+    origins: &[Origin],
+    job: &CollectJob,
+) -> Result<HashedRun<S>, CollectFault>
+    requires start { StartAt S.seen T.texts 0 sources.items }
+    requires fits { due_fault job.now.engine (vec_len sources) ≡ None }
+    ensures ok { IfOk result (λ h. GathersBy job.now.engine (IsGivenInContext S.seen)
+        (in_context job.now sources.items origins.now) job.now.plan.now h.gathered) }
+    ensures digests { IfOk result (λ h. AreDigestsOf S.seen sources.items
+        h.gathered.run.sessions.items h.digests.items) }
+    ensures fits { IfOk result (λ h. FitsPlan job.now.plan.now h.gathered.run.table) }
+    ensures faults { HasFaultsBy S.seen job.now.engine (in_context job.now sources.items origins.now)
+        job.now.plan.now (vec_len sources) result }
+{
+    let Ok(hashed) = hash_each::<S, T>(alloc, sources) else {
+        return Err(CollectFault::OutOfMemory);
+    };
+    let gathered = match collect_job(rt, alloc, hashed, origins, job) {
+        Ok(gathered) => gathered,
+        Err(fault) => return Err(fault),
+    };
+    match finish_run(alloc, gathered) {
+        Ok(run) => Ok(run),
+        Err(AllocError) => Err(CollectFault::OutOfMemory),
+    }
+}
+
+// The run with its sources as they were given, and the digests of the messages that count.
+fn finish_run<S: Source + Drop, T: Start>(
+    alloc: Global,
+    gathered: Gathered<HashedSource<S, T>>,
+) -> Result<HashedRun<S>, AllocError>
+    requires { length gathered.run.sources.items ≡ length gathered.run.sessions.items }
+    ensures sources { IfOk result (λ h. h.gathered.run.sources.items
+        ≡ map (λ h. h.source) gathered.run.sources.items) }
+    ensures sessions { IfOk result (λ h. h.gathered.run.sessions.items
+        ≡ gathered.run.sessions.items) }
+    ensures table { IfOk result (λ h. h.gathered.run.table ≡ gathered.run.table) }
+    ensures filtered { IfOk result (λ h. h.gathered.filtered ≡ gathered.filtered) }
+    ensures sampling { IfOk result (λ h. h.gathered.sampling ≡ gathered.sampling) }
+    ensures times { IfOk result (λ h. h.gathered.times ≡ gathered.times) }
+    ensures digests { IfOk result (λ h. AreOfSessions S.seen T.texts 0 h.gathered.run.sources.items
+        h.gathered.run.sessions.items h.digests.items) }
+{
+    let Gathered {
+        run,
+        filtered,
+        sampling,
+        times,
+    } = gathered;
+    let Serial {
+        sessions,
+        sources,
+        table,
+    } = run;
+    let FinishedSources { sources, digests } = finish_each(alloc, sources, &sessions)?;
+    Ok(HashedRun {
+        gathered: Gathered {
+            run: Serial {
+                sessions,
+                sources,
+                table,
+            },
+            filtered,
+            sampling,
+            times,
+        },
+        digests,
+    })
+}

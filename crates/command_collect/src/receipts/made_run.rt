@@ -1,0 +1,129 @@
+//! The table of a run, and its receipt.
+
+ghost use Rattle.std.specs.Prelude.{◌≡◌, Err, IfErr, IfOk, OnOk, map};
+ghost use Rattle.flow_table.specs.Fitting.{FitsPlan};
+ghost use Rattle.output_tables.specs.TableTexts.{Writes};
+ghost use Rattle.table_receipts.specs.Values.{input_value, receipt_value};
+ghost use Rattle.command_collect.specs.Made.{IsReceiptOf};
+ghost use Rattle.command_collect.specs.ReceiptedRuns.{IsMade, IsNotPut, IsOfReceipt};
+
+use crate::gathered::Gathered;
+use crate::job::CollectJob;
+use crate::receipts::collecting::HashedRun;
+use crate::receipts::fault::{ReceiptFault, RunFault};
+use crate::receipts::hashed_table::{TextDigest, WrittenTable, export_hashed};
+use crate::receipts::inputs::inputs_of;
+use crate::receipts::making::{MadeWith, make_receipt};
+use flow_export::{AnyTable, Intervals};
+use receipt_merging::first_twice;
+use report_writing::Origin;
+use std::alloc::{AllocError, Global};
+use std::io::Write;
+use table_receipts::{InputReceipt, Receipt};
+
+/// Where the table of a run was written, and its receipt, or why it has none.
+#[derive(Drop)]
+pub struct MadeRun<W> {
+    pub out: W,
+    pub answer: Result<Receipt, RunFault>,
+}
+
+/// Writes the table of a run, and makes its receipt.
+pub fn make_run<S: Drop, W: Write + Drop>(
+    alloc: Global,
+    job: &CollectJob,
+    origins: &[Origin],
+    run: &HashedRun<S>,
+    out: W,
+    made: MadeWith,
+) -> MadeRun<W>
+    requires { FitsPlan job.now.plan.now run.now.gathered.run.table }
+    ensures writes { OnOk result.answer (Writes job.now.elements.now job.now.plan.now job.now.output
+        (W.contents out) (W.contents result.out) run.now.gathered.run.table) }
+    ensures made { IfOk result.answer (λ r. IsMade made job.now origins.now
+        run.now.gathered.run.sessions.items run.now.gathered.sampling.items run.now.digests.items
+        (W.contents out) run.now.gathered.run.table (receipt_value r)) }
+    ensures not_made { IfErr result.answer (IsNotPut job.now origins.now
+        run.now.gathered.run.sessions.items run.now.digests.items run.now.gathered.run.table
+        (result.out ≡ out)) }
+{
+    let collected = &run.gathered.run;
+    let inputs = match inputs_of(alloc, job, origins, &collected.sessions, &run.digests) {
+        Ok(inputs) => inputs,
+        Err(AllocError) => return without_receipt(out, ReceiptFault::OutOfMemory),
+    };
+    match first_twice(alloc, &inputs) {
+        Ok(None) => {}
+        Ok(Some((first, second))) => {
+            return without_receipt(out, ReceiptFault::InputTwice(first, second));
+        }
+        Err(AllocError) => return without_receipt(out, ReceiptFault::OutOfMemory),
+    }
+    let rows = AnyTable::Flat(&collected.table, Intervals::OfPlan);
+    let WrittenTable { out, answer } = export_hashed(
+        alloc,
+        job.elements,
+        job.plan,
+        &rows,
+        job.output,
+        out,
+    );
+    match answer {
+        Ok(text) => {
+            let contents = Contents { made, inputs, text };
+            let answer = receipt_of(alloc, job, &run.gathered, contents);
+            MadeRun { out, answer }
+        }
+        Err(fault) => MadeRun {
+            out,
+            answer: Err(RunFault::Export(fault)),
+        },
+    }
+}
+
+fn without_receipt<W>(out: W, fault: ReceiptFault) -> MadeRun<W>
+    ensures out { result.out ≡ out }
+    ensures fault { result.answer ≡ Err (RunFault.Receipt fault) }
+{
+    MadeRun {
+        out,
+        answer: Err(RunFault::Receipt(fault)),
+    }
+}
+
+// What a receipt says beside what was collected.
+#[derive(Drop)]
+struct Contents {
+    made: MadeWith,
+    inputs: Vec<InputReceipt>,
+    text: TextDigest,
+}
+
+// The receipt of what was collected.
+fn receipt_of<S: Drop>(
+    alloc: Global,
+    job: &CollectJob,
+    gathered: &Gathered<S>,
+    contents: Contents,
+) -> Result<Receipt, RunFault>
+    requires { FitsPlan job.now.plan.now gathered.now.run.table }
+    ensures made { IfOk result (λ r. IsReceiptOf contents.made job.now (map input_value contents.inputs.items)
+        gathered.now.run.sessions.items gathered.now.sampling.items contents.text
+        gathered.now.run.table (receipt_value r)) }
+    ensures fault { IfErr result IsOfReceipt }
+{
+    let Contents { made, inputs, text } = contents;
+    match make_receipt(
+        alloc,
+        made,
+        job,
+        inputs,
+        &gathered.run.sessions,
+        &gathered.sampling,
+        text,
+        &gathered.run.table,
+    ) {
+        Ok(receipt) => Ok(receipt),
+        Err(AllocError) => Err(RunFault::Receipt(ReceiptFault::OutOfMemory)),
+    }
+}

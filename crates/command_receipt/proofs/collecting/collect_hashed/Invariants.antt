@@ -1,5 +1,0 @@
-use Rattle.command_receipt.proofs.Placed.{texts_of}
-use Rattle.command_receipt.proofs.collecting.collect_hashed.Given as goal
-
-abbrev pub ghosts-collect_from : goal.ghosts-collect_from
-ghosts-collect_from g a = record { texts = texts_of g.S.Source.seen a.sources.items }

@@ -1,4 +1,0 @@
-use Rattle.command_receipt.proofs.hashed_table.export_hashed.Given as goal
-
-abbrev pub ghosts-export_from : goal.ghosts-export_from
-ghosts-export_from g a = record { contents = g.W.Write.contents a.out }

@@ -1,0 +1,38 @@
+-- What stands under the names of periods and of their receipts.
+use Rattle.std.specs.Prelude.{◌≡◌, ◌⊎◌, ◌<◌, ℕ, List, ◌++◌, None, Some, codes}
+use Rattle.exporter_names.specs.Cuts.{HasNo, joined}
+use Rattle.exporter_names.specs.RecordedExporters.{slash}
+use Rattle.recording_names.specs.PeriodNames.{calendar_end}
+use Rattle.recording_periods.specs.PeriodFolders.{IsPeriodAt}
+use Rattle.report_writing.specs.declared.reason.Reason.{Reason}
+use Rattle.report_writing.specs.declared.reason.Reason.TheVariants.{NoSuchFile}
+use Rattle.command_tables.specs.Outcomes.{TextViews}
+
+-- a name is that of the period that begins then
+abbrev pub NamesPeriod : ℕ → List ℕ → Type 0
+NamesPeriod begins name = (day : List ℕ) × (time : List ℕ) × (name ≡ joined slash day time) × IsPeriodAt begins day time
+
+-- it is that of none: it has no slash, or what stands before and after its last one is none's
+abbrev pub NamesNone : List ℕ → Type 0
+NamesNone name =
+    HasNo slash name ⊎ ((day : List ℕ) × (time : List ℕ) × (name ≡ joined slash day time) × HasNo slash time × ((begins : ℕ) → begins < calendar_end → ¬ IsPeriodAt begins day time))
+
+-- a path is the name of a receipt, or else of a table
+abbrev pub IsOfReceipt : List ℕ → List ℕ → Type 0
+IsOfReceipt path name = path ≡ name ++ codes ".receipt"
+
+module _ {T : Type 0} (sees : TextViews T) (tables : T) where
+  -- under the name of a period is the text of its table, and under that of its receipt the receipt's
+  abbrev pub HasText : List ℕ → List ℕ → Type 0
+  HasText path text =
+      ((begins : ℕ) × NamesPeriod begins path × sees.text_at tables begins text)
+      ⊎ ((name : List ℕ) × IsOfReceipt path name × ((begins : ℕ) × NamesPeriod begins name × sees.receipt_at tables begins (Some text)))
+
+  -- the place refuses what stands under the name of a period; or it has no receipt; or no period has the name
+  abbrev pub RefusesNamed : List ℕ → Reason → Type 0
+  RefusesNamed name reason =
+      ((begins : ℕ) × NamesPeriod begins name × (sees.refuses tables begins reason ⊎ ((reason ≡ NoSuchFile) × sees.receipt_at tables begins None)))
+      ⊎ ((reason ≡ NoSuchFile) × NamesNone name)
+
+  abbrev pub RefusesText : List ℕ → Reason → Type 0
+  RefusesText path reason = RefusesNamed path reason ⊎ ((name : List ℕ) × IsOfReceipt path name × RefusesNamed name reason)

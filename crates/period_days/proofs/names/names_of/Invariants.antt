@@ -1,7 +1,0 @@
-use Rattle.std.proofs.Common.{take}
-use Rattle.period_days.specs.Named.{AreNamesOf}
-use Rattle.period_days.proofs.names.names_of.Given as goal
-
--- the first are named
-abbrev pub invariant-loop-period : goal.invariant-loop-period
-invariant-loop-period l = AreNamesOf (take l.period-index l.periods) l.names.items

@@ -1,7 +1,0 @@
-use Rattle.std.proofs.Common.{take}
-use Rattle.period_days.specs.Days.{ArePlaced}
-use Rattle.period_days.proofs.placing.place_periods.Given as goal
-
--- the first are placed
-abbrev pub invariant-loop-period : goal.invariant-loop-period
-invariant-loop-period l = ArePlaced l.calendar (take l.period-index l.periods) l.placed.items

@@ -1,2 +1,0 @@
-pub mod TextsAdded
-pub mod TablesIn

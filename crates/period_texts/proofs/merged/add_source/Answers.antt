@@ -1,6 +1,0 @@
-use Rattle.period_texts.proofs.TextsAdded.{adds_if_ok}
-use Rattle.period_texts.proofs.merged.add_source.Goals as goal
-
-pub returns-clause-adds : goal.returns-clause-adds
-returns-clause-adds g c = λ text held rows stands.
-    adds_if_ok g.S.Source.seen _ c.args.merging c.args.source.now c.read.new.source text rows c.read.result held (g.met.S.Source.ended_is_end c.read.new.source) (c.read.ensures.ok rows stands)
