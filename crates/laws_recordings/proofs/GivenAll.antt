@@ -21,7 +21,7 @@ use Rattle.flow_table.specs.declared.missing.Missing.{Missing}
 use Rattle.flow_table.specs.declared.table.Table.{Table}
 use Rattle.flow_table.specs.declared.tally.Tally.{Tally}
 use Rattle.flow_merge.specs.Merging.{all_of, HasRowsOf}
-use Rattle.laws_recordings.specs.RecordedFiles.{AreRecordedIn, IsRecordedIn, all_files, records_of_all, records_of_each, with_options}
+use Rattle.laws_recordings.specs.RecordedFiles.{AreRecordedIn, IsRecordedIn, all_files, records_of_each, with_options}
 use Rattle.laws_recordings.proofs.FlowBags.{SameFlows, table_flows, weighed as flow_weighed}
 
 -- the files of a session give the flow records of its text
@@ -33,7 +33,7 @@ gives_records limit text files r =
 
 -- and those of all sessions those of all texts
 give_all : (limit : Option ℕ) (texts : List (List ℕ)) (recordings : List (List (List ℕ))) → AllZip (IsRecordedIn limit) texts recordings
-    → filter is_flow (flat_map records_of (all_files recordings)) ≡ filter is_flow (records_of_all limit texts)
+    → filter is_flow (flat_map records_of (all_files recordings)) ≡ filter is_flow (flat_map (records_within limit) texts)
 give_all limit [] [] all = refl
 give_all limit [] (files ∷ recordings) all = absurd all
 give_all limit (text ∷ texts) [] all = absurd all
@@ -41,7 +41,7 @@ give_all limit (text ∷ texts) (files ∷ recordings) all =
     ap (filter is_flow) (flat_map-append records_of files (all_files recordings))
     ∙ filter-append is_flow (flat_map records_of files) (flat_map records_of (all_files recordings))
     ∙ ap₂ (λ (a b : List DataRecord). a ++ b) (gives_records limit text files all.0) (give_all limit texts recordings all.1)
-    ∙ sym (filter-append is_flow (records_within limit text) (records_of_all limit texts))
+    ∙ sym (filter-append is_flow (records_within limit text) (flat_map (records_within limit) texts))
 
 -- a weight of records, over the files that they stand in
 abbrev weight_of : (DataRecord → ℕ) → List ℕ → ℕ
@@ -62,17 +62,18 @@ weighed weight (file ∷ files) =
 abbrev flow_weight : (DataRecord → ℕ) → DataRecord → ℕ
 flow_weight weight r = cond (is_flow r) (weight r) 0
 
-pub same_records : (limit : Option ℕ) (texts files : List (List ℕ)) → AreRecordedIn limit texts files → SameFlows (flat_map records_of files) (records_of_all limit texts)
-same_records limit texts files r weight =
+pub same_records : (came : List DataRecord) (files : List (List ℕ)) → AreRecordedIn came files → SameFlows (flat_map records_of files) came
+same_records came files r weight =
     let of_flows = flow_weight weight in
     flow_weighed is_flow weight (flat_map records_of files)
     ∙ weighed of_flows files ∙ sym (r.same (weight_of of_flows) (no_weight of_flows)) ∙ sym (weighed of_flows (all_files r.recordings))
     ∙ sym (flow_weighed is_flow weight (flat_map records_of (all_files r.recordings)))
-    ∙ ap (λ (rs : List DataRecord). sum_by weight rs) (give_all limit texts r.recordings r.each)
+    ∙ ap (λ (rs : List DataRecord). sum_by weight rs) (give_all r.limit r.texts r.recordings r.each)
+    ∙ ap (λ (rs : List DataRecord). sum_by weight (filter is_flow rs)) (sym r.came_are)
 
-pub same_table : (limit : Option ℕ) (plan : PlanValue) (table : Table) (texts files : List (List ℕ)) → AreRecordedIn limit texts files → IsTable plan (flat_map records_of files) table
-    → IsTable plan (records_of_all limit texts) (with_options plan (records_of_all limit texts) table)
-same_table limit plan table texts files r is = table_flows plan (flat_map records_of files) (records_of_all limit texts) (same_records limit texts files r) table is
+pub same_table : (plan : PlanValue) (table : Table) (came : List DataRecord) (files : List (List ℕ)) → AreRecordedIn came files → IsTable plan (flat_map records_of files) table
+    → IsTable plan came (with_options plan came table)
+same_table plan table came files r is = table_flows plan (flat_map records_of files) came (same_records came files r) table is
 
 -- the records of all files are those of each group of them, one group after another
 all_of_each : (groups : List (List (List ℕ))) → all_of (records_of_each groups) ≡ flat_map records_of (all_files groups)
@@ -88,8 +89,8 @@ has_rows plan rs qs table same has =
     subst (λ (t : Tally). IsTable plan qs (record table { tally = t; missing = missing_of plan qs })) moved.tally
     (subst (λ (m : Missing). IsTable plan qs (record table { tally = record (tally_of plan rs) { options = count_of plan qs Options }; missing = m })) moved.missing moved)
 
-pub merged_table : (limit : Option ℕ) (plan : PlanValue) (table : Table) (texts : List (List ℕ)) (periods : List (List (List ℕ))) → AreRecordedIn limit texts (all_files periods)
-    → HasRowsOf plan (all_of (records_of_each periods)) table → HasRowsOf plan (records_of_all limit texts) table
-merged_table limit plan table texts periods r has =
-    has_rows plan (flat_map records_of (all_files periods)) (records_of_all limit texts) table (same_records limit texts (all_files periods) r)
+pub merged_table : (plan : PlanValue) (table : Table) (came : List DataRecord) (periods : List (List (List ℕ))) → AreRecordedIn came (all_files periods)
+    → HasRowsOf plan (all_of (records_of_each periods)) table → HasRowsOf plan came table
+merged_table plan table came periods r has =
+    has_rows plan (flat_map records_of (all_files periods)) came table (same_records came (all_files periods) r)
     (subst (λ (rs : List DataRecord). HasRowsOf plan rs table) (all_of_each periods) has)

@@ -37,15 +37,15 @@ all_files groups = flat_map (λ files. files) groups
 abbrev pub AreSameFiles : List (List ℕ) → List (List ℕ) → Type 0
 AreSameFiles files others = (weight : List ℕ → ℕ) → weight [] ≡ 0 → sum_by weight files ≡ sum_by weight others
 
--- these are the files in which texts were recorded, each under this limit, or without one
-pub record AreRecordedIn (limit : Option ℕ) (texts files : List (List ℕ)) : Type 0 where
+-- these records came in sessions, each up to its end or its first fault, and these are the files in which the sessions' texts were
+-- recorded, under one limit of their templates, or without one
+pub record AreRecordedIn (came : List DataRecord) (files : List (List ℕ)) : Type 0 where
+  pub limit : Option ℕ
+  pub texts : List (List ℕ)
+  pub came_are : came ≡ flat_map (records_within limit) texts
   pub recordings : List (List (List ℕ))
   pub each : AllZip (IsRecordedIn limit) texts recordings
   pub same : AreSameFiles (all_files recordings) files
-
--- the records of texts under a limit, or without one: those before the first fault of each
-abbrev pub records_of_all : Option ℕ → List (List ℕ) → List DataRecord
-records_of_all limit texts = flat_map (records_within limit) texts
 
 -- the records of each group of files
 abbrev pub records_of_each : List (List (List ℕ)) → List (List DataRecord)
