@@ -36,7 +36,7 @@ pub const RING: Argument = Argument {
     help: "How many records may wait between a session and its worker, 1 to 65536; 1024 is faster, 64 takes the least memory",
 };
 
-/// What the templates of a session may count. `record` has the same word for a peer over UDP.
+/// What the templates of a session may count. `record` has the same word, and always a limit.
 pub const SESSION_TEMPLATES: Argument = Argument {
     word: "templates",
     takes: Takes::Number("FIELDS", 1, LARGEST),

@@ -21,7 +21,7 @@ use Rattle.flow_table.specs.declared.missing.Missing.{Missing}
 use Rattle.flow_table.specs.declared.table.Table.{Table}
 use Rattle.flow_table.specs.declared.tally.Tally.{Tally}
 use Rattle.flow_merge.specs.Merging.{all_of, HasRowsOf}
-use Rattle.laws_recordings.specs.RecordedFiles.{AreRecordedIn, IsRecordedIn, all_files, records_of_each, with_options}
+use Rattle.laws_recordings.specs.RecordedFiles.{AreRecordedIn, IsRecordedIn, SessionText, all_files, records_in_session, records_of_each, with_options}
 use Rattle.laws_recordings.proofs.FlowBags.{SameFlows, table_flows, weighed as flow_weighed}
 
 -- the files of a session give the flow records of its text
@@ -32,16 +32,16 @@ gives_records limit text files r =
     ∙ ap (λ (w : List ℕ). filter is_flow (records_within r.progress.limit w)) (sym r.text_is) ∙ ap (λ (l : Option ℕ). filter is_flow (records_within l text)) r.limit_is
 
 -- and those of all sessions those of all texts
-give_all : (limit : Option ℕ) (texts : List (List ℕ)) (recordings : List (List (List ℕ))) → AllZip (IsRecordedIn limit) texts recordings
-    → filter is_flow (flat_map records_of (all_files recordings)) ≡ filter is_flow (flat_map (records_within limit) texts)
-give_all limit [] [] all = refl
-give_all limit [] (files ∷ recordings) all = absurd all
-give_all limit (text ∷ texts) [] all = absurd all
-give_all limit (text ∷ texts) (files ∷ recordings) all =
+give_all : (sessions : List SessionText) (recordings : List (List (List ℕ))) → AllZip (λ (s : SessionText). IsRecordedIn s.limit s.text) sessions recordings
+    → filter is_flow (flat_map records_of (all_files recordings)) ≡ filter is_flow (flat_map records_in_session sessions)
+give_all [] [] all = refl
+give_all [] (files ∷ recordings) all = absurd all
+give_all (s ∷ sessions) [] all = absurd all
+give_all (s ∷ sessions) (files ∷ recordings) all =
     ap (filter is_flow) (flat_map-append records_of files (all_files recordings))
     ∙ filter-append is_flow (flat_map records_of files) (flat_map records_of (all_files recordings))
-    ∙ ap₂ (λ (a b : List DataRecord). a ++ b) (gives_records limit text files all.0) (give_all limit texts recordings all.1)
-    ∙ sym (filter-append is_flow (records_within limit text) (flat_map (records_within limit) texts))
+    ∙ ap₂ (λ (a b : List DataRecord). a ++ b) (gives_records s.limit s.text files all.0) (give_all sessions recordings all.1)
+    ∙ sym (filter-append is_flow (records_in_session s) (flat_map records_in_session sessions))
 
 -- a weight of records, over the files that they stand in
 abbrev weight_of : (DataRecord → ℕ) → List ℕ → ℕ
@@ -68,7 +68,7 @@ same_records came files r weight =
     flow_weighed is_flow weight (flat_map records_of files)
     ∙ weighed of_flows files ∙ sym (r.same (weight_of of_flows) (no_weight of_flows)) ∙ sym (weighed of_flows (all_files r.recordings))
     ∙ sym (flow_weighed is_flow weight (flat_map records_of (all_files r.recordings)))
-    ∙ ap (λ (rs : List DataRecord). sum_by weight rs) (give_all r.limit r.texts r.recordings r.each)
+    ∙ ap (λ (rs : List DataRecord). sum_by weight rs) (give_all r.sessions r.recordings r.each)
     ∙ ap (λ (rs : List DataRecord). sum_by weight (filter is_flow rs)) (sym r.came_are)
 
 pub same_table : (plan : PlanValue) (table : Table) (came : List DataRecord) (files : List (List ℕ)) → AreRecordedIn came files → IsTable plan (flat_map records_of files) table

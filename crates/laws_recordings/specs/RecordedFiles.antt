@@ -37,14 +37,21 @@ all_files groups = flat_map (λ files. files) groups
 abbrev pub AreSameFiles : List (List ℕ) → List (List ℕ) → Type 0
 AreSameFiles files others = (weight : List ℕ → ℕ) → weight [] ≡ 0 → sum_by weight files ≡ sum_by weight others
 
--- these records came in sessions, each up to its end or its first fault, and these are the files in which the sessions' texts were
--- recorded, under one limit of their templates, or without one
-pub record AreRecordedIn (came : List DataRecord) (files : List (List ℕ)) : Type 0 where
+-- the text of a session, and what its templates may count, if they have a limit
+pub record SessionText : Type 0 where
   pub limit : Option ℕ
-  pub texts : List (List ℕ)
-  pub came_are : came ≡ flat_map (records_within limit) texts
+  pub text : List ℕ
+
+-- the records that come in it, up to its end or first fault
+abbrev pub records_in_session : SessionText → List DataRecord
+records_in_session s = records_within s.limit s.text
+
+-- these records came in some sessions, and these are the files in which the sessions were recorded
+pub record AreRecordedIn (came : List DataRecord) (files : List (List ℕ)) : Type 0 where
+  pub sessions : List SessionText
+  pub came_are : came ≡ flat_map records_in_session sessions
   pub recordings : List (List (List ℕ))
-  pub each : AllZip (IsRecordedIn limit) texts recordings
+  pub each : AllZip (λ (s : SessionText). IsRecordedIn s.limit s.text) sessions recordings
   pub same : AreSameFiles (all_files recordings) files
 
 -- the records of each group of files
