@@ -2,14 +2,14 @@
 use Rattle.std.proofs.Common.{◌≡◌, ℕ, ◌≤◌, List, [], ◌∷◌, refl, arith}
 use Rattle.std.specs.Prelude.{◌^◌, ◌++◌, codes, Bool, true, false, nat_lt, if◌then◌else◌, map, Option, Some, None, decimal}
 use Rattle.std.proofs.lemmas.Bool.{ltb-true}
-use Rattle.json.specs.Json.{Json, boolean, number, string}
+use Rattle.json.specs.Json.{Json, number, string}
 use Rattle.json.specs.Tree.{depth, items_depth, members_depth, HasNumbers, ItemsHaveNumbers, MembersHaveNumbers}
 use Rattle.json.specs.Value.{items_of}
 use Rattle.json.proofs.Printed.Decimals.{IsNumber-decimal}
 use Rattle.table_receipts.specs.declared.receipt.DomainReceipt.{DomainReceipt}
 use Rattle.table_receipts.specs.declared.receipt.RecordCounts.{RecordCounts}
 use Rattle.table_receipts.specs.Values.{ExporterValue, not_asked, unknown, address, FileValue, InputValue, IntoValue, SumValue, TableValue, ReceiptValue}
-use Rattle.table_receipts.specs.Objects.{number_json, file_json, domain_json, exporter_members, fault_json, form_members, input_json, into_members, members_of, left_out_members, digest_json, counts_json, object_of, row_members, sum_json, table_json, text_members, plan_json}
+use Rattle.table_receipts.specs.Objects.{number_json, file_json, domain_json, ending, exporter_members, fault_json, form_members, input_json, into_members, members_of, digest_json, counts_json, object_of, row_members, sum_json, table_json, text_members, plan_json}
 use Rattle.sha2.specs.Sha256.{sha256}
 use Rattle.table_receipts.specs.Texts.{receipt_json, text_before}
 
@@ -132,7 +132,7 @@ string_good name = record { numbers = tt; nests = omega arith }
 
 -- the last members
 abbrev last_members : List (List ℕ) → Bool → List ℕ → List (List ℕ × Json)
-last_members names complete digest = (left_out_members names ++ (codes "complete", boolean complete) ∷ []) ++ (codes "sha256", digest_json digest) ∷ []
+last_members names complete digest = ending names complete ++ (codes "sha256", digest_json digest) ∷ []
 
 record AreLast (names : List (List ℕ)) (complete : Bool) (digest : List ℕ) : Type 0 where
   pub numbers : MembersHaveNumbers (members_of (last_members names complete digest))

@@ -6,10 +6,10 @@ use Rattle.json.specs.Find.{get}
 use Rattle.json.specs.Json.{Json, array, boolean, string}
 use Rattle.json.specs.Value.{items_of}
 use Rattle.sha2.specs.Sha256.{sha256}
-use Rattle.table_receipts.specs.Objects.{counts_json, digest_json, file_json, form_members, format_name, input_json, into_members, left_out_members, list_json, number_json, object_of, origin_members, plan_json, row_members, sum_json, table_json, text_members}
+use Rattle.table_receipts.specs.Objects.{counts_json, digest_json, ending, file_json, form_members, format_name, input_json, into_members, left_out_members, list_json, number_json, object_of, origin_members, plan_json, row_members, sum_json, table_json, text_members}
 use Rattle.table_receipts.specs.Texts.{receipt_json, text_before}
 use Rattle.table_receipts.proofs.Items.{arrays_same}
-use Rattle.table_receipts.specs.Told.{TellsFile, TellsInput, TellsInto, left_out_json}
+use Rattle.table_receipts.specs.Told.{TellsFile, TellsInput, TellsInto, TellsLeftOut, left_out_json}
 use Rattle.table_receipts.specs.Values.{ExporterValue, not_asked, unknown, address, FileValue, InputValue, IntoValue, ReceiptValue, TableValue}
 
 pub file_tells : (j : Json) (f : FileValue) → j ≡ file_json f → TellsFile j f
@@ -55,7 +55,7 @@ with_names r names digest = object_of (
     ++ ((codes "inputs", list_json input_json r.inputs)
     ∷ (codes "records", counts_json r.records)
     ∷ (codes "table", table_json r.table)
-    ∷ (left_out_members names ++ (codes "complete", boolean r.complete) ∷ [])))
+    ∷ ending names r.complete))
     ++ (codes "sha256", digest) ∷ [])
 
 -- its members, whatever these names are
@@ -67,7 +67,7 @@ pub record TellsReceipt (r : ReceiptValue) (names : List (List ℕ)) (j : Json) 
   pub inputs : get (codes "inputs") j ≡ Some (list_json input_json r.inputs)
   pub records : get (codes "records") j ≡ Some (counts_json r.records)
   pub table : get (codes "table") j ≡ Some (table_json r.table)
-  pub left_out : get (codes "left_out") j ≡ left_out_json names
+  pub left_out : TellsLeftOut j names
   pub complete : get (codes "complete") j ≡ Some (boolean r.complete)
 
 tells_with : (r : ReceiptValue) (names : List (List ℕ)) (digest : Json) → TellsReceipt r names (with_names r names digest)

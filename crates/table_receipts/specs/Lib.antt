@@ -4,3 +4,4 @@ pub mod Objects
 pub mod Texts
 pub mod Appending
 pub mod Told
+pub mod ReadBack

@@ -1,5 +1,5 @@
 -- The value of JSON (RFC 8259) that a receipt is written as.
-use Rattle.std.specs.Prelude.{ℕ, ◌^◌, nat_lt, List, [], ◌∷◌, ◌++◌, codes, decimal, map, Option, Some, None, if◌then◌else◌}
+use Rattle.std.specs.Prelude.{ℕ, ◌^◌, nat_lt, Bool, List, [], ◌∷◌, ◌++◌, codes, decimal, map, Option, Some, None, if◌then◌else◌}
 use Rattle.hex.specs.Hex.{encode_lower}
 use Rattle.json.specs.Json.{Json, null, boolean, number, string, array, object, Members, no_members, member}
 use Rattle.json.specs.Value.{items_of}
@@ -32,6 +32,10 @@ number_json n = if nat_lt n (2 ^ 53) then number (decimal n) else string (decima
 
 abbrev pub digest_json : List ℕ → Json
 digest_json digest = string (encode_lower digest)
+
+-- the member that has the SHA-256 (FIPS 180-4) of a text
+abbrev pub sha256_member : List ℕ → List ℕ × Json
+sha256_member text = (codes "sha256", digest_json (sha256 text))
 
 abbrev pub list_json : {X : Type 0} → (X → Json) → List X → Json
 list_json f xs = array (items_of (map f xs))
@@ -121,7 +125,7 @@ table_json t = object_of (form_members t ++ (into_members t.into ++ (text_member
 
 -- the plan's text, and its digest
 unfoldable pub plan_json : List ℕ → Json
-plan_json text = object_of ((codes "text", string text) ∷ (codes "sha256", digest_json (sha256 text)) ∷ [])
+plan_json text = object_of ((codes "text", string text) ∷ sha256_member text ∷ [])
 
 -- the version of the form, and that of collectd
 abbrev pub version_members : List ℕ → List (List ℕ × Json)
@@ -141,13 +145,17 @@ abbrev pub left_out_members : List (List ℕ) → List (List ℕ × Json)
 left_out_members [] = []
 left_out_members (name ∷ names) = (codes "left_out", list_json string (name ∷ names)) ∷ []
 
+-- how it ends: the names of the inputs that were left out, if some were, and whether it is complete
+abbrev pub ending : List (List ℕ) → Bool → List (List ℕ × Json)
+ending names complete = left_out_members names ++ (codes "complete", boolean complete) ∷ []
+
 -- what it was made of, and what it is
 abbrev pub content_members : ReceiptValue → List (List ℕ × Json)
 content_members r =
     (codes "inputs", list_json input_json r.inputs)
     ∷ (codes "records", counts_json r.records)
     ∷ (codes "table", table_json r.table)
-    ∷ (left_out_members r.left_out ++ (codes "complete", boolean r.complete) ∷ [])
+    ∷ ending r.left_out r.complete
 
 -- all members of a receipt but the last
 abbrev pub first_members : ReceiptValue → List (List ℕ × Json)

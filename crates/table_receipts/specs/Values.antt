@@ -1,5 +1,6 @@
 -- What a receipt tells, as a value: texts are lists of octets.
-use Rattle.std.specs.Prelude.{◌≡◌, ◌<◌, ◌^◌, ℕ, Bool, List, Option, map, option_map, string_bytes, All, length}
+use Rattle.std.specs.Prelude.{◌≡◌, ◌<◌, ◌^◌, ℕ, Bool, List, Option, map, option_map, String, string_bytes, All, length}
+use Rattle.std.specs.declared.alloc.Global.{Global}
 use Rattle.hex.specs.Hex.{IsBytes}
 use Rattle.table_receipts.specs.declared.receipt.FileReceipt.{FileReceipt}
 use Rattle.table_receipts.specs.declared.receipt.DomainReceipt.{DomainReceipt}
@@ -73,12 +74,16 @@ exporter_value NotAsked = not_asked
 exporter_value Unknown = unknown
 exporter_value (Address text) = address (string_bytes text)
 
+-- the name of a fault, if there was one
+abbrev pub fault_value : Option (String Global) → Option (List ℕ)
+fault_value fault = option_map string_bytes fault
+
 abbrev pub input_value : InputReceipt → InputValue
 input_value i = record {
   file = file_value i.file;
   messages = i.messages;
   records = i.records;
-  fault = option_map string_bytes i.fault;
+  fault = fault_value i.fault;
   domains = i.domains.items;
   exporter = exporter_value i.exporter;
 }

@@ -1,18 +1,17 @@
 //! Looking up the members of an object. What an object lacks is read as nothing: as 0, as no text, as no items.
 
-ghost use Rattle.std.specs.Prelude.{◌≡◌, ◌<◌, ◌^◌, ℕ, Bool, List, Some, decimal, map, option_map};
-ghost use Rattle.json.specs.Find.{get};
+ghost use Rattle.std.specs.Prelude.{◌≡◌, ◌<◌, ◌^◌, ℕ, Bool, List, decimal};
 ghost use Rattle.json.specs.Json.{Json, array, boolean, string};
 ghost use Rattle.json.specs.Value.{items_of as list_items, value_view};
 ghost use Rattle.table_receipts.specs.Objects.{digest_json, number_json};
+ghost use Rattle.table_receipts.specs.ReadBack.{AreItems, Has};
 ghost use Rattle.table_receipts.specs.Values.{IsDigest};
 
 use json::Value;
 
 /// The member of a name. What has none stands for it itself.
 pub fn member_of<'v, 'a>(object: &'v Value<'a>, name: &str) -> &'v Value<'a>
-    ensures { (j : Json) → get name.now (value_view object.now) ≡ Some j
-        → value_view result.now ≡ j }
+    ensures { (j : Json) → Has object.now name.now j → value_view result.now ≡ j }
 {
     object.get(name).unwrap_or(object)
 }
@@ -28,8 +27,7 @@ fn digits_of<'a>(value: &Value<'a>) -> &'a str
 }
 
 pub fn number_of(object: &Value<'_>, name: &str) -> u128
-    ensures { (n : ℕ) → n < 2 ^ 128 → get name.now (value_view object.now) ≡ Some (number_json n)
-        → result ≡ n }
+    ensures { (n : ℕ) → n < 2 ^ 128 → Has object.now name.now (number_json n) → result ≡ n }
 {
     match object.get(name) {
         Some(value) => digits_of(value).parse::<u128>().unwrap_or(0),
@@ -39,23 +37,20 @@ pub fn number_of(object: &Value<'_>, name: &str) -> u128
 
 /// A number of 64 bits.
 pub fn count_of(object: &Value<'_>, name: &str) -> u64
-    ensures { (n : ℕ) → n < 2 ^ 64 → get name.now (value_view object.now) ≡ Some (number_json n)
-        → result ≡ n }
+    ensures { (n : ℕ) → n < 2 ^ 64 → Has object.now name.now (number_json n) → result ≡ n }
 {
     u64::try_from(number_of(object, name)).unwrap_or(0)
 }
 
 /// A number of 32 bits.
 pub fn small_of(object: &Value<'_>, name: &str) -> u32
-    ensures { (n : ℕ) → n < 2 ^ 32 → get name.now (value_view object.now) ≡ Some (number_json n)
-        → result ≡ n }
+    ensures { (n : ℕ) → n < 2 ^ 32 → Has object.now name.now (number_json n) → result ≡ n }
 {
     u32::try_from(number_of(object, name)).unwrap_or(0)
 }
 
 pub fn text_of<'a>(object: &Value<'a>, name: &str) -> &'a str
-    ensures { (s : List ℕ) → get name.now (value_view object.now) ≡ Some (string s)
-        → result.now ≡ s }
+    ensures { (s : List ℕ) → Has object.now name.now (string s) → result.now ≡ s }
 {
     match object.get(name) {
         Some(Value::String(text)) => text,
@@ -75,8 +70,7 @@ pub fn text_in<'a>(value: &Value<'a>) -> &'a str
 }
 
 pub fn flag_of(object: &Value<'_>, name: &str) -> bool
-    ensures { (b : Bool) → get name.now (value_view object.now) ≡ Some (boolean b)
-        → result ≡ b }
+    ensures { (b : Bool) → Has object.now name.now (boolean b) → result ≡ b }
 {
     match object.get(name) {
         Some(Value::Bool(flag)) => *flag,
@@ -85,8 +79,7 @@ pub fn flag_of(object: &Value<'_>, name: &str) -> bool
 }
 
 fn items_of<'v, 'a>(value: &'v Value<'a>) -> Option<&'v [Value<'a>]>
-    ensures { (js : List Json) → value_view value.now ≡ array (list_items js)
-        → option_map (λ list. map value_view list.now) result ≡ Some js }
+    ensures { (js : List Json) → value_view value.now ≡ array (list_items js) → AreItems result js }
 {
     if let Value::Array(items) = value {
         Some(items.as_slice())
@@ -96,16 +89,14 @@ fn items_of<'v, 'a>(value: &'v Value<'a>) -> Option<&'v [Value<'a>]>
 }
 
 pub fn list_of<'v, 'a>(object: &'v Value<'a>, name: &str) -> Option<&'v [Value<'a>]>
-    ensures { (js : List Json)
-        → get name.now (value_view object.now) ≡ Some (array (list_items js))
-        → option_map (λ list. map value_view list.now) result ≡ Some js }
+    ensures { (js : List Json) → Has object.now name.now (array (list_items js))
+        → AreItems result js }
 {
     items_of(object.get(name)?)
 }
 
 pub fn digest_of(object: &Value<'_>, name: &str) -> [u8; 32]
-    ensures { (d : List ℕ) → IsDigest d → get name.now (value_view object.now)
-        ≡ Some (digest_json d) → result ≡ d }
+    ensures { (d : List ℕ) → IsDigest d → Has object.now name.now (digest_json d) → result ≡ d }
 {
     let mut digest = [0; 32];
     match hex::decode_to_slice(text_of(object, name), &mut digest) {

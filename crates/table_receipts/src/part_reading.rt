@@ -1,14 +1,14 @@
 //! Reading the parts of a receipt from a value of JSON. What isn't as a receipt has it is read as nothing:
 //! the text that a receipt would have is compared afterwards.
 
-ghost use Rattle.std.specs.Prelude.{◌≡◌, ℕ, List, Option, Some, All, IfOk, codes, map, option_map, string_bytes};
-ghost use Rattle.json.specs.Find.{get};
+ghost use Rattle.std.specs.Prelude.{◌≡◌, codes, map, option_map, string_bytes};
 ghost use Rattle.json.specs.Json.{string};
 ghost use Rattle.json.specs.Value.{value_view};
-ghost use Rattle.table_receipts.specs.Objects.{counts_json, domain_json, fault_json, file_json, format_name, input_json, interval_name, list_json, sum_json, table_json};
-ghost use Rattle.table_receipts.specs.Told.{TellsFile, TellsInto, exporter_json, left_out_json};
+ghost use Rattle.table_receipts.specs.Objects.{counts_json, domain_json, file_json, format_name, input_json, interval_name, sum_json, table_json};
+ghost use Rattle.table_receipts.specs.Told.{TellsExporter, TellsFault, TellsFile, TellsInto, TellsLeftOut};
+ghost use Rattle.table_receipts.specs.ReadBack.{Reads, ReadsBack, ReadsList, values_in};
 ghost use Rattle.table_receipts.specs.Texts.{receipt_json};
-ghost use Rattle.table_receipts.specs.Values.{ExporterValue, FileValue, FitsCounts, FitsDomain, FitsFile, FitsInput, FitsReceipt, FitsSum, FitsTable, InputValue, IntoValue, ReceiptValue, SumValue, TableValue, exporter_value, file_value, input_value, into_value, receipt_value, sum_value, table_value};
+ghost use Rattle.table_receipts.specs.Values.{FitsCounts, FitsDomain, FitsFile, FitsInput, FitsReceipt, FitsSum, FitsTable, exporter_value, fault_value, file_value, input_value, into_value, receipt_value, sum_value, table_value};
 ghost use Rattle.table_receipts.specs.declared.receipt.DomainReceipt.{DomainReceipt as Domain};
 ghost use Rattle.table_receipts.specs.declared.receipt.MergedInterval.{MergedInterval as Interval};
 ghost use Rattle.table_receipts.specs.declared.receipt.RecordCounts.{RecordCounts as Counts};
@@ -25,8 +25,7 @@ use json::Value;
 use std::alloc::{AllocError, Global};
 
 fn file_of(alloc: Global, object: &Value<'_>) -> Result<FileReceipt, AllocError>
-    ensures { (f : FileValue) → FitsFile f → TellsFile (value_view object.now) f
-        → IfOk result (λ file. file_value file ≡ f) }
+    ensures { ReadsBack result file_value FitsFile (TellsFile (value_view object.now)) }
 {
     Ok(FileReceipt {
         name: String::from_str(alloc, text_of(object, "name"))?,
@@ -37,9 +36,7 @@ fn file_of(alloc: Global, object: &Value<'_>) -> Result<FileReceipt, AllocError>
 
 // The files that a member of this name lists.
 fn files_of(alloc: Global, object: &Value<'_>, name: &str) -> Result<Vec<FileReceipt>, AllocError>
-    ensures { (fs : List FileValue) → All FitsFile fs
-        → get name.now (value_view object.now) ≡ Some (list_json file_json fs)
-        → IfOk result (λ files. map file_value files.items ≡ fs) }
+    ensures { ReadsList result file_value FitsFile file_json object.now name.now }
 {
     let mut files = Vec::new(alloc);
     let Some(items) = list_of(object, name) else {
@@ -52,8 +49,7 @@ fn files_of(alloc: Global, object: &Value<'_>, name: &str) -> Result<Vec<FileRec
 }
 
 fn domain_of(object: &Value<'_>) -> DomainReceipt
-    ensures { (d : Domain) → FitsDomain d → value_view object.now ≡ domain_json d
-        → result ≡ d }
+    ensures { (d : Domain) → FitsDomain d → value_view object.now ≡ domain_json d → result ≡ d }
 {
     DomainReceipt {
         domain: small_of(object, "domain"),
@@ -65,9 +61,7 @@ fn domain_of(object: &Value<'_>) -> DomainReceipt
 }
 
 fn domains_of(alloc: Global, object: &Value<'_>) -> Result<Vec<DomainReceipt>, AllocError>
-    ensures { (ds : List Domain) → All FitsDomain ds
-        → get (codes "domains") (value_view object.now) ≡ Some (list_json domain_json ds)
-        → IfOk result (λ domains. domains.items ≡ ds) }
+    ensures { ReadsList result (λ d. d) FitsDomain domain_json object.now (codes "domains") }
 {
     let mut domains = Vec::new(alloc);
     let Some(items) = list_of(object, "domains") else {
@@ -81,8 +75,7 @@ fn domains_of(alloc: Global, object: &Value<'_>) -> Result<Vec<DomainReceipt>, A
 
 // The name of a fault.
 fn fault_of(alloc: Global, object: &Value<'_>) -> Result<Option<String>, AllocError>
-    ensures { (o : Option (List ℕ)) → get (codes "fault") (value_view object.now) ≡ Some (fault_json o)
-        → IfOk result (λ fault. option_map string_bytes fault ≡ o) }
+    ensures { Reads result fault_value (TellsFault (value_view object.now)) }
 {
     match object.get("fault") {
         Some(Value::String(name)) => Ok(Some(String::from_str(alloc, name)?)),
@@ -92,8 +85,7 @@ fn fault_of(alloc: Global, object: &Value<'_>) -> Result<Option<String>, AllocEr
 
 // Who exported an input.
 fn exporter_of(alloc: Global, object: &Value<'_>) -> Result<ExporterReceipt, AllocError>
-    ensures { (e : ExporterValue) → get (codes "exporter") (value_view object.now) ≡ exporter_json e
-        → IfOk result (λ exporter. exporter_value exporter ≡ e) }
+    ensures { Reads result exporter_value (TellsExporter (value_view object.now)) }
 {
     match object.get("exporter") {
         Some(Value::String(text)) => {
@@ -106,8 +98,7 @@ fn exporter_of(alloc: Global, object: &Value<'_>) -> Result<ExporterReceipt, All
 }
 
 fn input_of(alloc: Global, object: &Value<'_>) -> Result<InputReceipt, AllocError>
-    ensures { (i : InputValue) → FitsInput i → value_view object.now ≡ input_json i
-        → IfOk result (λ input. input_value input ≡ i) }
+    ensures { ReadsBack result input_value FitsInput (λ i. value_view object.now ≡ input_json i) }
 {
     Ok(InputReceipt {
         file: file_of(alloc, object)?,
@@ -120,9 +111,7 @@ fn input_of(alloc: Global, object: &Value<'_>) -> Result<InputReceipt, AllocErro
 }
 
 fn inputs_of(alloc: Global, object: &Value<'_>) -> Result<Vec<InputReceipt>, AllocError>
-    ensures { (is : List InputValue) → All FitsInput is
-        → get (codes "inputs") (value_view object.now) ≡ Some (list_json input_json is)
-        → IfOk result (λ inputs. map input_value inputs.items ≡ is) }
+    ensures { ReadsList result input_value FitsInput input_json object.now (codes "inputs") }
 {
     let mut inputs = Vec::new(alloc);
     let Some(items) = list_of(object, "inputs") else {
@@ -148,8 +137,7 @@ fn counts_of(object: &Value<'_>) -> RecordCounts
 }
 
 fn sum_of(alloc: Global, object: &Value<'_>) -> Result<CounterSum, AllocError>
-    ensures { (s : SumValue) → FitsSum s → value_view object.now ≡ sum_json s
-        → IfOk result (λ sum. sum_value sum ≡ s) }
+    ensures { ReadsBack result sum_value FitsSum (λ s. value_view object.now ≡ sum_json s) }
 {
     Ok(CounterSum {
         name: String::from_str(alloc, text_of(object, "name"))?,
@@ -158,9 +146,7 @@ fn sum_of(alloc: Global, object: &Value<'_>) -> Result<CounterSum, AllocError>
 }
 
 fn sums_of(alloc: Global, object: &Value<'_>) -> Result<Vec<CounterSum>, AllocError>
-    ensures { (ss : List SumValue) → All FitsSum ss
-        → get (codes "sums") (value_view object.now) ≡ Some (list_json sum_json ss)
-        → IfOk result (λ sums. map sum_value sums.items ≡ ss) }
+    ensures { ReadsList result sum_value FitsSum sum_json object.now (codes "sums") }
 {
     let mut sums = Vec::new(alloc);
     let Some(items) = list_of(object, "sums") else {
@@ -193,8 +179,7 @@ fn interval_by(name: &str) -> MergedInterval
 
 // Into what rows were merged.
 fn into_of(alloc: Global, object: &Value<'_>) -> Result<Option<MergedInto>, AllocError>
-    ensures { (into : Option IntoValue) → TellsInto (value_view object.now) into
-        → IfOk result (λ found. option_map into_value found ≡ into) }
+    ensures { Reads result (option_map into_value) (TellsInto (value_view object.now)) }
 {
     match object.get("into") {
         Some(Value::String(name)) => Ok(Some(MergedInto {
@@ -206,8 +191,7 @@ fn into_of(alloc: Global, object: &Value<'_>) -> Result<Option<MergedInto>, Allo
 }
 
 fn table_of(alloc: Global, object: &Value<'_>) -> Result<TableReceipt, AllocError>
-    ensures { (t : TableValue) → FitsTable t → value_view object.now ≡ table_json t
-        → IfOk result (λ table. table_value table ≡ t) }
+    ensures { ReadsBack result table_value FitsTable (λ t. value_view object.now ≡ table_json t) }
 {
     Ok(TableReceipt {
         format: format_by(text_of(object, "format")),
@@ -223,8 +207,8 @@ fn table_of(alloc: Global, object: &Value<'_>) -> Result<TableReceipt, AllocErro
 
 // Texts.
 fn texts_of(alloc: Global, items: &[Value<'_>]) -> Result<Vec<String>, AllocError>
-    ensures { (texts : List (List ℕ)) → map value_view items.now ≡ map string texts
-        → IfOk result (λ found. map string_bytes found.items ≡ texts) }
+    ensures { Reads result (values_in string_bytes)
+        (λ ts. map value_view items.now ≡ map string ts) }
 {
     let mut texts = Vec::new(alloc);
     for item in items {
@@ -235,9 +219,7 @@ fn texts_of(alloc: Global, items: &[Value<'_>]) -> Result<Vec<String>, AllocErro
 
 // The names of the inputs that were left out.
 fn left_out_of(alloc: Global, object: &Value<'_>) -> Result<Vec<String>, AllocError>
-    ensures { (names : List (List ℕ))
-        → get (codes "left_out") (value_view object.now) ≡ left_out_json names
-        → IfOk result (λ found. map string_bytes found.items ≡ names) }
+    ensures { Reads result (values_in string_bytes) (TellsLeftOut (value_view object.now)) }
 {
     match object.get("left_out") {
         Some(Value::Array(items)) => texts_of(alloc, items.as_slice()),
@@ -246,8 +228,8 @@ fn left_out_of(alloc: Global, object: &Value<'_>) -> Result<Vec<String>, AllocEr
 }
 
 pub fn receipt_of(alloc: Global, object: &Value<'_>) -> Result<Receipt, AllocError>
-    ensures { (r : ReceiptValue) → FitsReceipt r → value_view object.now ≡ receipt_json r
-        → IfOk result (λ receipt. receipt_value receipt ≡ r) }
+    ensures { ReadsBack result receipt_value FitsReceipt
+        (λ r. value_view object.now ≡ receipt_json r) }
 {
     Ok(Receipt {
         collectd: String::from_str(alloc, text_of(object, "collectd"))?,

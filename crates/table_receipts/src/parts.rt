@@ -1,12 +1,10 @@
 //! Writing the parts of a receipt.
 
-ghost use Rattle.std.specs.Prelude.{◌≡◌, ◌++◌, ◌∷◌, [], codes, map, string_bytes, option_map};
+ghost use Rattle.std.specs.Prelude.{◌≡◌, codes, map, string_bytes, option_map};
 ghost use Rattle.json.specs.Json.{boolean, string};
-ghost use Rattle.json.specs.Token.{key};
-ghost use Rattle.json.specs.Tree.{json_tokens};
-ghost use Rattle.table_receipts.specs.Appending.{Appends};
-ghost use Rattle.table_receipts.specs.Values.{exporter_value, file_value, input_value, into_value, sum_value, table_value};
-ghost use Rattle.table_receipts.specs.Objects.{counts_json, digest_json, domain_json, exporter_members, fault_json, file_json, file_members, form_members, format_name, input_json, into_members, left_out_members, list_json, member_tokens, number_json, report_members, row_members, sum_json, table_json, text_members};
+ghost use Rattle.table_receipts.specs.Appending.{Writes, WritesAll, WritesMember};
+ghost use Rattle.table_receipts.specs.Values.{exporter_value, fault_value, file_value, input_value, into_value, sum_value, table_value};
+ghost use Rattle.table_receipts.specs.Objects.{counts_json, digest_json, domain_json, ending, exporter_members, fault_json, file_json, file_members, form_members, format_name, input_json, into_members, list_json, number_json, report_members, row_members, sum_json, table_json, text_members};
 
 use crate::receipt::{
     CounterSum, DomainReceipt, ExporterReceipt, FileReceipt, InputReceipt, MergedInto,
@@ -21,7 +19,7 @@ const INEXACT: u128 = 1 << 53;
 
 // Writes a number, as a text if not every reader holds it exactly.
 fn write_number(writer: &mut Writer, number: u128) -> Result<(), AllocError>
-    ensures { Appends result writer.old writer.new (json_tokens (number_json number)) }
+    ensures { Writes result writer.old writer.new (number_json number) }
 {
     if number < INEXACT {
         writer.u64(number as u64)
@@ -31,15 +29,14 @@ fn write_number(writer: &mut Writer, number: u128) -> Result<(), AllocError>
 }
 
 pub fn write_number_member(writer: &mut Writer, name: &str, number: u128) -> Result<(), AllocError>
-    ensures { Appends result writer.old writer.new
-        (key name.now ∷ json_tokens (number_json number)) }
+    ensures { WritesMember result writer.old writer.new (name.now, number_json number) }
 {
     writer.key(name)?;
     write_number(writer, number)
 }
 
 pub fn write_text_member(writer: &mut Writer, name: &str, text: &str) -> Result<(), AllocError>
-    ensures { Appends result writer.old writer.new (key name.now ∷ json_tokens (string text.now)) }
+    ensures { WritesMember result writer.old writer.new (name.now, string text.now) }
 {
     writer.key(name)?;
     writer.string(text)
@@ -51,8 +48,7 @@ pub fn write_digest_member(
     name: &str,
     digest: &[u8; 32],
 ) -> Result<(), AllocError>
-    ensures { Appends result writer.old writer.new
-        (key name.now ∷ json_tokens (digest_json digest.now)) }
+    ensures { WritesMember result writer.old writer.new (name.now, digest_json digest.now) }
 {
     let digits = hex::encode(alloc, digest.as_slice())?;
     write_text_member(writer, name, digits.as_str())
@@ -64,8 +60,7 @@ fn write_file_members(
     writer: &mut Writer,
     file: &FileReceipt,
 ) -> Result<(), AllocError>
-    ensures { Appends result writer.old writer.new
-        (member_tokens (file_members (file_value file.now))) }
+    ensures { WritesAll result writer.old writer.new (file_members (file_value file.now)) }
 {
     write_text_member(writer, "name", file.name.as_str())?;
     write_number_member(writer, "octets", u128::from(file.octets))?;
@@ -74,7 +69,7 @@ fn write_file_members(
 
 #[tactic(auto, unfolding(crate::specs::Objects::file_json))]
 fn write_file(alloc: Global, writer: &mut Writer, file: &FileReceipt) -> Result<(), AllocError>
-    ensures { Appends result writer.old writer.new (json_tokens (file_json (file_value file.now))) }
+    ensures { Writes result writer.old writer.new (file_json (file_value file.now)) }
 {
     writer.begin_object()?;
     write_file_members(alloc, writer, file)?;
@@ -84,13 +79,10 @@ fn write_file(alloc: Global, writer: &mut Writer, file: &FileReceipt) -> Result<
 pub fn write_files(
     alloc: Global,
     writer: &mut Writer,
-    name: &str,
     files: &[FileReceipt],
 ) -> Result<(), AllocError>
-    ensures { Appends result writer.old writer.new
-        (key name.now ∷ json_tokens (list_json file_json (map file_value files.now))) }
+    ensures { Writes result writer.old writer.new (list_json file_json (map file_value files.now)) }
 {
-    writer.key(name)?;
     writer.begin_array()?;
     for file in files {
         write_file(alloc, writer, file)?;
@@ -100,7 +92,7 @@ pub fn write_files(
 
 #[tactic(auto, unfolding(crate::specs::Objects::domain_json))]
 fn write_domain(writer: &mut Writer, domain: &DomainReceipt) -> Result<(), AllocError>
-    ensures { Appends result writer.old writer.new (json_tokens (domain_json domain.now)) }
+    ensures { Writes result writer.old writer.new (domain_json domain.now) }
 {
     writer.begin_object()?;
     write_number_member(writer, "domain", u128::from(domain.domain))?;
@@ -112,8 +104,7 @@ fn write_domain(writer: &mut Writer, domain: &DomainReceipt) -> Result<(), Alloc
 }
 
 fn write_domains(writer: &mut Writer, domains: &[DomainReceipt]) -> Result<(), AllocError>
-    ensures { Appends result writer.old writer.new
-        (json_tokens (list_json domain_json domains.now)) }
+    ensures { Writes result writer.old writer.new (list_json domain_json domains.now) }
 {
     writer.begin_array()?;
     for domain in domains {
@@ -123,8 +114,7 @@ fn write_domains(writer: &mut Writer, domains: &[DomainReceipt]) -> Result<(), A
 }
 
 fn write_fault(writer: &mut Writer, fault: &Option<String>) -> Result<(), AllocError>
-    ensures { Appends result writer.old writer.new
-        (json_tokens (fault_json (option_map string_bytes fault.now))) }
+    ensures { Writes result writer.old writer.new (fault_json (fault_value fault.now)) }
 {
     match fault {
         Some(name) => writer.string(name.as_str()),
@@ -134,8 +124,7 @@ fn write_fault(writer: &mut Writer, fault: &Option<String>) -> Result<(), AllocE
 
 // Writes the members that tell what the session of an input gave.
 fn write_report_members(writer: &mut Writer, input: &InputReceipt) -> Result<(), AllocError>
-    ensures { Appends result writer.old writer.new
-        (member_tokens (report_members (input_value input.now))) }
+    ensures { WritesAll result writer.old writer.new (report_members (input_value input.now)) }
 {
     write_number_member(writer, "messages", u128::from(input.messages))?;
     write_number_member(writer, "records", u128::from(input.records))?;
@@ -147,8 +136,8 @@ fn write_report_members(writer: &mut Writer, input: &InputReceipt) -> Result<(),
 
 // Writes the member that tells who exported an input, if there is one.
 fn write_exporter(writer: &mut Writer, exporter: &ExporterReceipt) -> Result<(), AllocError>
-    ensures { Appends result writer.old writer.new
-        (member_tokens (exporter_members (exporter_value exporter.now))) }
+    ensures { WritesAll result writer.old writer.new
+        (exporter_members (exporter_value exporter.now)) }
 {
     match exporter {
         ExporterReceipt::NotAsked => Ok(()),
@@ -162,8 +151,7 @@ fn write_exporter(writer: &mut Writer, exporter: &ExporterReceipt) -> Result<(),
 
 #[tactic(auto, unfolding(crate::specs::Objects::input_json))]
 fn write_input(alloc: Global, writer: &mut Writer, input: &InputReceipt) -> Result<(), AllocError>
-    ensures { Appends result writer.old writer.new
-        (json_tokens (input_json (input_value input.now))) }
+    ensures { Writes result writer.old writer.new (input_json (input_value input.now)) }
 {
     writer.begin_object()?;
     write_file_members(alloc, writer, &input.file)?;
@@ -177,10 +165,9 @@ pub fn write_inputs(
     writer: &mut Writer,
     inputs: &[InputReceipt],
 ) -> Result<(), AllocError>
-    ensures { Appends result writer.old writer.new
-        (key (codes "inputs") ∷ json_tokens (list_json input_json (map input_value inputs.now))) }
+    ensures { Writes result writer.old writer.new
+        (list_json input_json (map input_value inputs.now)) }
 {
-    writer.key("inputs")?;
     writer.begin_array()?;
     for input in inputs {
         write_input(alloc, writer, input)?;
@@ -189,8 +176,7 @@ pub fn write_inputs(
 }
 
 fn write_names(writer: &mut Writer, names: &[String]) -> Result<(), AllocError>
-    ensures { Appends result writer.old writer.new
-        (json_tokens (list_json string (map string_bytes names.now))) }
+    ensures { Writes result writer.old writer.new (list_json string (map string_bytes names.now)) }
 {
     writer.begin_array()?;
     for name in names {
@@ -200,8 +186,7 @@ fn write_names(writer: &mut Writer, names: &[String]) -> Result<(), AllocError>
 }
 
 fn write_complete(writer: &mut Writer, complete: bool) -> Result<(), AllocError>
-    ensures { Appends result writer.old writer.new
-        (member_tokens ((codes "complete", boolean complete) ∷ [])) }
+    ensures { WritesMember result writer.old writer.new (codes "complete", boolean complete) }
 {
     writer.key("complete")?;
     writer.boolean(complete)
@@ -209,8 +194,8 @@ fn write_complete(writer: &mut Writer, complete: bool) -> Result<(), AllocError>
 
 /// Writes the names of the inputs that were left out, if some were, and whether the table is complete.
 pub fn write_ending(writer: &mut Writer, names: &[String], complete: bool) -> Result<(), AllocError>
-    ensures { Appends result writer.old writer.new
-        (member_tokens (left_out_members (map string_bytes names.now) ++ (codes "complete", boolean complete) ∷ [])) }
+    ensures { WritesAll result writer.old writer.new
+        (ending (map string_bytes names.now) complete) }
 {
     if names.is_empty() {
         return write_complete(writer, complete);
@@ -222,9 +207,8 @@ pub fn write_ending(writer: &mut Writer, names: &[String], complete: bool) -> Re
 
 #[tactic(auto, unfolding(crate::specs::Objects::counts_json))]
 pub fn write_counts(writer: &mut Writer, counts: &RecordCounts) -> Result<(), AllocError>
-    ensures { Appends result writer.old writer.new (key (codes "records") ∷ json_tokens (counts_json counts.now)) }
+    ensures { Writes result writer.old writer.new (counts_json counts.now) }
 {
-    writer.key("records")?;
     writer.begin_object()?;
     write_number_member(writer, "used", u128::from(counts.used))?;
     write_number_member(writer, "options", u128::from(counts.options))?;
@@ -237,7 +221,7 @@ pub fn write_counts(writer: &mut Writer, counts: &RecordCounts) -> Result<(), Al
 
 #[tactic(auto, unfolding(crate::specs::Objects::sum_json))]
 fn write_sum(writer: &mut Writer, sum: &CounterSum) -> Result<(), AllocError>
-    ensures { Appends result writer.old writer.new (json_tokens (sum_json (sum_value sum.now))) }
+    ensures { Writes result writer.old writer.new (sum_json (sum_value sum.now)) }
 {
     writer.begin_object()?;
     write_text_member(writer, "name", sum.name.as_str())?;
@@ -246,8 +230,7 @@ fn write_sum(writer: &mut Writer, sum: &CounterSum) -> Result<(), AllocError>
 }
 
 fn write_sums(writer: &mut Writer, sums: &[CounterSum]) -> Result<(), AllocError>
-    ensures { Appends result writer.old writer.new
-        (json_tokens (list_json sum_json (map sum_value sums.now))) }
+    ensures { Writes result writer.old writer.new (list_json sum_json (map sum_value sums.now)) }
 {
     writer.begin_array()?;
     for sum in sums {
@@ -268,8 +251,7 @@ fn name_of(format: TableFormat) -> &'static str
 
 // Writes the members that tell how a table is written.
 fn write_form_members(writer: &mut Writer, table: &TableReceipt) -> Result<(), AllocError>
-    ensures { Appends result writer.old writer.new
-        (member_tokens (form_members (table_value table.now))) }
+    ensures { WritesAll result writer.old writer.new (form_members (table_value table.now)) }
 {
     write_text_member(writer, "format", name_of(table.format))?;
     write_number_member(writer, "time", u128::from(table.time))
@@ -277,8 +259,8 @@ fn write_form_members(writer: &mut Writer, table: &TableReceipt) -> Result<(), A
 
 // Writes the members that tell into what the rows of a table were merged, if they were.
 fn write_into_members(writer: &mut Writer, into: &Option<MergedInto>) -> Result<(), AllocError>
-    ensures { Appends result writer.old writer.new
-        (member_tokens (into_members (option_map into_value into.now))) }
+    ensures { WritesAll result writer.old writer.new
+        (into_members (option_map into_value into.now)) }
 {
     match into {
         None => Ok(()),
@@ -295,8 +277,7 @@ fn write_text_members(
     writer: &mut Writer,
     table: &TableReceipt,
 ) -> Result<(), AllocError>
-    ensures { Appends result writer.old writer.new
-        (member_tokens (text_members (table_value table.now))) }
+    ensures { WritesAll result writer.old writer.new (text_members (table_value table.now)) }
 {
     write_number_member(writer, "octets", u128::from(table.octets))?;
     write_digest_member(alloc, writer, "sha256", &table.sha256)
@@ -304,8 +285,7 @@ fn write_text_members(
 
 // Writes the members that tell what the rows of a table add up to.
 fn write_row_members(writer: &mut Writer, table: &TableReceipt) -> Result<(), AllocError>
-    ensures { Appends result writer.old writer.new
-        (member_tokens (row_members (table_value table.now))) }
+    ensures { WritesAll result writer.old writer.new (row_members (table_value table.now)) }
 {
     write_number_member(writer, "rows", u128::from(table.rows))?;
     writer.key("sums")?;
@@ -319,10 +299,8 @@ pub fn write_table(
     writer: &mut Writer,
     table: &TableReceipt,
 ) -> Result<(), AllocError>
-    ensures { Appends result writer.old writer.new
-        (key (codes "table") ∷ json_tokens (table_json (table_value table.now))) }
+    ensures { Writes result writer.old writer.new (table_json (table_value table.now)) }
 {
-    writer.key("table")?;
     writer.begin_object()?;
     write_form_members(writer, table)?;
     write_into_members(writer, &table.into)?;

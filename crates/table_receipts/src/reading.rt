@@ -3,6 +3,7 @@
 ghost use Rattle.std.specs.Prelude.{◌≡◌, ◌≢◌, None, Some, Err, IfOk};
 ghost use Rattle.json.specs.Json.{document};
 ghost use Rattle.json.specs.Value.{value_view};
+ghost use Rattle.table_receipts.specs.ReadBack.{ReadsBack};
 ghost use Rattle.table_receipts.specs.Values.{FitsReceipt, ReceiptValue, receipt_value};
 ghost use Rattle.table_receipts.specs.Texts.{receipt_text};
 
@@ -35,8 +36,7 @@ pub fn read_receipt(alloc: Global, text: &str) -> Result<Receipt, ReceiptFault>
     // Only the receipt's own text is read.
     ensures own { IfOk result (λ receipt. receipt_text (receipt_value receipt) ≡ text.now) }
     // The text of a receipt reads back to its value.
-    ensures back { (r : ReceiptValue) → FitsReceipt r → receipt_text r ≡ text.now
-        → IfOk result (λ receipt. receipt_value receipt ≡ r) }
+    ensures back { ReadsBack result receipt_value FitsReceipt (λ r. receipt_text r ≡ text.now) }
     // What is refused is the text of no receipt.
     ensures none { (r : ReceiptValue) → FitsReceipt r → receipt_text r ≡ text.now
         → result ≢ Err ReceiptFault.NotAReceipt }

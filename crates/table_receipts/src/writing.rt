@@ -1,12 +1,10 @@
 //! Writing a receipt.
 
-ghost use Rattle.std.specs.Prelude.{◌≡◌, ◌∷◌, codes, IfOk};
-ghost use Rattle.json.specs.Token.{begin_object, key};
-ghost use Rattle.json.specs.Tree.{json_tokens};
+ghost use Rattle.std.specs.Prelude.{◌≡◌, codes, IfOk};
 ghost use Rattle.sha2.specs.Sha256.{sha256};
-ghost use Rattle.table_receipts.specs.Appending.{Appends};
+ghost use Rattle.table_receipts.specs.Appending.{WritesAll, WritesMember};
 ghost use Rattle.table_receipts.specs.Values.{receipt_value};
-ghost use Rattle.table_receipts.specs.Objects.{content_members, digest_json, member_tokens, origin_members, plan_json, version_members};
+ghost use Rattle.table_receipts.specs.Objects.{content_members, origin_members, plan_json, sha256_member, version_members};
 ghost use Rattle.table_receipts.specs.Texts.{receipt_text, text_before};
 
 use crate::parts::{
@@ -29,8 +27,7 @@ fn sha256_of(octets: &[u8]) -> [u8; 32]
 
 // Writes the digest of a text.
 fn write_digest_of(alloc: Global, writer: &mut Writer, text: &[u8]) -> Result<(), AllocError>
-    ensures { Appends result writer.old writer.new
-        (key (codes "sha256") ∷ json_tokens (digest_json (sha256 text.now))) }
+    ensures { WritesMember result writer.old writer.new (sha256_member text.now) }
 {
     write_digest_member(alloc, writer, "sha256", &sha256_of(text))
 }
@@ -38,8 +35,7 @@ fn write_digest_of(alloc: Global, writer: &mut Writer, text: &[u8]) -> Result<()
 // Writes the plan's text and its digest.
 #[tactic(auto, unfolding(crate::specs::Objects::plan_json))]
 fn write_plan(alloc: Global, writer: &mut Writer, plan: &str) -> Result<(), AllocError>
-    ensures { Appends result writer.old writer.new
-        (key (codes "plan") ∷ json_tokens (plan_json plan.now)) }
+    ensures { WritesMember result writer.old writer.new (codes "plan", plan_json plan.now) }
 {
     writer.key("plan")?;
     writer.begin_object()?;
@@ -50,8 +46,7 @@ fn write_plan(alloc: Global, writer: &mut Writer, plan: &str) -> Result<(), Allo
 
 // Writes the version of the form, and that of collectd.
 fn write_versions(writer: &mut Writer, collectd: &str) -> Result<(), AllocError>
-    ensures { Appends result writer.old writer.new
-        (member_tokens (version_members collectd.now)) }
+    ensures { WritesAll result writer.old writer.new (version_members collectd.now) }
 {
     write_number_member(writer, "receipt", VERSION)?;
     write_text_member(writer, "collectd", collectd)
@@ -59,22 +54,25 @@ fn write_versions(writer: &mut Writer, collectd: &str) -> Result<(), AllocError>
 
 // Writes who made the table, and under which plan.
 fn write_origin(alloc: Global, writer: &mut Writer, receipt: &Receipt) -> Result<(), AllocError>
-    ensures { Appends result writer.old writer.new
-        (member_tokens (origin_members (receipt_value receipt.now))) }
+    ensures { WritesAll result writer.old writer.new (origin_members (receipt_value receipt.now)) }
 {
     write_versions(writer, receipt.collectd.as_str())?;
     write_plan(alloc, writer, receipt.plan.as_str())?;
-    write_files(alloc, writer, "elements", &receipt.elements)?;
-    write_files(alloc, writer, "maps", &receipt.maps)
+    writer.key("elements")?;
+    write_files(alloc, writer, &receipt.elements)?;
+    writer.key("maps")?;
+    write_files(alloc, writer, &receipt.maps)
 }
 
 // Writes what the table was made of, and what it is.
 fn write_contents(alloc: Global, writer: &mut Writer, receipt: &Receipt) -> Result<(), AllocError>
-    ensures { Appends result writer.old writer.new
-        (member_tokens (content_members (receipt_value receipt.now))) }
+    ensures { WritesAll result writer.old writer.new (content_members (receipt_value receipt.now)) }
 {
+    writer.key("inputs")?;
     write_inputs(alloc, writer, &receipt.inputs)?;
+    writer.key("records")?;
     write_counts(writer, &receipt.records)?;
+    writer.key("table")?;
     write_table(alloc, writer, &receipt.table)?;
     write_ending(writer, &receipt.left_out, receipt.complete)
 }

@@ -1,11 +1,11 @@
-use Rattle.std.proofs.Common.{ap, rules, arith, sym, ◌∙◌}
+use Rattle.std.proofs.Common.{ap, rules, arith, ◌∙◌}
 use Rattle.std.specs.Prelude.{map}
 use Rattle.std.proofs.lemmas.Option.{same_Some}
 use Rattle.json.specs.Value.{value_view}
 use Rattle.table_receipts.specs.Objects.{domain_json}
 use Rattle.table_receipts.specs.declared.receipt.DomainReceipt.{DomainReceipt}
 use Rattle.table_receipts.specs.Values.{FitsDomain}
-use Rattle.table_receipts.proofs.ListReads.{map_same, reads_all, reads_none, reads_on}
+use Rattle.table_receipts.proofs.ListReads.{reads_all, reads_none, reads_on}
 use Rattle.table_receipts.proofs.part_reading.domains_of.Goals as goal
 
 pub loop-item-init : goal.loop-item-init
@@ -18,5 +18,5 @@ loop-item-preserved c =
 
 pub returns : goal.returns
 returns c vs fits is =
-    sym (map_same c.loop-item.domains.items) ∙ reads_all value_view (λ (d : DomainReceipt). d) domain_json FitsDomain c.in-Some.items.now c.loop-item.item-index c.loop-item.domains.items vs c.loop-item.invariant (omega (arith, c.loop-item-test.false)) fits
+    reads_all value_view (λ (d : DomainReceipt). d) domain_json FitsDomain c.in-Some.items.now c.loop-item.item-index c.loop-item.domains.items vs c.loop-item.invariant (omega (arith, c.loop-item-test.false)) fits
     (same_Some (map value_view c.in-Some.items.now) (map domain_json vs) (c.in-Some.ensures (map domain_json vs) is))

@@ -1,5 +1,5 @@
-use Rattle.std.proofs.Common.{◌≡◌, List, ap, map, sym, ◌∙◌}
-use Rattle.json.specs.Json.{Json, array}
+use Rattle.std.proofs.Common.{◌≡◌, ap, map, ◌∙◌}
+use Rattle.json.specs.Json.{array}
 use Rattle.json.specs.Value.{items_view, value_view}
 use Rattle.json.proofs.Trees.{view-Array}
 use Rattle.table_receipts.proofs.Telling.{names_told}
