@@ -4,14 +4,14 @@ use Rattle.std.specs.Int.NonZero.{non_zero_usize_get}
 use Rattle.std.specs.Net.Text.{socket_text}
 use Rattle.std.specs.declared.net.socket_addr.SocketAddr.{SocketAddr}
 use Rattle.recording_connections.specs.declared.recorder_run.RecordOrder.{RecordOrder}
-use Rattle.recording_datagrams.specs.declared.peer_limits.PeerLimits.{PeerLimits}
+use Rattle.recording_datagrams.specs.declared.datagram_limits.DatagramLimits.{DatagramLimits}
 use Rattle.command_record.specs.declared.beginning.Intake.{Intake}
 use Rattle.command_record.specs.declared.system.Sockets.{Sockets}
 
 -- ---- what a run takes
 
 -- of connections and of datagrams only what is taken, as it is asked for, and what the templates of each session may count; which address the system gave to a socket no contract sees
-pub record IsIntake (sockets : Sockets) (order : RecordOrder) (limits : PeerLimits) (i : Intake) : Type 0 where
+pub record IsIntake (sockets : Sockets) (order : RecordOrder) (limits : DatagramLimits) (i : Intake) : Type 0 where
   pub listen : sockets.listener ≡ None → i.listen ≡ None
   pub udp : sockets.socket ≡ None → i.udp ≡ None
   pub sessions : i.sessions ≡ option_map (λ _. order.sessions) sockets.listener

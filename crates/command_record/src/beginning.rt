@@ -6,7 +6,7 @@ ghost use Rattle.command_record.specs.Beginning.{IsIntake, address_part, address
 
 use crate::system::Sockets;
 use recording_connections::RecordOrder;
-use recording_datagrams::PeerLimits;
+use recording_datagrams::DatagramLimits;
 use report_writing::WriteLines;
 use std::io;
 use std::net::SocketAddr;
@@ -30,7 +30,7 @@ pub(crate) struct Intake {
 
 impl Intake {
     /// What a run takes through these sockets, as it is asked for.
-    pub fn of(sockets: &Sockets, order: &RecordOrder, limits: &PeerLimits) -> Self
+    pub fn of(sockets: &Sockets, order: &RecordOrder, limits: &DatagramLimits) -> Self
         ensures { IsIntake sockets.now order.now limits.now result }
     {
         Intake {

@@ -15,7 +15,7 @@ use crate::peer_prefixes::filter_of;
 use crate::system::{Sockets, run_recorder};
 use cli_inputs::{RecordArguments, WITH_REASONS, listen_on, tell_folder};
 use recording_connections::{OpenRecordings, RecordOrder, open_recordings};
-use recording_datagrams::{PeerLimits, SystemSocket};
+use recording_datagrams::{DatagramLimits, SystemSocket};
 use recording_folder::second_now;
 use recording_lines::WholeLines;
 use report_writing::{Reason, Status, WriteLines, write_not_had_because};
@@ -170,13 +170,13 @@ fn idle_of(arguments: &RecordArguments) -> u64
 
 // How many peers that send datagrams are kept, how long each may be silent, for how long a datagram waits, and what their
 // templates may count.
-fn limits_of(arguments: &RecordArguments, peers: NonZeroUsize) -> PeerLimits
+fn limits_of(arguments: &RecordArguments, peers: NonZeroUsize) -> DatagramLimits
     ensures most { result.most ≡ peers }
     ensures idle { result.idle ≡ idle_seconds arguments.now.idle }
     ensures reorder { result.reorder ≡ arguments.now.reorder }
     ensures templates { result.templates ≡ arguments.now.templates }
 {
-    PeerLimits {
+    DatagramLimits {
         most: peers,
         idle: idle_of(arguments),
         reorder: arguments.reorder,

@@ -4,7 +4,7 @@ ghost use Rattle.std.specs.Prelude.{◌≡◌};
 
 use crate::watching::watch;
 use recording_connections::{RecordOrder, RecorderRun, SharedCounts, run_record};
-use recording_datagrams::{PeerLimits, SystemSocket, run_datagrams};
+use recording_datagrams::{DatagramLimits, SystemSocket, run_datagrams};
 use recording_folder::{EarlierPeers, Folder};
 use recording_lines::{WholeLines, write_threads};
 use recording_log::{LineQueue, LineSender, QueuedLines};
@@ -35,7 +35,7 @@ pub fn run_recorder<E: Write + Copy + Send + Sync + Drop, R: Clock + Threads + W
     sockets: Sockets,
     folder: &Folder,
     order: &RecordOrder,
-    limits: PeerLimits,
+    limits: DatagramLimits,
     err: E,
 ) -> Status
     ensures { result ≡ Status.Failed }
@@ -59,7 +59,7 @@ pub fn run_recorder<E: Write + Copy + Send + Sync + Drop, R: Clock + Threads + W
 fn run_beside_writer<E: Write + Copy + Send + Sync + Drop, R: Clock + Threads + Wait + Sync>(
     run: RecorderRun<R>,
     sockets: Sockets,
-    limits: PeerLimits,
+    limits: DatagramLimits,
     queue: &LineQueue,
     lines: QueuedLines,
     err: E,
@@ -113,7 +113,7 @@ fn run_beside_writer<E: Write + Copy + Send + Sync + Drop, R: Clock + Threads + 
 fn run_sockets<E: Write + Copy + Send + Sync + Drop, R: Clock + Threads + Wait + Sync>(
     run: RecorderRun<R>,
     sockets: Sockets,
-    limits: PeerLimits,
+    limits: DatagramLimits,
     err: E,
 ) -> Status
     ensures { result ≡ Status.Failed }
@@ -140,7 +140,7 @@ fn run_both<E: Write + Copy + Send + Sync + Drop, R: Clock + Threads + Wait + Sy
     listener: TcpListener,
     socket: SystemSocket,
     earlier: EarlierPeers,
-    limits: PeerLimits,
+    limits: DatagramLimits,
     err: E,
 ) -> Status
     ensures { result ≡ Status.Failed }

@@ -1,6 +1,6 @@
 -- Datagrams that come late.
 use Rattle.std.proofs.Common.{◌≡◌, ◌+◌, ◌<◌, ◌&&◌, ℕ, Bool, true, false, eqb, List, [], ◌∷◌, length, take, drop, map, get_or, refl, sym, ap, ap₂, ◌∙◌, inl, inr}
-use Rattle.std.specs.Prelude.{◌⊎◌, ◌||◌}
+use Rattle.std.specs.Prelude.{◌||◌}
 use Rattle.std.specs.List.{list_any}
 use Rattle.std.proofs.lemmas.Bool.Decides.{eqb_tells}
 use Rattle.std.proofs.lemmas.List.Folds.{list_any_more}
@@ -96,3 +96,14 @@ any_mapped q m = in_sets (sets_of (drop 16 m)).items
     in_sets : (ss : List Set) → list_any (λ id. eqb q id) (map (λ (s : Set). s.id) ss) ≡ list_any (λ (s : Set). eqb q s.id) ss
     in_sets [] = refl
     in_sets (s ∷ ss) = ap (λ (b : Bool). eqb q s.id || b) (in_sets ss)
+
+-- one id more of those that are put among others
+pub listed_more : (ids more : List ℕ) (i q : ℕ) (old new : Bool) → i < length more → old ≡ (list_any (λ b. eqb b q) ids || list_any (λ b. eqb b q) (take i more)) → new ≡ (old || eqb (get_or more i 0) q)
+    → new ≡ (list_any (λ b. eqb b q) ids || list_any (λ b. eqb b q) (take (i + 1) more))
+listed_more ids more i q old new less so_far is =
+    is ∙ ap (λ (b : Bool). b || eqb (get_or more i 0) q) so_far ∙ joined (list_any (λ b. eqb b q) ids) (list_any (λ b. eqb b q) (take i more)) (eqb (get_or more i 0) q)
+    ∙ ap (λ (b : Bool). list_any (λ b. eqb b q) ids || b) (sym (list_any_more (λ b. eqb b q) more i 0 less))
+  where
+    joined : (a b c : Bool) → ((a || b) || c) ≡ (a || (b || c))
+    joined true b c = refl
+    joined false b c = refl

@@ -16,7 +16,7 @@ use Rattle.ipfix_message.specs.declared.record.Template.{Template}
 use Rattle.ipfix_message.specs.TemplatesInForce.{is_other}
 use Rattle.ipfix_message.specs.Domains.{History, template_for}
 use Rattle.ipfix_datagrams.specs.Datagrams.{known_in, last_definition, withdrawn_in}
-use Rattle.ipfix_datagrams.specs.Late.{is_known, newly, time_at, times_after}
+use Rattle.ipfix_datagrams.specs.Late.{Times, is_known, newly, retimed_in, time_at, times_after}
 use Rattle.ipfix_datagrams.specs.declared.moment.Moment.{Moment}
 use Rattle.ipfix_datagrams.proofs.DefinedAgain.{not_replaced}
 use Rattle.ipfix_datagrams.proofs.InForce.{known_or}
@@ -100,3 +100,11 @@ times_kept old new ds m domain d now last before kept same lasts befores kepts i
           let away : eqb q d ≡ false = ap (eqb q) same ∙ other.0 in
           is q id ∙ rw other.0 (sym (ap (λ (b : Bool). cond b (option_or (newly (known_in ds q id) (last_definition m id) now) (time_at old q id)) (time_at old q id)) away))
     ]
+
+-- the times of a domain, which were taken out, are put back with those of its definitions
+pub put_in_again : (d : ℕ) (known last : ℕ → Option Template) (now : Moment) (old taken new : Times) (own first : ℕ → Option Moment) → ((q id : ℕ) → new q id ≡ cond (eqb q d) (own id) (taken q id))
+    → ((id : ℕ) → own id ≡ option_or (newly (known id) (last id) now) (first id)) → ((id : ℕ) → first id ≡ old d id) → ((q id : ℕ) → eqb q d ≡ false → taken q id ≡ old q id) → (q id : ℕ) → new q id ≡ retimed_in d known last now old q id
+put_in_again d known last now old taken new own first puts timed firsts others q id = elim (eqb_tells q d) [
+  | inl here ↦ puts q id ∙ rw here.0 (timed id ∙ ap (option_or (newly (known id) (last id) now)) (firsts id ∙ ap (λ (n : ℕ). old n id) (sym here.1)))
+  | inr other ↦ puts q id ∙ rw other.0 (others q id other.0)
+]

@@ -220,14 +220,10 @@ filter_push p (x ∷ xs) id = by_test (p x) (filter_push p xs id)
     by_test false more = more
 
 -- one id more of a loop over them
-pub left_more : (f : ℕ → Bool) (ids : List ℕ) (i : ℕ) (old new : List ℕ) → i < length ids → old ≡ filter (λ id. not (f id)) (take i ids) → new ≡ old ++ cond (f (get_or ids i 0)) [] (get_or ids i 0 ∷ []) → new ≡ filter (λ id. not (f id)) (take (i + 1) ids)
+pub left_more : (f : ℕ → Bool) (ids : List ℕ) (i : ℕ) (old new : List ℕ) → i < length ids → old ≡ filter (λ id. not (f id)) (take i ids) → new ≡ old ++ cond (not (f (get_or ids i 0))) (get_or ids i 0 ∷ []) [] → new ≡ filter (λ id. not (f id)) (take (i + 1) ids)
 left_more f ids i old new more so_far is =
     let x = get_or ids i 0 in
-    is ∙ ap₂ (λ (v w : List ℕ). v ++ w) so_far (turned (f x) x) ∙ sym (ap (filter (λ id. not (f id))) (take_more ids i 0 more) ∙ filter_push (λ id. not (f id)) (take i ids) x)
-  where
-    turned : (b : Bool) (x : ℕ) → cond b [] (x ∷ []) ≡ cond (not b) (x ∷ []) []
-    turned true x = refl
-    turned false x = refl
+    is ∙ ap (λ (xs : List ℕ). xs ++ cond (not (f x)) (x ∷ []) []) so_far ∙ sym (ap (filter (λ id. not (f id))) (take_more ids i 0 more) ∙ filter_push (λ id. not (f id)) (take i ids) x)
 
 -- the ids that have no template then
 pub barred_then : (old new : ℕ → List ℕ) (m : List ℕ) (last : ℕ → Option Template) (domain d : ℕ) → ((id : ℕ) → last id ≡ last_definition m id) → d ≡ domain → ((q : ℕ) → new q ≡ cond (eqb q domain) (filter (λ id. not (is_some (last id))) (old q)) (old q))

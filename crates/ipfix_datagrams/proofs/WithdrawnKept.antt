@@ -93,3 +93,17 @@ at_key p q k e = ap p (sym (exact_unsigned q k (same_key (nat_cmp q k) e)))
 pub not_kept : (b : Bool) (o : Option Template) → cond (not b) o None ≡ cond b None o
 not_kept true o = refl
 not_kept false o = refl
+
+-- a domain has none after its templates are taken out
+pub taken_out : (d : ℕ) (old new : ℕ → ℕ → Option Template) → ((q id : ℕ) → new q id ≡ cond (eqb q d) None (old q id)) → (id : ℕ) → new d id ≡ None
+taken_out d old new is id = elim (eqb_tells d d) [
+  | inl here ↦ is d id ∙ rw here.0 refl
+  | inr other ↦ absurd (other.1 refl)
+]
+
+-- where none is put in a domain that has none, all stays
+pub none_put : (d : ℕ) (old : ℕ → ℕ → Option Template) (own : ℕ → Option Template) → ((id : ℕ) → old d id ≡ None) → ((id : ℕ) → own id ≡ None) → (q id : ℕ) → old q id ≡ cond (eqb q d) (own id) (old q id)
+none_put d old own none empty q id = elim (eqb_tells q d) [
+  | inl here ↦ rw here.0 (ap (λ (n : ℕ). old n id) here.1 ∙ none id ∙ sym (empty id))
+  | inr other ↦ rw other.0 refl
+]

@@ -1,7 +1,8 @@
 -- What the datagrams of a peer give (RFC 7011, sections 8.1 and 8.4). Over UDP a definition replaces an older one of its id, and a
 -- withdrawal is ignored. A datagram of withdrawals alone is not kept. In the files, which are read by the rules of a connection, a withdrawal ends its template.
-use Rattle.std.specs.Prelude.{◌≡◌, ◌≢◌, ◌⊎◌, ◌==◌, ◌&&◌, ◌||◌, ◌+◌, ◌<◌, ◌≤◌, ℕ, Bool, false, true, nat_eq, nat_lt, not, is_some, is_ok, List, [], ◌∷◌, map, ◌++◌, filter, reverse, length, drop, count_by, flat_map, sum, if◌then◌else◌, Option, Some, None, option_map, unwrap_or, Ok, Err, All, Contains}
+use Rattle.std.specs.Prelude.{◌≡◌, ◌≢◌, ◌⊎◌, ◌==◌, ◌&&◌, ◌||◌, ◌+◌, ◌<◌, ◌≤◌, ℕ, Bool, false, true, nat_eq, nat_lt, not, is_some, is_ok, List, [], ◌∷◌, map, ◌++◌, filter, reverse, length, drop, count_by, flat_map, sum, if◌then◌else◌, Option, Some, None, option_copied, option_map, unwrap_or, Ok, Err, All, Contains}
 use Rattle.std.specs.Option.{option_and_then, option_or}
+use Rattle.std.specs.Borrow.{Bor}
 use Rattle.std.specs.Global.{Vec}
 use Rattle.std.specs.List.{IsDistinct, find, list_all, list_any}
 use Rattle.std.specs.List.Sorted.{IsStrictlySortedBy}
@@ -48,9 +49,13 @@ definition_of (WithdrawAll kind ∷ es) id = definition_of es id
 abbrev pub known_in : History → ℕ → ℕ → Option Template
 known_in ds domain id = definition_of (events_in ds domain) id
 
+-- a template, unless one is in force
+abbrev pub unless_some : Option Template → Option Template → Option Template
+unless_some now t = if is_some now then None else t
+
 -- a template that is known over UDP, and that a withdrawal ended in the files
 abbrev pub withdrawn_in : History → ℕ → ℕ → Option Template
-withdrawn_in ds domain id = if is_some (template_for ds domain id) then None else known_in ds domain id
+withdrawn_in ds domain id = unless_some (template_for ds domain id) (known_in ds domain id)
 
 -- the events of a set: those of its template records
 abbrev pub events_of_set : Set → List Event
@@ -385,6 +390,13 @@ HasTemplateIds (Kept r) = All HasTemplateId r.withdrawn.items
 -- the template for an id in a domain's templates, if the domain has any
 abbrev pub template_in : Option (BTreeMap ℕ Template) → ℕ → Option Template
 template_in templates id = option_and_then (λ t. get nat_cmp t id) templates
+
+-- and in those that are lent to a function
+abbrev pub Templates : Type 0
+Templates = Option (Bor (BTreeMap ℕ Template))
+
+abbrev pub template_of : Templates → ℕ → Option Template
+template_of templates id = template_in (option_copied templates) id
 
 -- the one that is kept of a domain for an id
 abbrev pub template_at : BTreeMap ℕ (BTreeMap ℕ Template) → ℕ → ℕ → Option Template

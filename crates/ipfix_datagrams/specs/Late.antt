@@ -1,6 +1,7 @@
 -- Datagrams that come late (RFC 7011, section 8.2). A template describes the data records of messages whose export time isn't before
 -- that of its definition. So those of an earlier message, which comes late, aren't read under it, and the message doesn't replace it.
-use Rattle.std.specs.Prelude.{◌≡◌, ◌⊎◌, ℕ, ◌-◌, ◌^◌, ◌==◌, ◌&&◌, ◌||◌, Bool, true, false, not, is_some, nat_lt, nat_le, if◌then◌else◌, List, Option, Some, None}
+use Rattle.std.specs.Prelude.{◌≡◌, ◌⊎◌, ℕ, ◌-◌, ◌^◌, ◌==◌, ◌&&◌, ◌||◌, Bool, true, false, not, is_some, nat_lt, nat_le, if◌then◌else◌, List, Option, Some, None, option_copied}
+use Rattle.std.specs.Borrow.{Bor}
 use Rattle.std.specs.List.{list_any}
 use Rattle.std.specs.Option.{option_and_then, option_or}
 use Rattle.std.specs.Ordering.{nat_cmp}
@@ -12,7 +13,7 @@ use Rattle.ipfix_message.specs.declared.record.Template.{Template}
 use Rattle.ipfix_message.specs.Domains.{History, Message}
 use Rattle.ipfix_message.specs.TemplatesInForce.{is_other}
 use Rattle.ipfix_session.specs.Ledger.{gap}
-use Rattle.ipfix_datagrams.specs.Datagrams.{KeepsKnown, barred_after, barred_in, known_in, template_in, last_definition, has_data_set, is_changed}
+use Rattle.ipfix_datagrams.specs.Datagrams.{KeepsKnown, Templates, template_of, barred_after, barred_in, known_in, last_definition, has_data_set, is_changed}
 use Rattle.ipfix_datagrams.specs.declared.known_templates.KnownTemplates.{KnownTemplates}
 use Rattle.ipfix_datagrams.specs.declared.moment.Moment.{Moment}
 
@@ -42,8 +43,8 @@ newly known None now = None
 newly known (Some t) now = if is_known t known then None else Some now
 
 -- what is known of an id, by the templates in force and by those that were withdrawn
-abbrev pub known_as : Option (BTreeMap ℕ Template) → Option (BTreeMap ℕ Template) → ℕ → Option Template
-known_as in_force withdrawn id = option_or (template_in in_force id) (template_in withdrawn id)
+abbrev pub known_as : Templates → Templates → ℕ → Option Template
+known_as in_force withdrawn id = option_or (template_of in_force id) (template_of withdrawn id)
 
 -- when the template of an id was defined, after definitions that were taken now: a definition of the template that is known changes nothing
 abbrev pub retimed : (ℕ → Option Template) → (ℕ → Option Template) → Moment → (ℕ → Option Moment) → ℕ → Option Moment
@@ -52,13 +53,21 @@ retimed known last now old id = option_or (newly (known id) (last id) now) (old 
 abbrev pub Times : Type 0
 Times = ℕ → ℕ → Option Moment
 
+-- those of a domain, after definitions there; the others stay
+abbrev pub retimed_in : ℕ → (ℕ → Option Template) → (ℕ → Option Template) → Moment → Times → Times
+retimed_in d known last now old domain id = if domain == d then retimed known last now (old domain) id else old domain id
+
 -- after a datagram of a domain
 abbrev pub times_after : Times → History → List ℕ → ℕ → Moment → Times
-times_after old ds m d now domain id = if domain == d then retimed (known_in ds domain) (last_definition m) now (old domain) id else old domain id
+times_after old ds m d now domain = retimed_in d (known_in ds domain) (last_definition m) now old domain
 
 -- what a map of maps has
 abbrev pub time_in : Option (BTreeMap ℕ Moment) → ℕ → Option Moment
 time_in times id = option_and_then (λ t. get nat_cmp t id) times
+
+-- and one that is lent to a function
+abbrev pub time_of : Option (Bor (BTreeMap ℕ Moment)) → ℕ → Option Moment
+time_of times id = time_in (option_copied times) id
 
 abbrev pub time_at : BTreeMap ℕ (BTreeMap ℕ Moment) → Times
 time_at times domain id = time_in (get nat_cmp times domain) id

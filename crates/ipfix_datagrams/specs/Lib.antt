@@ -7,5 +7,6 @@ pub mod Reaches
 pub mod RecordsCame
 pub mod Streams
 -- What only inner functions and proofs need.
+pub mod Entries
 pub mod Attempts
 pub mod Readings

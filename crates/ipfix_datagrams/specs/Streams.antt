@@ -1,7 +1,8 @@
 -- The messages of a stream, as the exporter sent them, and those that came (RFC 7011, section 3.1).
-use Rattle.std.specs.Prelude.{◌≡◌, ℕ, ◌+◌, ◌%◌, ◌^◌, ◌<◌, ◌≤◌, Bool, true, max, not, List, [], ◌∷◌, ◌++◌, map, filter}
+use Rattle.std.specs.Prelude.{◌≡◌, ℕ, ◌+◌, ◌%◌, ◌^◌, ◌<◌, ◌≤◌, Bool, true, max, not, List, [], ◌∷◌, ◌++◌, map, filter, sum_by}
 use Rattle.ipfix_message.specs.Domains.{Message}
 use Rattle.ipfix_session.specs.Ledger.{count_in}
+use Rattle.ipfix_datagrams.specs.Advances.{advance_of, came_of}
 
 -- ---- messages that came
 
@@ -36,6 +37,17 @@ abbrev pub AreWithin : ℕ → List Placed → Type 0
 AreWithin low [] = Unit {0}
 AreWithin low (p ∷ ps) = IsNumbered p × (low ≤ p.place) × (place_behind p < low + 2 ^ 31) × AreWithin low ps
 
+-- and from some place on
+abbrev pub AreClose : List Placed → Type 0
+AreClose ps = (low : ℕ) × AreWithin low ps
+
+-- how far they advance, and the data records of those that came
+abbrev pub advance_in : List Placed → ℕ
+advance_in ps = advance_of (messages ps)
+
+abbrev pub came_in : List Placed → ℕ
+came_in ps = came_of (messages ps)
+
 -- the same messages, of which two, one next to the other after the first, stand the other way round
 pub record IsSwapped (ps qs : List Placed) : Type 0 where
   pub first : Placed
@@ -46,6 +58,13 @@ pub record IsSwapped (ps qs : List Placed) : Type 0 where
   pub here : ps ≡ first ∷ (before ++ one ∷ (other ∷ rest))
   pub there : qs ≡ first ∷ (before ++ other ∷ (one ∷ rest))
 
+-- and they lie near each other
+pub record Swapping : Type 0 where
+  pub one : List Placed
+  pub other : List Placed
+  pub close : AreClose one
+  pub swapped : IsSwapped one other
+
 -- the same messages, of which one after the first comes twice
 pub record IsDoubled (double : Placed) (twice once : List Placed) : Type 0 where
   pub first : Placed
@@ -54,6 +73,14 @@ pub record IsDoubled (double : Placed) (twice once : List Placed) : Type 0 where
   pub rest : List Placed
   pub here : twice ≡ first ∷ (before ++ double ∷ (between ++ double ∷ rest))
   pub there : once ≡ first ∷ (before ++ double ∷ (between ++ rest))
+
+-- and these lie near each other
+pub record Doubling : Type 0 where
+  pub double : Placed
+  pub twice : List Placed
+  pub once : List Placed
+  pub close : AreClose twice
+  pub doubled : IsDoubled double twice once
 
 -- ---- messages that were sent
 
@@ -66,6 +93,12 @@ AreNumbered n (m ∷ ms) = (m.header.sequence ≡ n % 2 ^ 32) × AreNumbered (n 
 abbrev pub AreFew : List Message → Type 0
 AreFew [] = Unit {0}
 AreFew (m ∷ ms) = (count_in m < 2 ^ 31) × AreFew ms
+
+-- few messages in their order, of which all came
+pub record AreInOrder (ms : List Message) : Type 0 where
+  pub before : ℕ
+  pub numbered : AreNumbered before ms
+  pub few : AreFew ms
 
 -- messages that were sent, each with whether it came
 abbrev pub Sent : Type 0
@@ -86,3 +119,10 @@ pub record HaveEnds (es : Sent) : Type 0 where
   pub between : Sent
   pub last : Message
   pub are : es ≡ (first, true) ∷ (between ++ (last, true) ∷ [])
+
+-- and all have fewer than half as many data records as there are sequence numbers
+pub record AreSent (es : Sent) : Type 0 where
+  pub before : ℕ
+  pub ends : HaveEnds es
+  pub numbered : AreNumbered before (sent es)
+  pub few : sum_by count_in (sent es) < 2 ^ 31

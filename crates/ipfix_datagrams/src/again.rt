@@ -1,12 +1,13 @@
 //! The templates that are defined again before a datagram.
 
-ghost use Rattle.std.specs.Prelude.{◌≡◌, ◌==◌, ℕ, None, OnOk, IfOk, if◌then◌else◌};
+ghost use Rattle.std.specs.Prelude.{◌≡◌, ◌==◌, None, OnOk, IfOk, if◌then◌else◌};
 ghost use Rattle.std.specs.List.{list_any};
-ghost use Rattle.std.specs.Option.{option_or};
 ghost use Rattle.std.specs.BTreeMap.{get};
 ghost use Rattle.std.specs.Ordering.{nat_cmp};
 ghost use Rattle.ipfix_message.specs.TemplatesInForce.{is_other};
-ghost use Rattle.ipfix_datagrams.specs.Datagrams.{is_barred, unless_barred};
+ghost use Rattle.ipfix_datagrams.specs.Datagrams.{is_barred};
+ghost use Rattle.ipfix_datagrams.specs.Attempts.{again_by};
+ghost use Rattle.ipfix_datagrams.specs.Entries.{Holds, PutsAt};
 
 use ipfix_message::{Template, Templates, is_same_template};
 use std::alloc::{AllocError, Global};
@@ -35,11 +36,9 @@ fn put_again(
     withdrawn: &Templates,
     barred: &[u16],
     first: &Templates,
-    defined: &mut Templates,
+    all: &mut Templates,
 ) -> Result<(), AllocError>
-    ensures { OnOk result ((q : ℕ) → get nat_cmp defined.new q ≡ option_or
-        (if q == id then unless_barred barred.now (get nat_cmp withdrawn.now q)
-        (get nat_cmp first.now q) q else None) (get nat_cmp defined.old q)) }
+    ensures { OnOk result (PutsAt all.old all.new id (again_by barred.now withdrawn.now first.now)) }
 {
     let Some(known) = withdrawn.get(&id) else {
         return Ok(());
@@ -47,7 +46,7 @@ fn put_again(
     if has_none(barred, first, id) || is_replaced(known.template(), id, first) {
         return Ok(());
     }
-    defined.insert(id, known.clone()?)?;
+    all.insert(id, known.clone()?)?;
     Ok(())
 }
 
@@ -60,9 +59,8 @@ pub fn defined_again(
     first: &Templates,
     ids: &[u16],
 ) -> Result<Templates, AllocError>
-    ensures { IfOk result (λ defined. (q : ℕ) → get nat_cmp defined q
-        ≡ (if list_any (λ id. q == id) ids.now then unless_barred barred.now
-        (get nat_cmp withdrawn.now q) (get nat_cmp first.now q) q else None)) }
+    ensures { IfOk result (λ defined. Holds defined (λ q. if list_any (λ id. q == id) ids.now
+        then again_by barred.now withdrawn.now first.now q else None)) }
 {
     let mut defined = BTreeMap::new(alloc);
     for id in ids {

@@ -1,12 +1,13 @@
 //! The templates that a datagram defines otherwise than they are in force.
 
-ghost use Rattle.std.specs.Prelude.{◌≡◌, ◌==◌, ◌&&◌, ◌||◌, ◌++◌, ℕ, All, IfOk, OnOk, flat_map, option_copied};
-ghost use Rattle.std.specs.List.{list_any};
-ghost use Rattle.std.specs.Option.{option_or};
+ghost use Rattle.std.specs.Prelude.{◌≡◌, ◌==◌, ◌&&◌, ◌++◌, ℕ, All, IfOk, OnOk, option_copied};
 ghost use Rattle.std.specs.BTreeMap.{get, values, IsOrdered};
 ghost use Rattle.std.specs.Ordering.{nat_cmp};
 ghost use Rattle.ipfix_message.specs.WrittenTemplates.{IsTemplate};
-ghost use Rattle.ipfix_datagrams.specs.Datagrams.{dropped_by, is_changed_by, replaced_by, template_in};
+ghost use Rattle.ipfix_datagrams.specs.Attempts.{dropped_at, dropped_in, replaced_at, replaced_in};
+ghost use Rattle.ipfix_datagrams.specs.Datagrams.{is_changed_by, template_of};
+ghost use Rattle.ipfix_datagrams.specs.Entries.{AlsoLists, Gains, is_listed};
+ghost use Rattle.ipfix_datagrams.specs.Late.{known_as};
 ghost use Rattle.ipfix_datagrams.specs.Withdrawals.{HasTemplateId};
 
 use crate::withdrawn_template::WithdrawnTemplate;
@@ -19,8 +20,8 @@ fn push_replaced(
     before: Option<&Templates>,
     withdrawn: &mut Vec<WithdrawnTemplate>,
 ) -> Result<(), AllocError>
-    ensures { OnOk result (withdrawn.new.items ≡ withdrawn.old.items
-        ++ replaced_by template.now (template_in (option_copied before.entry) template.now.id)) }
+    ensures { OnOk result (Gains withdrawn.old withdrawn.new
+        (replaced_at before.entry template.now)) }
 {
     let Some(templates) = before else {
         return Ok(());
@@ -47,8 +48,7 @@ fn changes(
 ) -> Result<Vec<WithdrawnTemplate>, AllocError>
     ensures ordered { OnOk result (IsOrdered nat_cmp first.now) }
     ensures writable { OnOk result (All IsTemplate (values first.now)) }
-    ensures items { IfOk result (λ ws. ws.items ≡ flat_map (λ t. replaced_by t
-        (template_in (option_copied before.entry) t.id)) (values first.now)) }
+    ensures items { IfOk result (λ ws. ws.items ≡ replaced_in before.entry first.now) }
 {
     let mut withdrawn = Vec::new(alloc);
     for known in first.values() {
@@ -62,12 +62,10 @@ fn push_dropped(
     id: u16,
     first: &Templates,
     before: Option<&Templates>,
-    dropped: &mut Vec<WithdrawnTemplate>,
+    all: &mut Vec<WithdrawnTemplate>,
 ) -> Result<(), AllocError>
-    ensures items { OnOk result (dropped.new.items ≡ dropped.old.items ++ dropped_by
-        (get nat_cmp first.now id) (template_in (option_copied before.entry) id)) }
-    ensures ids { All HasTemplateId dropped.old.items
-        → OnOk result (All HasTemplateId dropped.new.items) }
+    ensures items { OnOk result (Gains all.old all.new (dropped_at first.now before.entry id)) }
+    ensures ids { All HasTemplateId all.old.items → OnOk result (All HasTemplateId all.new.items) }
 {
     if first.contains_key(&id) {
         return Ok(());
@@ -79,7 +77,7 @@ fn push_dropped(
         return Ok(());
     };
     let known = known.to_write();
-    dropped.push(WithdrawnTemplate {
+    all.push(WithdrawnTemplate {
         id: known.id,
         is_options: known.scope != 0,
     })?;
@@ -93,8 +91,7 @@ pub fn dropped(
     first: &Templates,
     before: Option<&Templates>,
 ) -> Result<Vec<WithdrawnTemplate>, AllocError>
-    ensures items { IfOk result (λ ws. ws.items ≡ flat_map (λ id. dropped_by
-        (get nat_cmp first.now id) (template_in (option_copied before.entry) id)) barred.now) }
+    ensures items { IfOk result (λ ws. ws.items ≡ dropped_in first.now before.entry barred.now) }
     ensures ids { IfOk result (λ ws. All HasTemplateId ws.items) }
 {
     let mut dropped = Vec::new(alloc);
@@ -114,8 +111,8 @@ pub fn with_changes(
     requires { All HasTemplateId dropped.items }
     ensures ordered { OnOk result (IsOrdered nat_cmp first.now) }
     ensures ids { IfOk result (λ ws. All HasTemplateId ws.items) }
-    ensures items { IfOk result (λ ws. ws.items ≡ dropped.items ++ flat_map (λ t. replaced_by t
-        (template_in (option_copied before.entry) t.id)) (values first.now)) }
+    ensures items { IfOk result (λ ws. ws.items
+        ≡ dropped.items ++ replaced_in before.entry first.now) }
 {
     let replaced = changes(alloc, first, before)?;
     let mut withdrawn = dropped;
@@ -125,7 +122,7 @@ pub fn with_changes(
 
 // The template of an id, if there are any.
 fn of_id(templates: Option<&Templates>, id: u16) -> Option<&TemplateInForce>
-    ensures { option_copied result ≡ template_in (option_copied templates.entry) id }
+    ensures { option_copied result ≡ template_of templates.entry id }
 {
     templates?.get(&id)
 }
@@ -136,8 +133,7 @@ pub fn known_of<'a>(
     in_force: Option<&'a Templates>,
     withdrawn: Option<&'a Templates>,
 ) -> Option<&'a TemplateInForce>
-    ensures { option_copied result ≡ option_or (template_in (option_copied in_force.entry) id)
-        (template_in (option_copied withdrawn.entry) id) }
+    ensures { option_copied result ≡ known_as in_force.entry withdrawn.entry id }
 {
     match of_id(in_force, id) {
         Some(known) => Some(known),
@@ -160,8 +156,7 @@ fn is_changed(last: &Templates, id: u16, known: Option<&TemplateInForce>) -> boo
 
 // Appends an id, if it is so.
 fn push_if(id: u16, is_so: bool, ids: &mut Vec<u16>) -> Result<(), AllocError>
-    ensures { OnOk result ((q : ℕ) → list_any (λ b. b == q) ids.new.items
-        ≡ (list_any (λ b. b == q) ids.old.items || (is_so && (id == q)))) }
+    ensures { OnOk result (AlsoLists ids.old.items ids.new.items (λ q. is_so && (id == q))) }
 {
     if is_so {
         ids.push(id)?;
@@ -176,10 +171,9 @@ pub fn changed(
     in_force: Option<&Templates>,
     withdrawn: Option<&Templates>,
 ) -> Result<Vec<u16>, AllocError>
-    ensures { IfOk result (λ ids. (q : ℕ) → list_any (λ b. b == q) ids.items
-        ≡ is_changed_by (get nat_cmp last.now q) (option_or
-        (template_in (option_copied in_force.entry) q)
-        (template_in (option_copied withdrawn.entry) q))) }
+    ensures { let known = known_as in_force.entry withdrawn.entry in
+        IfOk result (λ ids. (q : ℕ) → is_listed ids.items q
+        ≡ is_changed_by (get nat_cmp last.now q) (known q)) }
 {
     let mut ids = Vec::new(alloc);
     for id in last.keys() {

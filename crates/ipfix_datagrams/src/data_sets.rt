@@ -1,11 +1,9 @@
 //! The sets of a datagram, and their ids (RFC 7011, section 3.3).
 
-ghost use Rattle.std.specs.Prelude.{◌≡◌, ◌<◌, ◌≤◌, ◌+◌, ℕ, Ok, Err, IfOk, OnSome, MatchOption, length, map};
+ghost use Rattle.std.specs.Prelude.{◌≡◌, ◌<◌, length, map};
 ghost use Rattle.ipfix_message.specs.Sets;
 ghost use Rattle.ipfix_message.specs.Sets.{sets_of};
-ghost use Rattle.ipfix_message.specs.declared.fault.MessageFault.{MessageFault};
-ghost use Rattle.ipfix_wire.specs.declared.set.TheConstants.{SET_HEADER_LENGTH};
-ghost use Rattle.ipfix_datagrams.specs.Attempts.{OrOutOfMemory};
+ghost use Rattle.ipfix_datagrams.specs.Attempts.{OrOutOfMemory, ReadsNext, set_with};
 
 use ipfix_message::{MessageFault, next_set};
 use std::alloc::Global;
@@ -14,11 +12,7 @@ use std::alloc::Global;
 /// `OutOfMemory`.
 pub fn set_at(rest: &[u8]) -> Result<Option<((u16, &[u8]), &[u8])>, MessageFault>
     requires { 0 < length rest.now }
-    ensures { OrOutOfMemory result
-        (λ next. MatchOption next
-        ((fault : MessageFault) × (Sets.next_set rest.now ≡ Err fault))
-        (λ x. Sets.next_set rest.now
-        ≡ Ok (record { id = x.0.0; body = x.0.1.now }, x.1.now))) }
+    ensures { ReadsNext result (Sets.next_set rest.now) (λ x. (set_with x.0.0 x.0.1.now, x.1.now)) }
 {
     match next_set(rest) {
         Ok(next) => Ok(Some(next)),

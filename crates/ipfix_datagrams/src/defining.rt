@@ -1,11 +1,9 @@
 //! Defining templates again: they are in force once more (RFC 7011, section 8).
 
-ghost use Rattle.std.specs.Prelude.{IsOk};
+ghost use Rattle.std.specs.Prelude.{[], ◌∷◌};
 ghost use Rattle.std.specs.BTreeMap.{values};
-ghost use Rattle.ipfix_message.specs.Domains.{History, admit, events_in};
 ghost use Rattle.ipfix_message.specs.WrittenTemplates.{IsTemplate};
-ghost use Rattle.ipfix_datagrams.specs.Datagrams.{Represents, with_one_defined, with_defined};
-ghost use Rattle.ipfix_datagrams.specs.Attempts.{CanDefine, IsFree, OrOutOfMemory};
+ghost use Rattle.ipfix_datagrams.specs.Attempts.{DefinesIn};
 
 use ipfix_message::{Domains, MessageFault, Stamp, Template, Templates, append_template_message};
 use ipfix_wire::Header;
@@ -20,10 +18,7 @@ fn define(
     message: &mut Vec<u8>,
 ) -> Result<(), MessageFault>
     requires { IsTemplate template.now }
-    ensures { (ds : History) → Represents domains.old ds → IsOk (admit ds stamp.domain)
-        → IsFree (events_in ds stamp.domain) template.now
-        → OrOutOfMemory result
-        (λ _. Represents domains.new (with_one_defined ds stamp.domain template.now)) }
+    ensures { DefinesIn result domains.old domains.new stamp.domain (template.now ∷ []) }
 {
     let mut body = Vec::new(alloc);
     message.clear();
@@ -42,10 +37,7 @@ pub fn define_all(
     header: &Header,
     templates: &Templates,
 ) -> Result<(), MessageFault>
-    ensures { let d = header.now.domain in let ts = values templates.now in
-        (ds : History) → Represents domains.old ds → IsOk (admit ds d)
-        → CanDefine (events_in ds d) ts
-        → OrOutOfMemory result (λ _. Represents domains.new (with_defined ds d ts)) }
+    ensures { DefinesIn result domains.old domains.new header.now.domain (values templates.now) }
 {
     let stamp = Stamp {
         export_time: header.export_time,

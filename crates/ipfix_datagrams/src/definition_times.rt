@@ -1,11 +1,11 @@
 //! When the templates of a peer were defined.
 
-ghost use Rattle.std.specs.Prelude.{◌≡◌, ◌==◌, ℕ, false, OnOk, if◌then◌else◌, option_copied};
-ghost use Rattle.std.specs.Option.{option_or};
+ghost use Rattle.std.specs.Prelude.{◌≡◌, ◌==◌, ℕ, false, OnOk, option_copied};
 ghost use Rattle.std.specs.BTreeMap.{get};
 ghost use Rattle.std.specs.Ordering.{nat_cmp};
+ghost use Rattle.ipfix_datagrams.specs.Entries.{Holds, Puts, PutsAt, PutsIn};
 ghost use Rattle.ipfix_datagrams.specs.Late as late;
-ghost use Rattle.ipfix_datagrams.specs.Late.{known_as, newly, retimed, time_at};
+ghost use Rattle.ipfix_datagrams.specs.Late.{known_as, newly, retimed_in, time_at};
 
 use crate::changes::known_of;
 use crate::moment::Moment;
@@ -38,9 +38,8 @@ fn put_time(
     now: Moment,
     times: &mut Times,
 ) -> Result<(), AllocError>
-    ensures { OnOk result ((q : ℕ) → get nat_cmp times.new q ≡ (if q == id then option_or
-        (newly (option_copied known.entry) (get nat_cmp last.now id) now) (get nat_cmp times.old q)
-        else get nat_cmp times.old q)) }
+    ensures { OnOk result (PutsAt times.old times.new id
+        (λ _. newly (option_copied known.entry) (get nat_cmp last.now id) now)) }
 {
     let Some(template) = last.get(&id) else {
         return Ok(());
@@ -60,8 +59,8 @@ fn put_times(
     now: Moment,
     times: &mut Times,
 ) -> Result<(), AllocError>
-    ensures { let known = known_as (option_copied in_force.entry) (option_copied withdrawn.entry) in OnOk result
-        ((q : ℕ) → get nat_cmp times.new q ≡ retimed known (get nat_cmp last.now) now (get nat_cmp times.old) q) }
+    ensures { let known = known_as in_force.entry withdrawn.entry in
+        OnOk result (Puts times.old times.new (λ q. newly (known q) (get nat_cmp last.now q) now)) }
 {
     for id in last.keys() {
         let known = known_of(*id, in_force, withdrawn);
@@ -71,11 +70,11 @@ fn put_times(
 }
 
 // Those of a domain, which are taken out.
-fn take_times(alloc: Global, times: &mut DefinitionTimes, domain: u32) -> Times
-    ensures kept { (id : ℕ) → get nat_cmp result id ≡ time_at times.old domain id }
-    ensures others { (q id : ℕ) → (q == domain) ≡ false → time_at times.new q id ≡ time_at times.old q id }
+fn take_times(alloc: Global, all: &mut DefinitionTimes, domain: u32) -> Times
+    ensures kept { Holds result (time_at all.old domain) }
+    ensures others { (q id : ℕ) → (q == domain) ≡ false → time_at all.new q id ≡ time_at all.old q id }
 {
-    match times.remove(&domain) {
+    match all.remove(&domain) {
         Some(own) => own,
         None => BTreeMap::new(alloc),
     }
@@ -83,8 +82,7 @@ fn take_times(alloc: Global, times: &mut DefinitionTimes, domain: u32) -> Times
 
 // Puts those of a domain in the place of others.
 fn put_own(own: Times, times: &mut DefinitionTimes, domain: u32) -> Result<(), AllocError>
-    ensures { OnOk result ((q id : ℕ) → time_at times.new q id
-        ≡ (if q == domain then get nat_cmp own id else time_at times.old q id)) }
+    ensures { OnOk result (PutsIn times.old times.new domain (get nat_cmp own)) }
 {
     times.insert(domain, own)?;
     Ok(())
@@ -101,9 +99,9 @@ pub fn keep_times(
     withdrawn: Option<&Templates>,
     now: Moment,
 ) -> Result<(), AllocError>
-    ensures { let known = known_as (option_copied in_force.entry) (option_copied withdrawn.entry) in OnOk result
-        ((q id : ℕ) → time_at times.new q id ≡ (if q == domain
-        then retimed known (get nat_cmp last.now) now (time_at times.old q) id else time_at times.old q id)) }
+    ensures { let known = known_as in_force.entry withdrawn.entry in
+        OnOk result ((q id : ℕ) → time_at times.new q id
+        ≡ retimed_in domain known (get nat_cmp last.now) now (time_at times.old) q id) }
 {
     if last.is_empty() {
         return Ok(());

@@ -1,20 +1,15 @@
 //! The templates that a datagram defines, and its withdrawals (RFC 7011, sections 3.4 and 8.4).
 
-ghost use Rattle.std.specs.Prelude.{◌≡◌, ◌==◌, ◌&&◌, ◌∷◌, ◌++◌, [], ℕ, List, Some, None, false, if◌then◌else◌, length, ◌≤◌, ◌+◌, OnOk, MatchOption, Ok, Err};
+ghost use Rattle.std.specs.Prelude.{◌≡◌, ◌==◌, ◌∷◌, [], false, length, ◌≤◌, ◌+◌, OnOk};
 ghost use Rattle.std.specs.List.{list_all};
-ghost use Rattle.std.specs.Option.{option_or};
-ghost use Rattle.std.specs.BTreeMap.{get, IsOrdered};
+ghost use Rattle.std.specs.BTreeMap.{IsOrdered};
 ghost use Rattle.std.specs.Ordering.{nat_cmp};
-ghost use Rattle.ipfix_message.specs.Sets.{Set};
-ghost use Rattle.ipfix_message.specs.TemplateRecords;
-ghost use Rattle.ipfix_message.specs.TemplateRecords.{event_at};
-ghost use Rattle.ipfix_message.specs.declared.fault.MessageFault.{MessageFault};
-ghost use Rattle.ipfix_message.specs.declared.template_record.Event.{Event};
+ghost use Rattle.ipfix_message.specs.TemplateRecords.{event_at, events_of};
 ghost use Rattle.ipfix_message.specs.declared.template_record.Event.TheVariants.{Define};
 ghost use Rattle.ipfix_message.specs.declared.template_record.TheConstants.{LONGEST_BODY};
 ghost use Rattle.ipfix_wire.specs.declared.set.TheConstants.{SET_HEADER_LENGTH};
 ghost use Rattle.ipfix_session.specs.Ledger.{capped};
-ghost use Rattle.ipfix_datagrams.specs.Attempts.{Defines, Finds, OrOutOfMemory};
+ghost use Rattle.ipfix_datagrams.specs.Attempts.{Adds, Finds, OrOutOfMemory, PutsOthers, ReadsNext, OnlyIf, at_own_id, set_with};
 ghost use Rattle.ipfix_datagrams.specs.Datagrams.{are_withdrawals, events_of_set, is_set_of_withdrawals, is_withdrawal};
 
 use crate::data_sets::set_at;
@@ -41,9 +36,7 @@ pub struct Definitions {
 
 /// Puts a definition among the first ones, unless its id has one.
 pub fn put_first(definition: &TemplateInForce, first: &mut Templates) -> Result<(), AllocError>
-    ensures puts { OnOk result ((q : ℕ) → get nat_cmp first.new q
-        ≡ option_or (get nat_cmp first.old q)
-        (if q == definition.now.id then Some definition.now else None)) }
+    ensures puts { OnOk result (PutsOthers first.old first.new (at_own_id definition.now)) }
     ensures ordered { IsOrdered nat_cmp first.old → OnOk result (IsOrdered nat_cmp first.new) }
 {
     let id = definition.template().id;
@@ -58,40 +51,35 @@ pub fn put_first(definition: &TemplateInForce, first: &mut Templates) -> Result<
 fn take_definition(
     alloc: Global,
     definition: Definition,
-    definitions: &mut Definitions,
+    all: &mut Definitions,
 ) -> Result<(), AllocError>
-    ensures defines { (es : List Event) → Defines definitions.old es
-        → OnOk result (Defines definitions.new (es ++ Define definition ∷ [])) }
-    ensures only { OnOk result (definitions.new.withdraws_only ≡ false) }
+    ensures defines { OnOk result (Adds all.old all.new (Define definition ∷ [])) }
+    ensures only { OnOk result (all.new.withdraws_only ≡ false) }
 {
-    definitions.withdraws_only = false;
+    all.withdraws_only = false;
     let id = definition.id();
     let template = TemplateInForce::new(alloc, definition)?;
-    put_first(&template, &mut definitions.first)?;
-    definitions.last.insert(id, template)?;
+    put_first(&template, &mut all.first)?;
+    all.last.insert(id, template)?;
     Ok(())
 }
 
 // Counts a withdrawal.
-fn take_withdrawal(definitions: &mut Definitions)
-    ensures { definitions.new ≡ record definitions.old {
-      withdrawals = capped (definitions.old.withdrawals + 1);
-    } }
+fn take_withdrawal(all: &mut Definitions)
+    ensures { all.new ≡ record all.old { withdrawals = capped (all.old.withdrawals + 1) } }
 {
-    definitions.withdrawals = definitions.withdrawals.saturating_add(1);
+    all.withdrawals = all.withdrawals.saturating_add(1);
 }
 
 // Takes a template record.
-fn take_event(alloc: Global, event: Event, definitions: &mut Definitions) -> Result<(), AllocError>
-    ensures defines { (es : List Event) → Defines definitions.old es
-        → OnOk result (Defines definitions.new (es ++ event ∷ [])) }
-    ensures only { OnOk result (definitions.new.withdraws_only
-        ≡ (is_withdrawal event && definitions.old.withdraws_only)) }
+fn take_event(alloc: Global, event: Event, all: &mut Definitions) -> Result<(), AllocError>
+    ensures defines { OnOk result (Adds all.old all.new (event ∷ [])) }
+    ensures only { OnOk result (OnlyIf all.old all.new (is_withdrawal event)) }
 {
     match event {
-        Event::Define(definition) => take_definition(alloc, definition, definitions)?,
-        Event::Withdraw(_, _) => take_withdrawal(definitions),
-        Event::WithdrawAll(_) => take_withdrawal(definitions),
+        Event::Define(definition) => take_definition(alloc, definition, all)?,
+        Event::Withdraw(_, _) => take_withdrawal(all),
+        Event::WithdrawAll(_) => take_withdrawal(all),
     }
     Ok(())
 }
@@ -104,12 +92,11 @@ fn are_zeros(octets: &[u8]) -> bool
 }
 
 // Takes what is left of a set where no template record stands: padding, or there is a fault.
-fn take_rest(rest: &[u8], definitions: &mut Definitions)
-    ensures { definitions.new ≡ record definitions.old {
-      withdraws_only = list_all (λ b. b == 0) rest.now && definitions.old.withdraws_only;
-    } }
+fn take_rest(rest: &[u8], all: &mut Definitions)
+    ensures only { OnlyIf all.old all.new (list_all (λ b. b == 0) rest.now) }
+    ensures others { all.new ≡ record all.old { withdraws_only = all.new.withdraws_only } }
 {
-    definitions.withdraws_only = are_zeros(rest) && definitions.withdraws_only;
+    all.withdraws_only = are_zeros(rest) && all.withdraws_only;
 }
 
 // The next template record and what follows it, if one stands there. The fault is `OutOfMemory`.
@@ -120,10 +107,7 @@ fn next_event(
 ) -> Result<Option<(Event, &[u8])>, MessageFault>
     requires long { TEMPLATE_HEADER_LENGTH ≤ length octets.now }
     requires room { length octets.now ≤ LONGEST_BODY }
-    ensures { OrOutOfMemory result
-        (λ next. MatchOption next
-        ((fault : MessageFault) × (event_at kind octets.now ≡ Err fault))
-        (λ x. event_at kind octets.now ≡ Ok (x.0, x.1.now))) }
+    ensures { ReadsNext result (event_at kind octets.now) (λ x. (x.0, x.1.now)) }
 {
     match event_of(alloc, kind, octets) {
         Ok(next) => Ok(Some(next)),
@@ -137,46 +121,40 @@ fn take_events(
     alloc: Global,
     kind: TemplateKind,
     body: &[u8],
-    definitions: &mut Definitions,
+    all: &mut Definitions,
 ) -> Result<(), MessageFault>
     requires { length body.now ≤ LONGEST_BODY }
-    ensures defines { (es : List Event) → Defines definitions.old es → OrOutOfMemory result
-        (λ _. Defines definitions.new (es ++ (TemplateRecords.events_of kind body.now).items)) }
-    ensures only { OrOutOfMemory result (λ _. definitions.new.withdraws_only
-        ≡ (are_withdrawals kind body.now && definitions.old.withdraws_only)) }
+    ensures defines { OrOutOfMemory result
+        (λ _. Adds all.old all.new (events_of kind body.now).items) }
+    ensures only { OrOutOfMemory result
+        (λ _. OnlyIf all.old all.new (are_withdrawals kind body.now)) }
 {
     let mut rest = body;
     while TEMPLATE_HEADER_LENGTH <= rest.len() {
         let Some((event, after)) = next_event(alloc, kind, rest)? else {
-            take_rest(rest, definitions);
+            take_rest(rest, all);
             return Ok(());
         };
-        take_event(alloc, event, definitions)?;
+        take_event(alloc, event, all)?;
         rest = after;
     }
     Ok(())
 }
 
 // Takes a set. The fault is `OutOfMemory`.
-fn take_set(
-    alloc: Global,
-    id: u16,
-    body: &[u8],
-    definitions: &mut Definitions,
-) -> Result<(), MessageFault>
+fn take_set(alloc: Global, id: u16, body: &[u8], all: &mut Definitions) -> Result<(), MessageFault>
     requires { length body.now ≤ LONGEST_BODY }
-    ensures defines { (es : List Event) → Defines definitions.old es → OrOutOfMemory result
-        (λ _. Defines definitions.new (es ++ events_of_set (record { id = id; body = body.now }))) }
-    ensures only { let s : Set = record { id = id; body = body.now } in
-        OrOutOfMemory result (λ _. definitions.new.withdraws_only
-        ≡ (is_set_of_withdrawals s && definitions.old.withdraws_only)) }
+    ensures defines { OrOutOfMemory result
+        (λ _. Adds all.old all.new (events_of_set (set_with id body.now))) }
+    ensures only { OrOutOfMemory result
+        (λ _. OnlyIf all.old all.new (is_set_of_withdrawals (set_with id body.now))) }
 {
     if id == TEMPLATE_SET_ID {
-        take_events(alloc, TemplateKind::Plain, body, definitions)
+        take_events(alloc, TemplateKind::Plain, body, all)
     } else if id == OPTIONS_TEMPLATE_SET_ID {
-        take_events(alloc, TemplateKind::Options, body, definitions)
+        take_events(alloc, TemplateKind::Options, body, all)
     } else {
-        definitions.withdraws_only = false;
+        all.withdraws_only = false;
         Ok(())
     }
 }

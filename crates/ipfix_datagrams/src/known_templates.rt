@@ -1,10 +1,10 @@
 //! What is kept of a peer's templates beside those that are in force in its files.
 
-ghost use Rattle.std.specs.Prelude.{◌≡◌, ◌==◌, ◌||◌, ◌&&◌, ◌∷◌, ◌++◌, [], ℕ, List, None, OnOk, IfOk, nat_eq, not, is_some, filter, if◌then◌else◌};
-ghost use Rattle.std.specs.List.{IsDistinct, list_any};
-ghost use Rattle.std.specs.BTreeMap.{get};
-ghost use Rattle.std.specs.Ordering.{nat_cmp};
+ghost use Rattle.std.specs.Prelude.{◌≡◌, ◌==◌, ◌∷◌, [], ℕ, None, OnOk, IfOk, nat_eq};
+ghost use Rattle.std.specs.List.{IsDistinct};
+ghost use Rattle.ipfix_datagrams.specs.Attempts.{ChangesBarred, not_defined};
 ghost use Rattle.ipfix_datagrams.specs.Datagrams.{Bars, KeepsKnown, barred_in};
+ghost use Rattle.ipfix_datagrams.specs.Entries.{AlsoLists, Gains, is_listed};
 ghost use Rattle.ipfix_datagrams.specs.Late.{time_at};
 
 use crate::definition_times::DefinitionTimes;
@@ -73,8 +73,7 @@ impl KnownTemplates {
 /// Puts an id among others, unless it is one of them.
 pub fn put_id(id: u16, all: &mut Vec<u16>) -> Result<(), AllocError>
     ensures once { IsDistinct nat_eq all.old.items → OnOk result (IsDistinct nat_eq all.new.items) }
-    ensures puts { OnOk result ((q : ℕ) → list_any (λ b. b == q) all.new.items
-        ≡ (list_any (λ b. b == q) all.old.items || (id == q))) }
+    ensures puts { OnOk result (AlsoLists all.old.items all.new.items (λ q. id == q)) }
 {
     if all.contains(&id) {
         return Ok(());
@@ -86,8 +85,7 @@ pub fn put_id(id: u16, all: &mut Vec<u16>) -> Result<(), AllocError>
 // These ids and those.
 fn both(alloc: Global, ids: &[u16], more: &[u16]) -> Result<Vec<u16>, AllocError>
     ensures once { IsDistinct nat_eq ids.now → IfOk result (λ all. IsDistinct nat_eq all.items) }
-    ensures both { IfOk result (λ all. (q : ℕ) → list_any (λ b. b == q) all.items
-        ≡ (list_any (λ b. b == q) ids.now || list_any (λ b. b == q) more.now)) }
+    ensures both { IfOk result (λ all. AlsoLists ids.now all.items (is_listed more.now)) }
 {
     let mut all = Vec::new(alloc);
     all.extend_from_slice(ids)?;
@@ -99,8 +97,7 @@ fn both(alloc: Global, ids: &[u16], more: &[u16]) -> Result<Vec<u16>, AllocError
 
 // Puts the ids of a domain in the place of others.
 fn put_ids(barred: &mut BarredIds, domain: u32, ids: Vec<u16>) -> Result<(), AllocError>
-    ensures { OnOk result ((q : ℕ) → barred_in barred.new q
-        ≡ (if q == domain then ids.items else barred_in barred.old q)) }
+    ensures { OnOk result (ChangesBarred barred.old barred.new domain (λ _. ids.items)) }
 {
     barred.insert(domain, ids)?;
     Ok(())
@@ -108,8 +105,7 @@ fn put_ids(barred: &mut BarredIds, domain: u32, ids: Vec<u16>) -> Result<(), All
 
 // Appends an id, unless one of these templates has it.
 fn push_unless(id: u16, last: &Templates, left: &mut Vec<u16>) -> Result<(), AllocError>
-    ensures { OnOk result (left.new.items ≡ left.old.items
-        ++ (if is_some (get nat_cmp last.now id) then [] else id ∷ [])) }
+    ensures { OnOk result (Gains left.old left.new (not_defined last.now (id ∷ []))) }
 {
     if !last.contains_key(&id) {
         left.push(id)?;
@@ -119,8 +115,7 @@ fn push_unless(id: u16, last: &Templates, left: &mut Vec<u16>) -> Result<(), All
 
 // Only the ids that none of these templates has.
 fn ids_left(alloc: Global, ids: &[u16], last: &Templates) -> Result<Vec<u16>, AllocError>
-    ensures { IfOk result (λ left. left.items
-        ≡ filter (λ id. not (is_some (get nat_cmp last.now id))) ids.now) }
+    ensures { IfOk result (λ left. left.items ≡ not_defined last.now ids.now) }
 {
     let mut left = Vec::new(alloc);
     for id in ids {
@@ -146,9 +141,7 @@ pub fn drop_defined(
     domain: u32,
     last: &Templates,
 ) -> Result<(), AllocError>
-    ensures { OnOk result ((q : ℕ) → barred_in barred.new q ≡ (if q == domain
-        then filter (λ id. not (is_some (get nat_cmp last.now id))) (barred_in barred.old q)
-        else barred_in barred.old q)) }
+    ensures { OnOk result (ChangesBarred barred.old barred.new domain (not_defined last.now)) }
 {
     let left = ids_left(alloc, ids_in(barred, domain), last)?;
     put_ids(barred, domain, left)?;

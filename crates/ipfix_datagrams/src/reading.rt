@@ -1,7 +1,7 @@
 //! Whether a datagram is taken.
 
 ghost use Rattle.std.specs.Prelude.{◌≡◌, ◌≢◌, ◌≤◌, ◌+◌, ℕ, List, length, drop, All, Ok, None, Some, IfOk, MatchBool, MatchResult, false};
-ghost use Rattle.std.specs.BTreeMap.{get, IsOrdered};
+ghost use Rattle.std.specs.BTreeMap.{IsOrdered};
 ghost use Rattle.std.specs.Ordering.{nat_cmp};
 ghost use Rattle.ipfix_wire.specs.declared.set.TheConstants.{SET_HEADER_LENGTH};
 ghost use Rattle.ipfix_message.specs.Domains.{History, Message, message_header};
@@ -10,6 +10,7 @@ ghost use Rattle.ipfix_message.specs.declared.template_record.TheConstants.{LONG
 ghost use Rattle.ipfix_datagrams.specs.Attempts.{Defines, FirstReads, HasFirst, IsPlain, OrOutOfMemory};
 ghost use Rattle.ipfix_datagrams.specs.Datagrams as specs;
 ghost use Rattle.ipfix_datagrams.specs.Datagrams.{AreDefinedBefore, Basis, HasTemplateIds, IfOf, defines_template, IsReadingOf, IsRefused, KeepsKnown, Represents, basis_of, events_of_message, withdraws_only};
+ghost use Rattle.ipfix_datagrams.specs.Entries.{Holds};
 ghost use Rattle.ipfix_datagrams.specs.Readings.{AreSetsOf, IsRefusedAnyway, ReadSo};
 ghost use Rattle.ipfix_datagrams.specs.Withdrawals.{HasTemplateId};
 
@@ -182,8 +183,7 @@ fn again(
     ensures ordered { IfOk result (IsOrdered nat_cmp) }
     ensures again { (ds : History) (m : List ℕ) → KeepsKnown known.now ds
         → AreSetsOf sets.now first.now m → OrOutOfMemory result
-        (λ defined. (id : ℕ) → get nat_cmp defined id
-        ≡ specs.again barred.now ds m domain id) }
+        (λ defined. Holds defined (specs.again barred.now ds m domain)) }
 {
     let Some(templates) = known.withdrawn.get(&domain) else {
         return Ok(BTreeMap::new(alloc));

@@ -1,6 +1,6 @@
 //! The templates of an earlier run that are defined before a datagram.
 
-ghost use Rattle.std.specs.Prelude.{◌≡◌, OnOk, option_copied};
+ghost use Rattle.std.specs.Prelude.{◌≡◌, OnOk};
 ghost use Rattle.std.specs.BTreeMap.{values, IsOrdered};
 ghost use Rattle.std.specs.Ordering.{nat_cmp};
 ghost use Rattle.ipfix_datagrams.specs.Attempts.{PutsOthers, if_open, is_open_in, resumed_in};
@@ -18,8 +18,7 @@ fn is_open(
     withdrawn: Option<&Templates>,
     first: &Templates,
 ) -> bool
-    ensures { result ≡ is_open_in (option_copied in_force.entry) (option_copied withdrawn.entry)
-        first.now template.now }
+    ensures { result ≡ is_open_in in_force.entry withdrawn.entry first.now template.now }
 {
     let id = template.id;
     !has_id(in_force, id) && !has_id(withdrawn, id) && !is_replaced(template, id, first)
@@ -33,9 +32,8 @@ fn put_open(
     first: &Templates,
     defined: &mut Templates,
 ) -> Result<(), AllocError>
-    ensures puts { OnOk result (PutsOthers defined.old defined.new (if_open
-        (is_open_in (option_copied in_force.entry) (option_copied withdrawn.entry) first.now known.now)
-        known.now)) }
+    ensures puts { let is_open = is_open_in in_force.entry withdrawn.entry first.now known.now in
+        OnOk result (PutsOthers defined.old defined.new (if_open is_open known.now)) }
     ensures ordered { IsOrdered nat_cmp defined.old → OnOk result (IsOrdered nat_cmp defined.new) }
 {
     if is_open(known.template(), in_force, withdrawn, first) {
@@ -53,8 +51,8 @@ pub fn resume(
     first: &Templates,
     defined: &mut Templates,
 ) -> Result<(), AllocError>
-    ensures puts { OnOk result (PutsOthers defined.old defined.new (resumed_in
-        (option_copied in_force.entry) (option_copied withdrawn.entry) first.now (values resumed.now))) }
+    ensures puts { OnOk result (PutsOthers defined.old defined.new
+        (resumed_in in_force.entry withdrawn.entry first.now (values resumed.now))) }
     ensures ordered { IsOrdered nat_cmp defined.old → OnOk result (IsOrdered nat_cmp defined.new) }
 {
     for known in resumed.values() {

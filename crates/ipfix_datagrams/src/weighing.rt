@@ -1,13 +1,12 @@
 //! What the templates of a peer count, beside a budget.
 
-ghost use Rattle.std.specs.Prelude.{◌≡◌, ◌==◌, ◌+◌, ◌≤◌, ◌<◌, ℕ, Some, OnOk, IfOk, MatchBool, MatchOption, if◌then◌else◌, option_copied, option_map, sum};
-ghost use Rattle.std.specs.Option.{option_or};
+ghost use Rattle.std.specs.Prelude.{◌≡◌, ◌+◌, ◌≤◌, ◌<◌, Some, OnOk, IfNone, IfOk, IfSome, MatchBool, MatchOption, sum};
 ghost use Rattle.std.specs.BTreeMap.{get, values, IsOrdered};
 ghost use Rattle.std.specs.Ordering.{nat_cmp};
-ghost use Rattle.ipfix_datagrams.specs.Datagrams.{Exceeds, Fits, KeepsKnown, known_in, template_in};
-ghost use Rattle.ipfix_message.specs.TemplateLimits.{fields_of};
+ghost use Rattle.ipfix_datagrams.specs.Datagrams.{Exceeds, Fits, KeepsKnown, known_in, template_of};
 ghost use Rattle.ipfix_message.specs.declared.template_limit.TheConstants.{DOMAIN_FIELDS};
-ghost use Rattle.ipfix_datagrams.specs.Attempts.{kept_entries};
+ghost use Rattle.ipfix_datagrams.specs.Attempts.{fields_by, kept_entries};
+ghost use Rattle.ipfix_datagrams.specs.Entries.{Holds, Puts, PutsAt};
 ghost use Rattle.ipfix_datagrams.specs.Readings.{ReadSo};
 
 use crate::known_templates::KnownTemplates;
@@ -24,9 +23,8 @@ type Counts = BTreeMap<u16, u64>;
 
 // Counts the template of an id, if it is there.
 fn count_one(templates: &Templates, id: u16, counts: &mut Counts) -> Result<(), AllocError>
-    ensures { OnOk result ((q : ℕ) → get nat_cmp counts.new q
-        ≡ (if q == id then option_or (option_map fields_of (get nat_cmp templates.now q))
-        (get nat_cmp counts.old q) else get nat_cmp counts.old q)) }
+    ensures { OnOk result (PutsAt counts.old counts.new id
+        (fields_by (get nat_cmp templates.now))) }
 {
     let Some(known) = templates.get(&id) else {
         return Ok(());
@@ -37,8 +35,7 @@ fn count_one(templates: &Templates, id: u16, counts: &mut Counts) -> Result<(), 
 
 // Counts templates, in place of others of their ids.
 fn count_all(templates: &Templates, counts: &mut Counts) -> Result<(), AllocError>
-    ensures { OnOk result ((q : ℕ) → get nat_cmp counts.new q
-        ≡ option_or (option_map fields_of (get nat_cmp templates.now q)) (get nat_cmp counts.old q)) }
+    ensures { OnOk result (Puts counts.old counts.new (fields_by (get nat_cmp templates.now))) }
 {
     for id in templates.keys() {
         count_one(templates, *id, counts)?;
@@ -48,9 +45,7 @@ fn count_all(templates: &Templates, counts: &mut Counts) -> Result<(), AllocErro
 
 // And so those of a domain, if it has any.
 fn count_if(templates: Option<&Templates>, counts: &mut Counts) -> Result<(), AllocError>
-    ensures { OnOk result ((q : ℕ) → get nat_cmp counts.new q
-        ≡ option_or (option_map fields_of (template_in (option_copied templates.entry) q))
-        (get nat_cmp counts.old q)) }
+    ensures { OnOk result (Puts counts.old counts.new (fields_by (template_of templates.entry))) }
 {
     match templates {
         Some(templates) => count_all(templates, counts),
@@ -60,8 +55,8 @@ fn count_if(templates: Option<&Templates>, counts: &mut Counts) -> Result<(), Al
 
 // What the templates of a domain count, if that is within a budget.
 fn weigh(counts: &Counts, budget: u64) -> Option<u64>
-    ensures weight { let n = DOMAIN_FIELDS + sum (values counts.now) in
-        MatchOption result (budget < n) (λ weight. weight ≡ n) }
+    ensures above { IfNone result (budget < DOMAIN_FIELDS + sum (values counts.now)) }
+    ensures weight { IfSome result (λ weight. weight ≡ DOMAIN_FIELDS + sum (values counts.now)) }
     ensures ordered { IsOrdered nat_cmp counts.now }
 {
     let counted = counts.values();
@@ -74,8 +69,8 @@ fn weigh(counts: &Counts, budget: u64) -> Option<u64>
 
 // Whether all domains count no more than a budget.
 fn are_within(weights: &Weights, budget: u64) -> bool
-    ensures within { MatchBool result (sum (values weights.now) ≤ budget)
-        (budget < sum (values weights.now)) }
+    ensures within { let n = sum (values weights.now) in
+        MatchBool result (n ≤ budget) (budget < n) }
     ensures ordered { IsOrdered nat_cmp weights.now }
 {
     let weighed = weights.values();
@@ -98,8 +93,7 @@ fn counts_after(
     reading: &DatagramReading,
 ) -> Result<Counts, AllocError>
     ensures { (s : ReadSo domains.now domain reading.now) → KeepsKnown known.now s.history
-        → IfOk result (λ counts. (id : ℕ) → get nat_cmp counts id
-        ≡ option_map fields_of (known_in s.given.domains domain id)) }
+        → IfOk result (λ counts. Holds counts (fields_by (known_in s.given.domains domain))) }
 {
     let mut counts = BTreeMap::new(alloc);
     count_if(known.withdrawn.get(&domain), &mut counts)?;
@@ -111,8 +105,7 @@ fn counts_after(
 
 // What each domain counts, with another one or in the place of what it did.
 fn with_weight(weights: &Weights, domain: u32, weight: u64) -> Result<Weights, AllocError>
-    ensures { IfOk result (λ after. (q : ℕ) → get nat_cmp after q
-        ≡ (if q == domain then Some weight else get nat_cmp weights.now q)) }
+    ensures { IfOk result (λ after. PutsAt weights.now after domain (λ _. Some weight)) }
 {
     let mut after = weights.clone()?;
     after.insert(domain, weight)?;

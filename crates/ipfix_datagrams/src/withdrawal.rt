@@ -5,6 +5,7 @@ ghost use Rattle.byteorder.specs.Endian.{big_bytes};
 ghost use Rattle.ipfix_wire.specs.SetHeader.{set_octets};
 ghost use Rattle.ipfix_message.specs.Domains.{message_header};
 ghost use Rattle.ipfix_message.specs.WrittenTemplates.{set_id_of};
+ghost use Rattle.ipfix_datagrams.specs.Entries.{Gains};
 ghost use Rattle.ipfix_datagrams.specs.Withdrawals.{kind_withdrawn, withdrawal_header, withdrawal_message, withdrawal_record, withdrawal_sets};
 ghost use Rattle.ipfix_datagrams.specs.declared.withdrawal.TheConstants.{MOST_WITHDRAWN};
 
@@ -38,7 +39,7 @@ fn set_id(template: WithdrawnTemplate) -> u16
 
 // Appends a template record without fields.
 fn append_record(id: u16, out: &mut Vec<u8>) -> Result<(), AllocError>
-    ensures { OnOk result (out.new.items ≡ out.old.items ++ withdrawal_record id) }
+    ensures { OnOk result (Gains out.old out.new (withdrawal_record id)) }
 {
     let mut octets = [0; 2];
     BigEndian::write_u16(&mut octets, id);
@@ -49,8 +50,7 @@ fn append_record(id: u16, out: &mut Vec<u8>) -> Result<(), AllocError>
 
 // Appends a set of this record alone.
 fn append_set(set_id: u16, id: u16, out: &mut Vec<u8>) -> Result<(), AllocError>
-    ensures { OnOk result (out.new.items
-        ≡ out.old.items ++ (set_octets set_id 4 ++ withdrawal_record id)) }
+    ensures { OnOk result (Gains out.old out.new (set_octets set_id 4 ++ withdrawal_record id)) }
 {
     write_set(set_id, RECORD_LENGTH as u16, out)?;
     append_record(id, out)
@@ -58,7 +58,7 @@ fn append_set(set_id: u16, id: u16, out: &mut Vec<u8>) -> Result<(), AllocError>
 
 // Appends a set for each template.
 fn append_sets(templates: &[WithdrawnTemplate], out: &mut Vec<u8>) -> Result<(), AllocError>
-    ensures { OnOk result (out.new.items ≡ out.old.items ++ withdrawal_sets templates.now) }
+    ensures { OnOk result (Gains out.old out.new (withdrawal_sets templates.now)) }
 {
     for template in templates {
         append_set(set_id(*template), template.id, out)?;
@@ -74,8 +74,7 @@ pub fn append_withdrawals(
     out: &mut Vec<u8>,
 ) -> Result<(), AllocError>
     requires { length templates.now ≤ MOST_WITHDRAWN }
-    ensures octets { OnOk result
-        (out.new.items ≡ out.old.items ++ withdrawal_message header.now templates.now) }
+    ensures octets { OnOk result (Gains out.old out.new (withdrawal_message header.now templates.now)) }
     ensures header { OnOk result (message_header (withdrawal_message header.now templates.now)
         ≡ Ok (withdrawal_header header.now templates.now)) }
 {

@@ -1,11 +1,8 @@
 //! Withdrawing templates: they are in force no more (RFC 7011, section 8.1).
 
-ghost use Rattle.std.specs.Prelude.{◌≡◌, ℕ, true, All};
-ghost use Rattle.ipfix_message.specs.Alike.{knows};
-ghost use Rattle.ipfix_message.specs.Domains.{History};
-ghost use Rattle.ipfix_datagrams.specs.Datagrams.{Represents, with_withdrawn, with_one_withdrawn};
+ghost use Rattle.std.specs.Prelude.{[], ◌∷◌, All};
+ghost use Rattle.ipfix_datagrams.specs.Attempts.{WithdrawsIn};
 ghost use Rattle.ipfix_datagrams.specs.Withdrawals.{HasTemplateId};
-ghost use Rattle.ipfix_datagrams.specs.Attempts.{MayWithdraw, OrOutOfMemory};
 
 use crate::withdrawal::append_withdrawals;
 use crate::withdrawn_template::WithdrawnTemplate;
@@ -22,9 +19,7 @@ fn withdraw(
     message: &mut Vec<u8>,
 ) -> Result<(), MessageFault>
     requires { HasTemplateId template }
-    ensures { (ds : History) → Represents domains.old ds → knows ds header.now.domain ≡ true
-        → OrOutOfMemory result
-        (λ _. Represents domains.new (with_one_withdrawn ds header.now.domain template)) }
+    ensures { WithdrawsIn result domains.old domains.new header.now.domain (template ∷ []) }
 {
     message.clear();
     if append_withdrawals(header, &[template], message).is_err() {
@@ -43,9 +38,7 @@ pub fn withdraw_all(
     templates: &[WithdrawnTemplate],
 ) -> Result<(), MessageFault>
     requires { All HasTemplateId templates.now }
-    ensures { (ds : History) → Represents domains.old ds
-        → MayWithdraw ds header.now.domain templates.now → OrOutOfMemory result
-        (λ _. Represents domains.new (with_withdrawn ds header.now.domain templates.now)) }
+    ensures { WithdrawsIn result domains.old domains.new header.now.domain templates.now }
 {
     let mut message = Vec::new(alloc);
     for template in templates {

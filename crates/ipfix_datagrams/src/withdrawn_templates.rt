@@ -1,11 +1,11 @@
 //! The templates of a peer that were withdrawn in its files, and that are known over UDP.
 
-ghost use Rattle.std.specs.Prelude.{◌≡◌, ◌==◌, ℕ, OnOk, if◌then◌else◌, is_some, None, option_copied};
-ghost use Rattle.std.specs.Option.{option_or};
+ghost use Rattle.std.specs.Prelude.{◌≡◌, ℕ, OnOk, is_some, None};
 ghost use Rattle.std.specs.BTreeMap.{get};
 ghost use Rattle.std.specs.Ordering.{nat_cmp};
-ghost use Rattle.ipfix_datagrams.specs.Attempts.{with_ended};
-ghost use Rattle.ipfix_datagrams.specs.Datagrams.{KeepsKnown, KeepsWithdrawn, WeighAfter, template_at, template_in};
+ghost use Rattle.ipfix_datagrams.specs.Attempts.{PutsEnded};
+ghost use Rattle.ipfix_datagrams.specs.Datagrams.{KeepsKnown, KeepsWithdrawn, WeighAfter, template_at, template_of, unless_some};
+ghost use Rattle.ipfix_datagrams.specs.Entries.{Holds, PutsAt, PutsIn};
 ghost use Rattle.ipfix_datagrams.specs.Late.{KeepsAfter};
 ghost use Rattle.ipfix_datagrams.specs.Readings.{ReadSo};
 
@@ -24,7 +24,7 @@ pub type WithdrawnTemplates = BTreeMap<u32, Templates>;
 
 /// Whether an id has a template.
 pub fn has_id(templates: Option<&Templates>, id: u16) -> bool
-    ensures { result ≡ is_some (template_in (option_copied templates.entry) id) }
+    ensures { result ≡ is_some (template_of templates.entry id) }
 {
     match templates {
         Some(templates) => templates.contains_key(&id),
@@ -38,9 +38,7 @@ fn put_ended(
     after: Option<&Templates>,
     kept: &mut Templates,
 ) -> Result<(), AllocError>
-    ensures { OnOk result ((q : ℕ) → get nat_cmp kept.new q ≡ with_ended
-        (template_in (option_copied after.entry) q) (get nat_cmp ended.now q)
-        (get nat_cmp kept.old q)) }
+    ensures { OnOk result (PutsEnded kept.old kept.new after.entry (get nat_cmp ended.now)) }
 {
     for id in ended.keys() {
         if !has_id(after, *id) {
@@ -52,9 +50,7 @@ fn put_ended(
 
 // Puts a template among others.
 fn put_one(ended: &Templates, id: u16, kept: &mut Templates) -> Result<(), AllocError>
-    ensures { OnOk result ((q : ℕ) → get nat_cmp kept.new q
-        ≡ (if q == id then option_or (get nat_cmp ended.now q) (get nat_cmp kept.old q)
-        else get nat_cmp kept.old q)) }
+    ensures { OnOk result (PutsAt kept.old kept.new id (get nat_cmp ended.now)) }
 {
     let Some(known) = ended.get(&id) else {
         return Ok(());
@@ -69,9 +65,7 @@ fn put_before(
     after: Option<&Templates>,
     kept: &mut Templates,
 ) -> Result<(), AllocError>
-    ensures { OnOk result ((q : ℕ) → get nat_cmp kept.new q ≡ with_ended
-        (template_in (option_copied after.entry) q) (template_in (option_copied before.entry) q)
-        (get nat_cmp kept.old q)) }
+    ensures { OnOk result (PutsEnded kept.old kept.new after.entry (template_of before.entry)) }
 {
     match before {
         Some(before) => put_ended(before, after, kept),
@@ -81,18 +75,15 @@ fn put_before(
 
 // Leaves only those that are not in force.
 fn drop_known(after: Option<&Templates>, kept: &mut Templates)
-    ensures { (q : ℕ) → get nat_cmp kept.new q
-        ≡ (if is_some (template_in (option_copied after.entry) q) then None
-        else get nat_cmp kept.old q) }
+    ensures { Holds kept.new (λ q. unless_some (template_of after.entry q) (get nat_cmp kept.old q)) }
 {
     kept.retain(|id, _| !has_id(after, *id));
 }
 
 // Those of a domain, which are taken out.
 fn take_out(alloc: Global, withdrawn: &mut WithdrawnTemplates, domain: u32) -> Templates
-    ensures kept { (id : ℕ) → get nat_cmp result id ≡ template_at withdrawn.old domain id }
-    ensures others { (q id : ℕ) → template_at withdrawn.new q id
-        ≡ (if q == domain then None else template_at withdrawn.old q id) }
+    ensures kept { Holds result (template_at withdrawn.old domain) }
+    ensures others { PutsIn withdrawn.old withdrawn.new domain (λ _. None) }
 {
     match withdrawn.remove(&domain) {
         Some(templates) => templates,
@@ -107,8 +98,7 @@ fn put_back(
     domain: u32,
 ) -> Result<(), AllocError>
     requires { (id : ℕ) → template_at withdrawn.old domain id ≡ None }
-    ensures { OnOk result ((q id : ℕ) → template_at withdrawn.new q id
-        ≡ (if q == domain then get nat_cmp templates id else template_at withdrawn.old q id)) }
+    ensures { OnOk result (PutsIn withdrawn.old withdrawn.new domain (get nat_cmp templates)) }
 {
     if templates.is_empty() {
         return Ok(());

@@ -1,12 +1,12 @@
 //! A datagram that comes late doesn't replace a template that was sent after it, and its data sets aren't read under that (RFC 7011,
 //! section 8.2).
 
-ghost use Rattle.std.specs.Prelude.{◌≡◌, ◌==◌, ◌||◌, ◌&&◌, ℕ, Ok, IfOk, OnOk, MatchResult, option_copied};
+ghost use Rattle.std.specs.Prelude.{◌≡◌, ◌==◌, ◌||◌, ◌&&◌, Ok, IfErr, IfOk, OnOk};
 ghost use Rattle.std.specs.List.{list_any};
 ghost use Rattle.ipfix_message.specs.Domains.{History, message_header};
 ghost use Rattle.ipfix_datagrams.specs.Datagrams.{IfOf, barred_in};
-ghost use Rattle.ipfix_datagrams.specs.Late as late;
-ghost use Rattle.ipfix_datagrams.specs.Late.{FailsLate, IsReadLate, time_in, withheld_from};
+ghost use Rattle.ipfix_datagrams.specs.Entries.{AlsoLists};
+ghost use Rattle.ipfix_datagrams.specs.Late.{FailsLate, IsReadLate, later_in, time_of, withheld_from};
 
 use crate::changes::changed;
 use crate::data_sets::set_ids;
@@ -21,7 +21,7 @@ use std::alloc::{AllocError, Global};
 
 // Whether the template of an id was sent after a datagram, and taken at most so many seconds before it.
 fn is_later(times: Option<&Times>, id: u16, at: &Moment, reorder: u64) -> bool
-    ensures { result ≡ late.is_later reorder at.now (time_in (option_copied times.entry) id) }
+    ensures { result ≡ later_in reorder at.now (time_of times.entry) id }
 {
     let Some(times) = times else {
         return false;
@@ -40,8 +40,7 @@ fn either(one: bool, other: bool) -> bool
 
 // Whether that is so of one of these ids.
 fn has_later(ids: &[u16], times: Option<&Times>, at: &Moment, reorder: u64) -> bool
-    ensures { result ≡ list_any
-        (λ id. late.is_later reorder at.now (time_in (option_copied times.entry) id)) ids.now }
+    ensures { result ≡ list_any (later_in reorder at.now (time_of times.entry)) ids.now }
 {
     let mut found = false;
     for id in ids {
@@ -58,9 +57,8 @@ fn put_later(
     reorder: u64,
     all: &mut Vec<u16>,
 ) -> Result<(), AllocError>
-    ensures { OnOk result ((q : ℕ) → list_any (λ b. b == q) all.new.items
-        ≡ (list_any (λ b. b == q) all.old.items
-        || (id == q && late.is_later reorder at.now (time_in (option_copied times.entry) q)))) }
+    ensures { let is_later = later_in reorder at.now (time_of times.entry) in
+        OnOk result (AlsoLists all.old.items all.new.items (λ q. id == q && is_later q)) }
 {
     if is_later(times, id, at, reorder) {
         return put_id(id, all);
@@ -77,9 +75,9 @@ fn with_later(
     at: &Moment,
     reorder: u64,
 ) -> Result<Vec<u16>, AllocError>
-    ensures { IfOk result (λ all. (q : ℕ) → list_any (λ b. b == q) all.items
-        ≡ (list_any (λ b. b == q) barred.now || (list_any (λ id. q == id) ids.now
-        && late.is_later reorder at.now (time_in (option_copied times.entry) q)))) }
+    ensures { let is_later = later_in reorder at.now (time_of times.entry) in
+        IfOk result (λ all. AlsoLists barred.now all.items
+        (λ q. list_any (λ id. q == id) ids.now && is_later q)) }
 {
     let mut all = Vec::new(alloc);
     all.extend_from_slice(barred)?;
@@ -101,10 +99,11 @@ pub fn barred_late(
     datagram: &[u8],
 ) -> Result<Vec<u16>, MessageFault>
     requires { message_header datagram.now ≡ Ok header.now }
-    ensures { let d = header.now.domain in let withheld = withheld_from known.now header.now second in
-        (ds : History) → IfOf domains.now known.now ds (MatchResult result
-        (λ ids. IsReadLate withheld (barred_in known.now.barred d) ds datagram.now d ids.items)
-        (FailsLate withheld ds datagram.now d)) }
+    ensures read { let h = header.now in (ds : History) → IfOf domains.now known.now ds
+        (IfOk result (λ ids. IsReadLate (withheld_from known.now h second)
+        (barred_in known.now.barred h.domain) ds datagram.now h.domain ids.items)) }
+    ensures refused { let h = header.now in (ds : History) → IfOf domains.now known.now ds
+        (IfErr result (FailsLate (withheld_from known.now h second) ds datagram.now h.domain)) }
 {
     let sets = after_header(header, datagram);
     let definitions = definitions_of(alloc, sets)?;

@@ -3,4 +3,3 @@ pub mod FieldTexts
 mod InFull
 mod Joined
 mod Kept
-mod Limited

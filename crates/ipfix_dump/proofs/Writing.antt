@@ -9,7 +9,7 @@ use Rattle.ipfix_session.specs.declared.report.SessionReport.{SessionReport}
 use Rattle.ipfix_session.specs.Sources.{SourceView}
 use Rattle.ipfix_session.specs.Given.{Given, records_in}
 use Rattle.ipfix_dump.specs.Dumped.{Dumps, DumpsAll, limits_with}
-use Rattle.ipfix_dump.proofs.Limited.{given_all_within}
+use Rattle.ipfix_session.proofs.Unlimited.{given_all_within}
 
 module _ {K N : Type 0} (line_of : K → DataRecord → List ℕ) (name : K → N) (contents : K → Option (List ℕ)) where
   -- a record's line is appended to the same writer, and the lines of others stay as they were

@@ -19,3 +19,4 @@ pub mod Walks
 mod WholeTexts
 pub mod TemplateLists
 mod Limited
+pub mod Unlimited

@@ -60,9 +60,8 @@ pub fn goes_on()
 /// those after a fault change nothing.
 pub fn pieces_are_one<K: Sink>()
     ensures both { (limit : Option ℕ) (text piece more : List ℕ) (r : Result (Unit {0}) SessionFault)
-        (before after : K) (last : State)
-        → FeedsInTurn K.seen limit text piece more r before after last
-        → Feeds K.seen limit r text (piece ++ more) before after last }
+        (sink fed : K) (last : State) → FeedsInTurn K.seen limit text piece more r sink fed last
+        → Feeds K.seen limit r text (piece ++ more) sink fed last }
     ensures fault { (limit : Option ℕ) (text piece more : List ℕ) (last : State) (before after : K)
         (f : SessionFault) → Feeds K.seen limit (Err f) text piece before after last
         → Feeds K.seen limit (Err f) text (piece ++ more) before after last }

@@ -27,7 +27,7 @@ use Rattle.laws_recordings.proofs.FlowBags.{SameFlows, table_flows, weighed as f
 -- the files of a session give the flow records of its text
 gives_records : (limit : Option ℕ) (text : List ℕ) (files : List (List ℕ)) → IsRecordedIn limit text files → filter is_flow (flat_map records_of files) ≡ filter is_flow (records_within limit text)
 gives_records limit text files r =
-    let given = files_give (IsTold r.session) r.progress r.after r.start r.now r.holds r.seen r.none_before in
+    let given = files_give (IsTold r.session) r.progress r.after r.seen.start r.now r.holds r.seen.seen r.seen.none in
     ap (λ (fs : List (List ℕ)). filter is_flow (flat_map records_of fs)) r.are ∙ all_flows r.progress.limit (contents_of r.now) r.progress.text given
     ∙ ap (λ (w : List ℕ). filter is_flow (records_within r.progress.limit w)) (sym r.text_is) ∙ ap (λ (l : Option ℕ). filter is_flow (records_within l text)) r.limit_is
 

@@ -4,7 +4,7 @@ use Rattle.std.specs.List.{AllZip}
 use Rattle.ipfix_message.specs.declared.record.DataRecord.{DataRecord}
 use Rattle.ipfix_session.specs.Given.{records_of, records_within}
 use Rattle.ipfix_session.specs.Sources.{SourceView}
-use Rattle.recording_files.specs.Files.{Contents, FilesView, AreSeen, all_of}
+use Rattle.recording_files.specs.Files.{AreAllSeen, Contents, FilesView, all_of}
 use Rattle.recording_files.specs.Sessions.{Progress, HoldsAll, IsTold}
 use Rattle.recording_files.specs.declared.recorded_session.RecordedSession.{RecordedSession}
 use Rattle.flow_table.specs.Plans.{PlanValue}
@@ -23,10 +23,8 @@ pub record IsRecordedIn (limit : Option ℕ) (text : List ℕ) (files : List (Li
   pub text_is : text ≡ progress.text
   pub after : FilesView
   pub holds : HoldsAll (IsTold session) progress after
-  pub start : Contents
   pub now : Contents
-  pub seen : AreSeen progress.first after start now
-  pub none_before : start.finished ≡ []
+  pub seen : AreAllSeen progress.first after now
   pub are : files ≡ all_of now
 
 -- the files of some sessions, or of some periods

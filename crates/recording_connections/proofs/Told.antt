@@ -3,20 +3,12 @@ use Rattle.std.proofs.Common.{◌≡◌, ℕ, List, ◌++◌, Option, Some, None
 use Rattle.std.proofs.KnownBytes.{Appends-trans}
 use Rattle.std.specs.Prelude.{IfSome}
 use Rattle.std.specs.Result.{result_and}
-use Rattle.std.specs.declared.alloc.AllocError.{AllocError}
-use Rattle.std.specs.declared.io.ErrorKind.{ErrorKind}
-use Rattle.std.specs.declared.net.socket_addr.SocketAddr.{SocketAddr}
-use Rattle.ipfix_session.specs.Sources.{SourceView, one_more}
+use Rattle.ipfix_session.specs.Sources.{one_more}
 use Rattle.ipfix_session.specs.declared.session_limits.SessionLimits.{SessionLimits}
-use Rattle.recording_files.specs.Files.{FilesView}
-use Rattle.recording_files.specs.Periods.{ClockView}
-use Rattle.recording_files.specs.declared.file_report.FileReport.{FileReport}
-use Rattle.recording_folder.specs.declared.session_files.FilesEnd.{FilesEnd}
 use Rattle.report_writing.specs.Writing.{Tells}
 use Rattle.report_writing.specs.declared.verbosity.Verbosity.{Verbosity}
-use Rattle.recording_connections.specs.Serving.{IsServed}
+use Rattle.recording_connections.specs.Serving.{IsServed, MakesRecordings, Views}
 use Rattle.recording_connections.specs.declared.connection.Connection.{Connection}
-use Rattle.recording_connections.specs.declared.place.Recording.{Recording}
 use Rattle.recording_connections.specs.declared.shared_counts.SessionNumber.{SessionNumber}
 use Rattle.recording_connections.specs.declared.shared_counts.SharedCounts.{SharedCounts}
 
@@ -46,8 +38,9 @@ module _ {W A E : Type 0} (contents : W → Option (List ℕ)) (failed : W → T
   pub told-and : (first second result : Result A E) → result ≡ result_and first second → Tells contents failed old mid first xs → Tells contents failed mid new second ys → Tells contents failed old new result (xs ++ ys)
   told-and first second result is one two = subst (λ (r : Result A E). Tells contents failed old new r (xs ++ ys)) (sym is) (both-told first second one two)
 
-module _ {S F C : Type 0} (seen : S → SourceView) (failure : S → Option ErrorKind) (view : F → FilesView) (asked : C → ClockView) (finishes : F → FileReport → FilesEnd → Type 0) (makes : SocketAddr → ℕ → Result (Recording F C) AllocError → Type 0) where
-  pub served-told : (before after : Connection S) (number : ℕ) (limits : SessionLimits) (verbosity : Verbosity) (tells tells' : List ℕ → Type 0) → ((lines : List ℕ) → tells lines → tells' lines) → IsServed seen failure view asked finishes makes before after number limits verbosity tells → IsServed seen failure view asked finishes makes before after number limits verbosity tells'
+module _ {S F C : Type 0} (sees : Views S F C) (makes : MakesRecordings F C) where
+  pub served-told : (before after : Connection S) (number : ℕ) (limits : SessionLimits) (verbosity : Verbosity) (tells tells' : List ℕ → Type 0) → ((lines : List ℕ) → tells lines → tells' lines)
+      → IsServed sees makes before after number limits verbosity tells → IsServed sees makes before after number limits verbosity tells'
   served-told before after number limits verbosity tells tells' more (inl (recording, made, was)) = inl (
     recording,
     made,

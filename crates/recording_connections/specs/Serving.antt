@@ -26,6 +26,7 @@ use Rattle.report_writing.specs.declared.verbosity.Verbosity.{Verbosity}
 use Rattle.recording_connections.specs.declared.connection.Connection.{Connection}
 use Rattle.recording_connections.specs.declared.place.Recording.{Recording}
 use Rattle.recording_connections.specs.declared.recorder_run.RecordOrder.{RecordOrder}
+use Rattle.recording_connections.specs.declared.running.ConnectionRecorder.{ConnectionRecorder}
 
 abbrev pub fault_line : SocketAddr → RecordFault → List ℕ
 fault_line peer fault = peer_fault_line peer (number_of fault) (name_of fault)
@@ -83,26 +84,45 @@ connection_lines verbosity peer failure session end = silence_lines peer failure
 abbrev pub limits_of : RecordOrder → SessionLimits
 limits_of order = record { reads = READ_LIMIT; templates = Some order.templates }
 
+-- what contracts see of a session's source, of what that answers of a failed read, of its files and its clock, and of how the last file is
+-- finished
+pub record Views (S F C : Type 0) : Type 1 where
+  pub seen : S → SourceView
+  pub failure : S → Option ErrorKind
+  pub files : F → FilesView
+  pub asked : C → ClockView
+  pub finishes : F → FileReport → FilesEnd → Type 0
+
+abbrev pub views : {S F C : Type 0} → (S → SourceView) → (S → Option ErrorKind) → (F → FilesView) → (C → ClockView) → (F → FileReport → FilesEnd → Type 0) → Views S F C
+views seen failure files asked finishes = record { seen = seen; failure = failure; files = files; asked = asked; finishes = finishes }
+
 -- the session of a source was recorded within limits in the files of a recording, by its clock; the last of them was finished with
 -- its report, and its lines were told, with what the source answers of its failure
-pub record IsRecorded {S F C : Type 0} (seen : S → SourceView) (failure : S → Option ErrorKind) (view : F → FilesView) (asked : C → ClockView)
-    (finishes : F → FileReport → FilesEnd → Type 0)
-    (source after : S) (recording : Recording F C) (limits : SessionLimits) (verbosity : Verbosity) (peer : SocketAddr) (tells : List ℕ → Type 0) : Type 0 where
+pub record IsRecorded {S F C : Type 0} (sees : Views S F C) (source after : S) (recording : Recording F C) (limits : SessionLimits) (verbosity : Verbosity) (peer : SocketAddr)
+    (tells : List ℕ → Type 0) : Type 0 where
   pub session : RecordedSession
   pub written : F
   pub asked_last : C
-  pub recorded : RecordsSession seen view asked limits source after recording.files written recording.clock asked_last session
+  pub recorded : RecordsSession sees.seen sees.files sees.asked limits source after recording.files written recording.clock asked_last session
   pub end : FilesEnd
-  pub is_end : finishes written session.last end
+  pub is_end : sees.finishes written session.last end
   pub said : Option ErrorKind
-  pub is_said : IfSome said (λ kind. failure after ≡ Some kind)
+  pub is_said : IfSome said (λ kind. sees.failure after ≡ Some kind)
   pub told : tells (connection_lines verbosity peer (read_failure session.ended said) session end)
+
+-- the files and the clock that a place makes for a session of a peer with a number; or it refuses them
+abbrev pub MakesRecordings : Type 0 → Type 0 → Type 1
+MakesRecordings F C = SocketAddr → ℕ → Result (Recording F C) AllocError → Type 0
 
 -- the same of a connection, in the files that a place made for a session of this number; or the place refused them: then that is
 -- its fault, and nothing of the connection was read
-abbrev pub IsServed : {S F C : Type 0} → (S → SourceView) → (S → Option ErrorKind) → (F → FilesView) → (C → ClockView) → (F → FileReport → FilesEnd → Type 0)
-    → (SocketAddr → ℕ → Result (Recording F C) AllocError → Type 0) → Connection S → Connection S → ℕ → SessionLimits → Verbosity → (List ℕ → Type 0) → Type 0
-IsServed {S} {F} {C} seen failure view asked finishes makes before after number limits verbosity tells =
-    ((recording : Recording F C) × makes before.peer number (Ok recording)
-    × IsRecorded seen failure view asked finishes before.source after.source recording limits verbosity before.peer tells)
+abbrev pub IsServed : {S F C : Type 0} → Views S F C → MakesRecordings F C → Connection S → Connection S → ℕ → SessionLimits → Verbosity → (List ℕ → Type 0) → Type 0
+IsServed {S} {F} {C} sees makes before after number limits verbosity tells =
+    ((recording : Recording F C) × makes before.peer number (Ok recording) × IsRecorded sees before.source after.source recording limits verbosity before.peer tells)
     ⊎ ((lack : AllocError) × makes before.peer number (Err lack) × (after ≡ before) × tells (fault_line before.peer (faults.Message OutOfMemory)))
+
+-- by a recorder: at its place, and as its order says; with the lines of its beginning and its end
+abbrev pub IsServedBy : {S F C L P : Type 0} → Views S F C → (P → MakesRecordings F C) → ConnectionRecorder L P → ℕ → Connection S → Connection S
+    → (Verbosity → SocketAddr → List ℕ → Type 0) → Type 0
+IsServedBy sees makes recorder number before after tells =
+    let order = recorder.order.now in IsServed sees (makes recorder.place) before after number (limits_of order) order.verbosity (tells order.verbosity before.peer)

@@ -5,7 +5,7 @@ ghost use Rattle.std.specs.Prelude.{◌≡◌, ◌==◌, ◌+◌, min, if◌then
 ghost use Rattle.ipfix_session.specs.Sources.{one_more};
 ghost use Rattle.recording_connections.specs.Refusals.{MaySend};
 ghost use Rattle.recording_connections.specs.ConnectionLines.{TellsEnds};
-ghost use Rattle.recording_connections.specs.Serving.{IsServed, limits_of};
+ghost use Rattle.recording_connections.specs.Serving.{IsServedBy, views};
 
 use crate::connection::{Connection, ConnectionSource};
 use crate::connection_lines::write_event;
@@ -210,10 +210,8 @@ fn serve<
 ) -> io::Result<()>
     ensures unread { session ≡ None → connection.new ≡ connection.old }
     ensures untold { session ≡ None → out.new ≡ out.old }
-    ensures served { IfSome session (λ s. IsServed S.seen S.failure F.seen C.asked F.finishes
-        (P.makes recorder.now.place) connection.old connection.new s.number
-        (limits_of recorder.now.order.now) recorder.now.order.now.verbosity
-        (TellsEnds W.contents W.failed out.old out.new result recorder.now.order.now.verbosity connection.old.peer)) }
+    ensures served { IfSome session (λ s. IsServedBy (views S.seen S.failure F.seen C.asked F.finishes) P.makes recorder.now
+        s.number connection.old connection.new (TellsEnds W.contents W.failed out.old out.new result)) }
 {
     match session {
         Some(number) => serve_session(recorder, connection, number, out),
@@ -234,11 +232,8 @@ fn serve_session<
     number: SessionNumber,
     out: &mut W,
 ) -> io::Result<()>
-    ensures { IsServed S.seen S.failure F.seen C.asked F.finishes (P.makes recorder.now.place)
-        connection.old connection.new number.number (limits_of recorder.now.order.now)
-        recorder.now.order.now.verbosity
-        (TellsEnds W.contents W.failed out.old out.new result recorder.now.order.now.verbosity
-        connection.old.peer) }
+    ensures { IsServedBy (views S.seen S.failure F.seen C.asked F.finishes) P.makes recorder.now number.number
+        connection.old connection.new (TellsEnds W.contents W.failed out.old out.new result) }
 {
     let peer = connection.peer;
     let told = write_event(recorder.order.verbosity, peer, "connected", out);

@@ -3,7 +3,7 @@
 ghost use Rattle.std.specs.Prelude.{◌≡◌, ◌++◌};
 ghost use Rattle.recording_files.specs.Files.{IsEmpty};
 ghost use Rattle.report_writing.specs.Writing.{Tells};
-ghost use Rattle.recording_connections.specs.Serving.{connection_lines, end_lines, fault_line, fault_lines, finish_lines, IsRecorded, IsServed, not_written_line, read_failure as failure_by, read_lines, reason_line, session_lines, silence_lines};
+ghost use Rattle.recording_connections.specs.Serving.{connection_lines, end_lines, fault_line, fault_lines, finish_lines, IsRecorded, IsServed, not_written_line, read_failure as failure_by, read_lines, reason_line, session_lines, silence_lines, views};
 
 use crate::connection::Connection;
 use crate::place::{Recording, RecordingFiles, SessionPlace};
@@ -36,7 +36,7 @@ pub fn record_connection<
     verbosity: Verbosity,
     out: &mut W,
 ) -> io::Result<()>
-    ensures { IsServed S.seen S.failure F.seen C.asked F.finishes (P.makes place.now)
+    ensures { IsServed (views S.seen S.failure F.seen C.asked F.finishes) (P.makes place.now)
         connection.old connection.new number.number limits verbosity
         (Tells W.contents W.failed out.old out.new result) }
 {
@@ -64,8 +64,8 @@ fn record_source<S: Source, F: RecordingFiles, C: PeriodClock + Drop, W: WriteLi
     out: &mut W,
 ) -> io::Result<()>
     requires { IsEmpty (F.seen recording.files).contents }
-    ensures { IsRecorded S.seen S.failure F.seen C.asked F.finishes source.old source.new recording
-        limits verbosity peer (Tells W.contents W.failed out.old out.new result) }
+    ensures { IsRecorded (views S.seen S.failure F.seen C.asked F.finishes) source.old source.new
+        recording limits verbosity peer (Tells W.contents W.failed out.old out.new result) }
 {
     let Recording {
         mut files,

@@ -7,7 +7,7 @@ use Rattle.recording_files.specs.Files.{FilesView}
 use Rattle.recording_files.specs.Periods.{ClockView}
 use Rattle.recording_files.specs.declared.file_report.FileReport.{FileReport}
 use Rattle.recording_folder.specs.declared.session_files.FilesEnd.{FilesEnd}
-use Rattle.recording_peers.specs.declared.session_limits.SessionLimits.{SessionLimits}
+use Rattle.recording_peers.specs.declared.peer_limits.PeerLimits.{PeerLimits}
 use Rattle.recording_peers.specs.Happenings.{Happening, DatagramCame, SecondBegan}
 use Rattle.recording_peers.specs.Kept.{IsSession}
 use Rattle.recording_peers.specs.Runs.{IsTaken, happened_by, happened_in}
@@ -66,7 +66,7 @@ second_then second None all h = record {
 }
 second_then second (Some hs) all h = came_then hs all (SecondBegan second ∷ []) h
 
-module _ {F : Type 0} (seen : F → FilesView) (peer : SocketAddr) (limits : SessionLimits) where
+module _ {F : Type 0} (seen : F → FilesView) (peer : SocketAddr) (limits : PeerLimits) where
   abbrev Is : PeerState F → List Happening → Type 0
   Is k hs = IsSession seen k limits hs
 
@@ -180,7 +180,7 @@ module _ {F : Type 0} (seen : F → FilesView) (peer : SocketAddr) (limits : Ses
 
 -- ---- rounds
 
-module _ {F P W : Type 0} (seen : F → FilesView) (finishes : F → FileReport → FilesEnd → Type 0) (made_for : F → SocketAddr → Type 0) (asked : P → ClockView) (laws : SessionsStand seen made_for) (peer : SocketAddr) (limits : SessionLimits) where
+module _ {F P W : Type 0} (seen : F → FilesView) (finishes : F → FileReport → FilesEnd → Type 0) (made_for : F → SocketAddr → Type 0) (asked : P → ClockView) (laws : SessionsStand seen made_for) (peer : SocketAddr) (limits : PeerLimits) where
   taken_all : (own : SocketAddr → List Happening) (given : Result Arrival NoDatagram) (now : ℕ) (old new : DatagramTaker F P W) (lines : List ℕ) → old.peers.limits ≡ limits → HasAll seen peer limits own old.peers.kept.entries
       → TakesGiven seen finishes made_for asked given now old new lines → (IsKept peer old → IsKept peer new) → (own_datagram peer now given ≢ [] → IsKept peer new)
       → HasAll seen peer limits (own_then own (λ p. own_datagram p now given)) new.peers.kept.entries

@@ -7,7 +7,7 @@ use Rattle.recording_files.specs.Files.{FilesView}
 use Rattle.recording_files.specs.Periods.{ClockView}
 use Rattle.recording_files.specs.declared.file_report.FileReport.{FileReport}
 use Rattle.recording_folder.specs.declared.session_files.FilesEnd.{FilesEnd}
-use Rattle.recording_peers.specs.declared.session_limits.SessionLimits.{SessionLimits}
+use Rattle.recording_peers.specs.declared.peer_limits.PeerLimits.{PeerLimits}
 use Rattle.recording_peers.specs.Happenings.{Happening, DatagramCame}
 use Rattle.recording_peers.specs.Sessions.{StandFor}
 use Rattle.recording_peers.specs.Steps.{Records}
@@ -78,7 +78,7 @@ module _ {F P W : Type 0} (seen : F → FilesView) (finishes : F → FileReport 
 
 -- ---- what the sessions stand for
 
-module _ {F : Type 0} (seen : F → FilesView) (finishes : F → FileReport → FilesEnd → Type 0) (made_for : F → SocketAddr → Type 0) (laws : SessionsStand seen made_for) (limits : SessionLimits) where
+module _ {F : Type 0} (seen : F → FilesView) (finishes : F → FileReport → FilesEnd → Type 0) (made_for : F → SocketAddr → Type 0) (laws : SessionsStand seen made_for) (limits : PeerLimits) where
   kept_stand : (own : SocketAddr → List Happening) (is_over : Bool) (second : ℕ) (es after : List (SocketAddr × PeerState F)) (lines : List ℕ) → Stands seen limits own es → HadTurnsIf seen finishes is_over second es after lines
       → Stands seen limits (own_then own (λ p. begun is_over second)) after
   kept_stand own true second es after lines s t = turns_stand seen limits own finishes second true laws.turns es after lines s t
@@ -92,7 +92,7 @@ module _ {F : Type 0} (seen : F → FilesView) (finishes : F → FileReport → 
   sent_stand own false before after shared then from m now lines e s t =
       same_stand seen limits own _ before.kept.entries after.kept.entries (λ p. sym (append-nil (own p))) (ap (λ (k : Peers F). k.kept.entries) t.1) s
 
-module _ {F P W : Type 0} (seen : F → FilesView) (finishes : F → FileReport → FilesEnd → Type 0) (made_for : F → SocketAddr → Type 0) (asked : P → ClockView) (laws : SessionsStand seen made_for) (limits : SessionLimits) where
+module _ {F P W : Type 0} (seen : F → FilesView) (finishes : F → FileReport → FilesEnd → Type 0) (made_for : F → SocketAddr → Type 0) (asked : P → ClockView) (laws : SessionsStand seen made_for) (limits : PeerLimits) where
   taken_stand : (own : SocketAddr → List Happening) (given : Result Arrival NoDatagram) (now : ℕ) (old new : DatagramTaker F P W) (lines : List ℕ) → old.peers.limits ≡ limits → Stands seen limits own old.peers.kept.entries
       → TakesGiven seen finishes made_for asked given now old new lines → Stands seen limits (own_then own (λ p. own_datagram p now given)) new.peers.kept.entries
   taken_stand own (Ok a) now old new lines e s t = sent_stand seen finishes made_for laws limits own a.may_send old.peers new.peers old.unserved new.unserved a.peer a.octets now lines e s t.arrives.taken

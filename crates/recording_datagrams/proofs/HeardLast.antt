@@ -9,7 +9,7 @@ use Rattle.recording_files.specs.Periods.{ClockView}
 use Rattle.recording_files.specs.declared.file_report.FileReport.{FileReport}
 use Rattle.recording_folder.specs.declared.session_files.FilesEnd.{FilesEnd}
 use Rattle.recording_files.specs.declared.record_fault.RecordFault.{RecordFault}
-use Rattle.recording_peers.specs.declared.session_limits.SessionLimits.{SessionLimits}
+use Rattle.recording_peers.specs.declared.peer_limits.PeerLimits.{PeerLimits}
 use Rattle.recording_peers.specs.Steps.{Reception, Records, RecordsBy, first_by, kept_by}
 use Rattle.recording_peers.specs.Sessions.{went_in}
 use Rattle.recording_peers.specs.Table.{same_peer, of_peer, others_for, without}
@@ -91,7 +91,7 @@ module _ {F : Type 0} where
   turned (Err fault) second e new behind after h same o is = subst (λ (l : List (SocketAddr × PeerState F)). IsInOrder second l) (sym is) (later e.1.heard second behind h o)
 
 module _ {F : Type 0} (seen : F → FilesView) (finishes : F → FileReport → FilesEnd → Type 0) where
-  module _ (made_for : F → SocketAddr → Type 0) (limits : SessionLimits) (most : ℕ) (r : Reception F) (es after : List (SocketAddr × PeerState F)) where
+  module _ (made_for : F → SocketAddr → Type 0) (limits : PeerLimits) (most : ℕ) (r : Reception F) (es after : List (SocketAddr × PeerState F)) where
     records_by : (became : Became F) → IsInOrder r.second es → RecordsBy seen made_for limits became most r es after → IsInOrder r.second after
     records_by NoPlace o t = subst (λ (l : List (SocketAddr × PeerState F)). IsInOrder r.second l) (sym t.nothing.same) o
     records_by NoMemory o t = subst (λ (l : List (SocketAddr × PeerState F)). IsInOrder r.second l) (sym t.same) o

@@ -6,7 +6,7 @@ use Rattle.ipfix_message.specs.Domains.{message_header}
 use Rattle.ipfix_message.specs.declared.fault.MessageFault.{MessageFault}
 use Rattle.recording_files.specs.Files.{FilesView}
 use Rattle.recording_files.specs.declared.record_fault.RecordFault.{RecordFault}
-use Rattle.recording_peers.specs.declared.session_limits.SessionLimits.{SessionLimits}
+use Rattle.recording_peers.specs.declared.peer_limits.PeerLimits.{PeerLimits}
 use Rattle.recording_peers.specs.Calls.{Takes, TakesBy, TakesTurn}
 use Rattle.recording_peers.specs.Happenings.{Happening, DatagramCame, SecondBegan}
 use Rattle.recording_peers.specs.Kept.{IsSession}
@@ -25,11 +25,11 @@ use Rattle.recording_datagrams.specs.Standing.{IsHeard, came_among}
 -- ---- what the sessions of peers stand for, by the laws of theirs
 
 abbrev pub StandAfters : {F : Type 0} → (F → FilesView) → (F → SocketAddr → Type 0) → Type 0
-StandAfters {F} seen made_for = (limits : SessionLimits) (most : ℕ) (r : Reception F) (es after : List (SocketAddr × PeerState F)) (cs : PeerHappenings)
+StandAfters {F} seen made_for = (limits : PeerLimits) (most : ℕ) (r : Reception F) (es after : List (SocketAddr × PeerState F)) (cs : PeerHappenings)
     → StandFor seen limits es cs → Records seen made_for limits most r es after → StandAfter seen limits r after cs
 
 abbrev pub StandInTurns : {F : Type 0} → (F → FilesView) → Type 0
-StandInTurns {F} seen = (limits : SessionLimits) (second : ℕ) (is_over : Bool) (es after : List (SocketAddr × PeerState F)) (cs : PeerHappenings) (t : InTurn F)
+StandInTurns {F} seen = (limits : PeerLimits) (second : ℕ) (is_over : Bool) (es after : List (SocketAddr × PeerState F)) (cs : PeerHappenings) (t : InTurn F)
     → StandFor seen limits es cs → GoesOn seen second is_over es after t → StandAfterTurn seen limits second t after cs
 
 pub record SessionsStand {F : Type 0} (seen : F → FilesView) (made_for : F → SocketAddr → Type 0) : Type 0 where
@@ -76,7 +76,7 @@ module _ {F : Type 0} (seen : F → FilesView) where
   others_heard (Ok x) k r new es after cs p became e = absurd cc
   others_heard (Err fault) k r new es after cs p became e = subst (λ (l : List (SocketAddr × PeerState F)). Paired IsHeard l (others_for (went_in r) r.peer cs)) (sym e) (paired_others IsHeard (went_in r) r.peer es cs p)
 
-  module _ (made_for : F → SocketAddr → Type 0) (limits : SessionLimits) (most : ℕ) (r : Reception F) (es after : List (SocketAddr × PeerState F)) (cs : PeerHappenings) where
+  module _ (made_for : F → SocketAddr → Type 0) (limits : PeerLimits) (most : ℕ) (r : Reception F) (es after : List (SocketAddr × PeerState F)) (cs : PeerHappenings) where
     heard_by_became : (became : Became F) → r.became ≡ became → Paired IsHeard es cs → RecordsBy seen made_for limits became most r es after → Paired IsHeard after (happened_by became r cs)
     heard_by_became Taken is p t = kept_heard t.answer r t.new es after cs p (heard_now t.old t.new r.octets r.second t.answer (happened_to r.peer cs) t.takes) (sym is ∙ t.became) t.others
     heard_by_became (Ended k) is p t = others_heard t.answer k r t.new es after cs p (sym is ∙ t.became) t.others
@@ -106,17 +106,17 @@ module _ {F : Type 0} (seen : F → FilesView) where
     }
 
   -- by the answer
-  abbrev pub TurnsTo : SessionLimits → Result (Unit {0}) RecordFault → PeerState F → List Happening → Type 0
+  abbrev pub TurnsTo : PeerLimits → Result (Unit {0}) RecordFault → PeerState F → List Happening → Type 0
   TurnsTo limits (Ok x) new hs = IsSession seen new limits hs
   TurnsTo limits (Err fault) new hs = Unit {0}
 
   -- of one peer that is kept
-  turns_so : (limits : SessionLimits) (second : ℕ) (answer : Result (Unit {0}) RecordFault) (peer : SocketAddr) (new : PeerState F) (hs : List Happening) (c : SocketAddr × List Happening) → c ≡ (peer, hs)
+  turns_so : (limits : PeerLimits) (second : ℕ) (answer : Result (Unit {0}) RecordFault) (peer : SocketAddr) (new : PeerState F) (hs : List Happening) (c : SocketAddr × List Happening) → c ≡ (peer, hs)
       → StandInTurn seen limits second (ended_by answer new) (first_by answer peer new []) ((peer, hs) ∷ []) c → TurnsTo limits answer new (hs ++ SecondBegan second ∷ [])
   turns_so limits second (Ok x) peer new hs c is s = subst (λ (d : SocketAddr × List Happening). IsSession seen new limits (d.1 ++ SecondBegan second ∷ [])) is s.0.1
   turns_so limits second (Err fault) peer new hs c is s = tt
 
-  pub turned : (law : StandInTurns seen) (limits : SessionLimits) (second : ℕ) (is_over : Bool) (peer : SocketAddr) (old new : PeerState F) (turn : Turn) (hs : List Happening) → IsSession seen old limits hs → TakesTurn seen old new second is_over turn
+  pub turned : (law : StandInTurns seen) (limits : PeerLimits) (second : ℕ) (is_over : Bool) (peer : SocketAddr) (old new : PeerState F) (turn : Turn) (hs : List Happening) → IsSession seen old limits hs → TakesTurn seen old new second is_over turn
       → TurnsTo limits turn.answer new (hs ++ SecondBegan second ∷ [])
   turned law limits second is_over peer old new turn hs s t =
       let alone : InTurn F = record { peer = peer; refused = turn.refused; orders = turn.orders; resumed = turn.resumed; ended = ended_by turn.answer new } in

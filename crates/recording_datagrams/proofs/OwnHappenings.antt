@@ -8,7 +8,7 @@ use Rattle.recording_files.specs.Files.{FilesView}
 use Rattle.recording_files.specs.declared.file_report.FileReport.{FileReport}
 use Rattle.recording_folder.specs.declared.session_files.FilesEnd.{FilesEnd}
 use Rattle.recording_files.specs.declared.record_fault.RecordFault.{RecordFault}
-use Rattle.recording_peers.specs.declared.session_limits.SessionLimits.{SessionLimits}
+use Rattle.recording_peers.specs.declared.peer_limits.PeerLimits.{PeerLimits}
 use Rattle.recording_peers.specs.Happenings.{Happening, SecondBegan}
 use Rattle.recording_peers.specs.Kept.{IsSession}
 use Rattle.recording_peers.specs.Runs.{happened_by, happened_in}
@@ -212,7 +212,7 @@ last_same own all (c ∷ cs) e l = (record { before = l.0.before; are = sym (e c
 
 -- ---- after a datagram
 
-module _ {F : Type 0} (seen : F → FilesView) (limits : SessionLimits) (own : SocketAddr → List Happening) where
+module _ {F : Type 0} (seen : F → FilesView) (limits : PeerLimits) (own : SocketAddr → List Happening) where
   first_stands : (gone : Option SocketAddr) (from : SocketAddr) (h : Happening) (cs : PeerHappenings) → AreApart cs → HaveLast own cs → AreApart (with_happening gone cs from h) × HaveLast (own_with own from h) (with_happening gone cs from h)
   first_stands gone from h cs a l =
       let less = less_others own gone from cs a l in
@@ -243,7 +243,7 @@ module _ {F : Type 0} (seen : F → FilesView) (limits : SessionLimits) (own : S
       (a, last_of_others own r.peer (came_in r) cs (not_found r.peer cs none) l)
 
 -- the sessions of these peers stand for the last ones of their own, and each heard of its peer last as it says
-pub record Stands {F : Type 0} (seen : F → FilesView) (limits : SessionLimits) (own : SocketAddr → List Happening) (es : List (SocketAddr × PeerState F)) : Type 0 where
+pub record Stands {F : Type 0} (seen : F → FilesView) (limits : PeerLimits) (own : SocketAddr → List Happening) (es : List (SocketAddr × PeerState F)) : Type 0 where
   pub cs : PeerHappenings
   pub stand : StandFor seen limits es cs
   pub heard : Paired IsHeard es cs
@@ -251,13 +251,13 @@ pub record Stands {F : Type 0} (seen : F → FilesView) (limits : SessionLimits)
   pub last : HaveLast own cs
 
 -- and so of those that are left of others
-pub record StandLess {F : Type 0} (seen : F → FilesView) (limits : SessionLimits) (own : SocketAddr → List Happening) (cs : PeerHappenings) (after : List (SocketAddr × PeerState F)) : Type 0 where
+pub record StandLess {F : Type 0} (seen : F → FilesView) (limits : PeerLimits) (own : SocketAddr → List Happening) (cs : PeerHappenings) (after : List (SocketAddr × PeerState F)) : Type 0 where
   pub ds : PeerHappenings
   pub stand : StandFor seen limits after ds
   pub heard : Paired IsHeard after ds
   pub less : Less own ds cs
 
-module _ {F : Type 0} (seen : F → FilesView) (limits : SessionLimits) where
+module _ {F : Type 0} (seen : F → FilesView) (limits : PeerLimits) where
   pub same_stand : (own all : SocketAddr → List Happening) (es after : List (SocketAddr × PeerState F)) → ((peer : SocketAddr) → own peer ≡ all peer) → after ≡ es → Stands seen limits own es → Stands seen limits all after
   same_stand own all es after e same s = record {
     cs = s.cs;

@@ -16,7 +16,7 @@ use Rattle.recording_peer.specs.Recording.{Tells as Reports, answer_of}
 use Rattle.recording_peer.specs.declared.peer_session.PeerSession.{PeerSession}
 use Rattle.recording_peer.specs.declared.resumption.Resumption.{Resumption}
 use Rattle.recording_peers.specs.Calls.{Follows}
-use Rattle.recording_peers.specs.DatagramFaults.{number_of, name_of}
+use Rattle.ipfix_message.specs.Faults.{number_of, name_of}
 use Rattle.recording_peers.specs.declared.peer_state.PeerState.{PeerState}
 use Rattle.recording_peers.specs.declared.refusals.Refusals.{Refusals}
 use Rattle.report_writing.specs.Writing.{Tells}

@@ -5,7 +5,7 @@ use Rattle.recording_files.specs.Files.{FilesView}
 use Rattle.recording_files.specs.Periods.{ClockView}
 use Rattle.recording_files.specs.declared.file_report.FileReport.{FileReport}
 use Rattle.recording_folder.specs.declared.session_files.FilesEnd.{FilesEnd}
-use Rattle.recording_peers.specs.declared.session_limits.SessionLimits.{SessionLimits}
+use Rattle.recording_peers.specs.declared.peer_limits.PeerLimits.{PeerLimits}
 use Rattle.recording_peers.specs.Happenings.{Happening, DatagramCame, SecondBegan}
 use Rattle.recording_peers.specs.Kept.{IsSession}
 use Rattle.recording_peers.specs.Table.{same_peer, of_peer, Paired}
@@ -74,7 +74,7 @@ module _ {F P W : Type 0} {seen : F → FilesView} {finishes : F → FileReport 
   own_by run peer = own_of peer run.old.second run.rounds
 
 -- the session of each of these peers stands for the last ones of its own, and says when the last datagram among them came
-pub record StandForLast {F : Type 0} (seen : F → FilesView) (limits : SessionLimits) (own : SocketAddr → List Happening) (es : List (SocketAddr × PeerState F)) : Type 0 where
+pub record StandForLast {F : Type 0} (seen : F → FilesView) (limits : PeerLimits) (own : SocketAddr → List Happening) (es : List (SocketAddr × PeerState F)) : Type 0 where
   pub happened : PeerHappenings
   pub stand : StandFor seen limits es happened
   pub last : HaveLast own happened
@@ -90,7 +90,7 @@ AreHeard since (e ∷ es) = (since ≤ e.1.heard) × AreHeard since es
 -- ---- a peer whose session stays
 
 -- a session stands for all of these from the first datagram on; where there is none, no datagram came
-abbrev pub StandsForAll : {F : Type 0} → (F → FilesView) → SessionLimits → Option (PeerState F) → List Happening → Type 0
+abbrev pub StandsForAll : {F : Type 0} → (F → FilesView) → PeerLimits → Option (PeerState F) → List Happening → Type 0
 StandsForAll seen limits None all = came_among all ≡ []
 StandsForAll seen limits (Some k) all = (hs : List Happening) × HaveAllCame hs all × IsSession seen k limits hs
 

@@ -6,10 +6,10 @@ ghost use Rattle.lru.specs.LruCache.{lru_cache};
 ghost use Rattle.recording_connections.specs.Refusals.{none_unserved};
 ghost use Rattle.recording_folder.specs.FiledSessions.{BeginsWith};
 
+use crate::datagram_limits::DatagramLimits;
 use crate::datagram_taker::DatagramTaker;
 use crate::finishing::{FileQueue, start_finishers};
 use crate::peer_folder::{PeerFiles, PeerFolder};
-use crate::peer_limits::PeerLimits;
 use crate::running::record_datagrams;
 use crate::socket_drops::SocketDrops;
 use crate::system_socket::SystemSocket;
@@ -18,7 +18,7 @@ use recording_connections::{RecorderRun, RecordingFiles, SharedCounts};
 use recording_files::PeriodClock;
 use recording_folder::{EarlierPeers, SystemPlace};
 use recording_lines::{WholeLines, write_threads};
-use recording_peers::{PeerPlace, Peers, SessionLimits};
+use recording_peers::{PeerLimits, PeerPlace, Peers};
 use report_writing::WriteLines;
 use std::alloc::{AllocError, Global};
 use std::fs::File;
@@ -37,7 +37,7 @@ pub fn run_datagrams<E: Write + Copy + Send + Drop, R: Clock + Threads + Wait + 
     run: RecorderRun<R>,
     socket: SystemSocket,
     earlier: EarlierPeers,
-    limits: PeerLimits,
+    limits: DatagramLimits,
     err: E,
 ) {
     if take_all(run, socket, earlier, limits, err).is_err() {
@@ -50,7 +50,7 @@ fn take_all<E: Write + Copy + Send + Drop, R: Clock + Threads + Wait + Sync>(
     run: RecorderRun<R>,
     socket: SystemSocket,
     earlier: EarlierPeers,
-    limits: PeerLimits,
+    limits: DatagramLimits,
     err: E,
 ) -> io::Result<()> {
     let (enter, leave) = bounded(run.alloc, limits.most.get())?;
@@ -63,7 +63,7 @@ fn take_beside_finishers<'x, E: Write + Copy + Send + Drop, R: Clock + Threads +
     run: RecorderRun<'x, R>,
     socket: SystemSocket,
     earlier: EarlierPeers,
-    limits: PeerLimits,
+    limits: DatagramLimits,
     queue: &'x FileQueue<File>,
     err: E,
 ) -> io::Result<()> {
@@ -98,7 +98,7 @@ fn room_of_datagram(alloc: Global) -> Result<Vec<u8>, AllocError>
 fn taker_of<'x, E: Write + Copy + Drop, R: Wait>(
     run: RecorderRun<'x, R>,
     earlier: EarlierPeers,
-    limits: PeerLimits,
+    limits: DatagramLimits,
     queue: &'x FileQueue<File>,
     drops: Option<SocketDrops>,
     err: E,
@@ -132,7 +132,7 @@ fn taker_of<'x, E: Write + Copy + Drop, R: Wait>(
             run.alloc,
             limits.most,
             RandomState::new(run.rt)?,
-            SessionLimits {
+            PeerLimits {
                 reorder: limits.reorder,
                 templates: limits.templates,
             },

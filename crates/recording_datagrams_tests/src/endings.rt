@@ -5,7 +5,7 @@ use network_prefixes::{PeerFilter, Prefix};
 use recording_connections::SharedCounts;
 use recording_datagrams::DatagramTaker;
 use recording_files::ScriptClock;
-use recording_peers::{Datagram, Peers, SessionLimits};
+use recording_peers::{Datagram, PeerLimits, Peers};
 use std::alloc::Global;
 use std::hash::RandomState;
 use std::net::{IpAddr, Ipv4Addr, SocketAddr};
@@ -51,7 +51,7 @@ fn tell_all(rt: &HostRuntime, out: &mut FailingWriter) -> Result<(), Fail> {
             alloc,
             NonZeroUsize::new(2).unwrap(),
             RandomState::new(rt)?,
-            SessionLimits {
+            PeerLimits {
                 reorder: 0,
                 templates: 16384,
             },

@@ -6,7 +6,7 @@ use network_prefixes::PeerFilter;
 use recording_connections::SharedCounts;
 use recording_datagrams::{DatagramTaker, record_datagrams};
 use recording_files::ScriptClock;
-use recording_peers::{Peers, ScriptDatagrams, ScriptedDatagram, SessionLimits};
+use recording_peers::{PeerLimits, Peers, ScriptDatagrams, ScriptedDatagram};
 use std::alloc::{AllocError, Global};
 use std::hash::RandomState;
 use std::net::{IpAddr, Ipv4Addr, SocketAddr};
@@ -60,7 +60,7 @@ fn taker_of<'a, 'w>(
             alloc,
             NonZeroUsize::new(1).unwrap(),
             RandomState::new(rt)?,
-            SessionLimits {
+            PeerLimits {
                 reorder,
                 templates: 16384,
             },

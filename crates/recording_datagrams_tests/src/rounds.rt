@@ -6,7 +6,7 @@ use recording_connections::SharedCounts;
 use recording_datagrams::{DatagramTaker, record_datagrams};
 use recording_files::ScriptClock;
 use recording_lines::WholeLines;
-use recording_peers::{NoDatagram, Peers, ScriptDatagrams, ScriptedDatagram, SessionLimits};
+use recording_peers::{NoDatagram, PeerLimits, Peers, ScriptDatagrams, ScriptedDatagram};
 use std::alloc::{AllocError, Global};
 use std::hash::RandomState;
 use std::net::{IpAddr, Ipv4Addr, SocketAddr};
@@ -44,7 +44,7 @@ fn each_datagram_is_taken_once(rt: HostRuntime) -> Result<(), Fail> {
             alloc,
             NonZeroUsize::new(2).unwrap(),
             RandomState::new(&rt)?,
-            SessionLimits {
+            PeerLimits {
                 reorder: 0,
                 templates: 16384,
             },

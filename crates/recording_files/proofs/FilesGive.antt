@@ -24,7 +24,7 @@ use Rattle.recording_files.specs.Recordings.{Part, Recorded}
 use Rattle.recording_files.specs.Heads.{is_written, number_in, told_first, written}
 use Rattle.recording_files.specs.KeptOptions.{Kept, kept_after, read_again}
 use Rattle.recording_files.specs.Faithful.{AreReadAlone, GiveFirstRecordsOf, GiveRecordsOf, IsToldAgain, TellAgain, all_given, all_in, file_records, is_flow, reads_as}
-use Rattle.recording_files.specs.Files.{Contents, FilesView, AreSeen, all_of}
+use Rattle.recording_files.specs.Files.{AreAllSeen, AreSeen, Contents, FilesView, all_of}
 use Rattle.recording_files.specs.Periods.{ClockView, octets_read}
 use Rattle.recording_files.specs.Sessions.{Progress, progress_after, file_octets, parts, StandsWith, IsCutOff, HoldsAll, HoldsCut, HoldsBy, IsTold, fault_of, RecordsAll}
 use Rattle.recording_files.proofs.Growing.{writes-append}
@@ -189,8 +189,8 @@ consumed_all before (Some left) whole gave is some end =
     sym (all ∙ ap (λ (w : List ℕ). gave ++ w) (end left refl) ∙ append-nil gave)
 
 pub recorded_all : {S F C : Type 0} (seen : S → SourceView) (view : F → FilesView) (asked : C → ClockView) (ended_is_end : (s : S) → (seen s).ended ≡ true → ForSome (seen s).text (λ xs. xs ≡ []))
-    (text : List ℕ) (first last : F) (start c : Contents) → RecordsAll seen view asked text first last → AreSeen (view first) (view last) start c → start.finished ≡ [] → (stop_of text ≡ Clean) × GiveRecordsOf None (all_of c) text
-recorded_all seen view asked ended_is_end text first last start c r is none =
+    (text : List ℕ) (first last : F) (c : Contents) → RecordsAll seen view asked text first last → AreAllSeen (view first) (view last) c → (stop_of text ≡ Clean) × GiveRecordsOf None (all_of c) text
+recorded_all seen view asked ended_is_end text first last c r is =
     let gave = octets_read r.records.reads in
     let limit = r.limits.templates in
     let p = progress_after limit (view first) r.records.reads in
@@ -198,7 +198,7 @@ recorded_all seen view asked ended_is_end text first last start c r is none =
     let holds : HoldsAll (IsTold r.session) p (view last) = subst (λ (a : Result (Unit {0}) RecordFault). HoldsBy (IsTold r.session) a p (view last)) r.no_fault r.records.holds in
     let all : gave ≡ text = consumed_all (seen r.before).text (seen r.after).text text gave r.text_is r.records.given.octets (ended_is_end r.after due.1) in
     let whole = unlimited_open limit gave (subst IsOpen (sym due.0) tt) in
-    let given = files_give (IsTold r.session) p (view last) start c holds is none in (
+    let given = files_give (IsTold r.session) p (view last) is.start c holds is.seen is.none in (
       ap stop_of (sym all) ∙ ap (λ (g : Given). g.stop) (sym whole) ∙ due.0,
       subst (GiveRecordsOf None (all_of c)) all (record {
         stops = given.stops;

@@ -48,6 +48,12 @@ pub record AreSeen (first after : FilesView) (start now : Contents) : Type 0 whe
   pub at_first : first.contents ≡ Some start
   pub at_last : after.contents ≡ Some now
 
+-- and these are all that were ever finished: at first there was none
+pub record AreAllSeen (first after : FilesView) (now : Contents) : Type 0 where
+  pub start : Contents
+  pub none : start.finished ≡ []
+  pub seen : AreSeen first after start now
+
 -- one more call failed
 abbrev pub failing : FilesView → FilesView
 failing v = record v { failed = one_more v.failed }

@@ -9,7 +9,7 @@ ghost use Rattle.ipfix_session.specs.declared.fault.SessionFault.{SessionFault};
 ghost use Rattle.ipfix_session.specs.Faults as sessions;
 ghost use Rattle.ipfix_session.specs.Given.{IsPrefix, known_after, records_in, records_of, records_within, stop_of};
 ghost use Rattle.recording_files.specs.declared.recorded_session.RecordedSession.{RecordedSession};
-ghost use Rattle.recording_files.specs.Files.{Contents, FilesView, AreSeen, all_of};
+ghost use Rattle.recording_files.specs.Files.{AreAllSeen, AreSeen, Contents, FilesView, all_of};
 ghost use Rattle.recording_files.specs.Sessions.{Progress, Holds, HoldsSome, HoldsAll, HoldsCut, IsTold, RecordsAll, fault_of, parts};
 ghost use Rattle.recording_files.specs.Recordings.{Part, Recorded};
 ghost use Rattle.recording_files.specs.Heads.{told_first};
@@ -50,8 +50,8 @@ pub fn flow_records_are_those_of_the_text()
 /// itself, with no fault, and one after another they give the records of the text up to its end or
 /// first fault, but for the options records that they tell again.
 pub fn files_give_the_records()
-    ensures { (p : Progress) (after : FilesView) (start now : Contents) (r : RecordedSession)
-        → HoldsAll (IsTold r) p after → AreSeen p.first after start now → start.finished ≡ []
+    ensures { (p : Progress) (after : FilesView) (now : Contents) (r : RecordedSession)
+        → HoldsAll (IsTold r) p after → AreAllSeen p.first after now
         → GiveRecordsOf p.limit (all_of now) p.text }
 {}
 
@@ -59,8 +59,8 @@ pub fn files_give_the_records()
 /// message, have no fault else, and they give the first records of the text, each once and in order, but for the options
 /// records that they tell again.
 pub fn files_keep_whole_messages()
-    ensures { (p : Progress) (after : FilesView) (start now : Contents) (r : RecordedSession)
-        → HoldsCut (IsTold r) p after → AreSeen p.first after start now → start.finished ≡ []
+    ensures { (p : Progress) (after : FilesView) (now : Contents) (r : RecordedSession)
+        → HoldsCut (IsTold r) p after → AreAllSeen p.first after now
         → GiveFirstRecordsOf p.limit (all_of now) p.text }
 {}
 
@@ -88,9 +88,9 @@ pub fn fault_numbers()
 /// itself, with no fault, and one after another they give all records of the text, but for the options records that they
 /// tell again.
 pub fn recorded_to_the_end<S: Source, F: FileSeries, C: PeriodClock>()
-    ensures { (text : List ℕ) (first last : F) (start now : Contents)
+    ensures { (text : List ℕ) (first last : F) (now : Contents)
         → RecordsAll S.seen F.seen C.asked text first last
-        → AreSeen (F.seen first) (F.seen last) start now → start.finished ≡ []
+        → AreAllSeen (F.seen first) (F.seen last) now
         → (stop_of text ≡ Clean) × GiveRecordsOf None (all_of now) text }
 {}
 

@@ -1,6 +1,6 @@
 //! Recording a session: a source is read piece by piece, and its messages go to files.
 
-ghost use Rattle.std.specs.Prelude.{◌≡◌, ◌<◌, ◌≤◌, [], ℕ, length, OnOk, IfErr};
+ghost use Rattle.std.specs.Prelude.{◌≡◌, ◌<◌, [], ℕ, length, OnOk, IfErr};
 ghost use Rattle.ipfix_session.specs.declared.driver.TheConstants.{READ_SIZE};
 ghost use Rattle.recording_files.specs.Recorders.{Counted};
 ghost use Rattle.recording_files.specs.Gathering.{IsFresh};
@@ -103,9 +103,8 @@ fn record_through<S: Source, F: FileSeries, C: PeriodClock>(
     limits: SessionLimits,
     buffer: &mut [u8],
 ) -> Result<(), RecordFault>
-    requires { 0 < length buffer.old }
-    ensures { length buffer.old ≤ READ_SIZE
-        → IsFresh limits.templates gathering.old
+    requires { length buffer.old ≡ READ_SIZE }
+    ensures { IsFresh limits.templates gathering.old
         → IsEmpty (F.seen files.old).contents
         → RecordsTo S.seen F.seen C.asked limits source.old source.new
         files.old files.new clock.old clock.new result (Counted gathering.new.counts.told) }

@@ -112,12 +112,12 @@ pub barred_is : (s : PeerView) (k : KnownTemplates) (barred : List ℕ) (domain 
 barred_is s k barred domain same is = is ∙ sym (barred_same k domain) ∙ ap (λ (n : KnownShown). barred_shown n domain) same
 
 reads_so : (s : PeerView) (filed : FiledDatagrams) (second : ℕ) (m : List ℕ) (h : Header) (barred : List ℕ) (result : Result Reading MessageFault) → IsReadWhere s.known.reorder (taken_in filed) (barred_shown s.known) second m h barred
-    → ReadsWhere s filed m barred result → ReadsAfter s filed second m h result
+    → ReadsWhere s m barred result filed → ReadsAfter s second m h result filed
 reads_so s filed second m h barred (Ok r) so reads = record { barred = barred; where_barred = so; answers = reads }
 reads_so s filed second m h barred (Err f) so reads = inr (barred, so, reads)
 
 pub reads_on_time : (s : PeerView) (filed : FiledDatagrams) (second : ℕ) (m : List ℕ) (h : Header) (barred : List ℕ) (result : Result Reading MessageFault) → is_late s.known.reorder (taken_in filed) h ≡ false → barred ≡ barred_shown s.known h.domain
-    → ReadsWhere s filed m barred result → ReadsAfter s filed second m h result
+    → ReadsWhere s m barred result filed → ReadsAfter s second m h result filed
 reads_on_time s filed second m h barred result not_late same =
     reads_so s filed second m h barred result
     (subst (λ (b : Bool). ReadWhere b (withheld s.known.reorder (taken_in filed) h second) (barred_shown s.known h.domain) (known_after_all (taken_in filed)) m h.domain barred) (sym not_late) same)
@@ -131,7 +131,7 @@ held_is s k ts h second same times =
 
 pub reads_late : (s : PeerView) (k : KnownTemplates) (filed : FiledDatagrams) (second : ℕ) (m : List ℕ) (h : Header) (barred : List ℕ) (result : Result Reading MessageFault) → known_shown k ≡ s.known → times_shown s.known ≡ times_of (taken_in filed)
     → is_late s.known.reorder (taken_in filed) h ≡ true → IsReadLate (later_in k.reorder (moment_of h second) (time_at k.times h.domain)) (barred_in k.barred h.domain) (known_after_all (taken_in filed)) m h.domain barred
-    → ReadsWhere s filed m barred result → ReadsAfter s filed second m h result
+    → ReadsWhere s m barred result filed → ReadsAfter s second m h result filed
 reads_late s k filed second m h barred result same times late read =
     let ts = taken_in filed in
     let ds = known_after_all ts in

@@ -93,7 +93,7 @@ shown_barred old new s d ids same bars q id =
 
 pub reads_as : (s : PeerView) (k : KnownTemplates) (filed : FiledDatagrams) (m : List ℕ) (r : Resumed) (barred : List ℕ) (result : Result Reading MessageFault) → known_shown k ≡ s.known → resumed_for filed m ≡ r
     → MatchResult result (AnswersOf (record { resumed = r.templates; barred = barred }) k.budget (known_after_all (taken_in filed)) m) (IsRefused (record { resumed = r.templates; barred = barred }) (known_after_all (taken_in filed)) m)
-    → ReadsWhere s filed m barred result
+    → ReadsWhere s m barred result filed
 reads_as s k filed m r barred result same is reads =
     let ds = known_after_all (taken_in filed) in
     let budget : k.budget ≡ s.known.budget = ap (λ (known : KnownShown). known.budget) same in

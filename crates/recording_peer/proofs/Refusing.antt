@@ -19,9 +19,10 @@ use Rattle.recording_peer.proofs.Stopping.{stops_out}
 
 -- what is answered
 pub refuses : (first v : FilesView) (s t : PeerView) (filed : FiledDatagrams) (second : ℕ) (m : List ℕ) (h : Header) (barred ids : List ℕ) (r : Result PeerAnswer RecordFault) → message_header m ≡ Ok h → IsPeer first v s filed → IsReadWhere s.known.reorder (taken_in filed) (barred_shown s.known) second m h barred
-    → IsTooMuch (basis_with (resumed_for filed m) barred) s.known.budget (known_after_all (taken_in filed)) m ids → IfOk r (λ a. (a ≡ TooMuch) × BarsShown s t h.domain ids) → IfErr r (λ f. (f ≡ OfMessage OutOfMemory) × (t.ended ≡ Some f) × (t.told ≡ s.told)) → Answers r second m first v v s t filed
-refuses first v s t filed second m h barred ids (Ok a) good p read much ok err = subst (λ (b : PeerAnswer). Answers (Ok b) second m first v v s t filed) (sym ok.0) (record { header = h; is_header = good; barred = barred; read = read; ids = ids; too_much = much; bars = ok.1 }, refl)
-refuses first v s t filed second m h barred ids (Err f) good p read much ok err = (err.1, subst (λ (g : RecordFault). HasStopped g first v t.told filed m) (sym err.0) (stops_out OutOfMemory first v s filed t.told m refl p err.2))
+    → IsTooMuch (basis_with (resumed_for filed m) barred) s.known.budget (known_after_all (taken_in filed)) m ids → IfOk r (λ a. a ≡ TooMuch) → IfOk r (λ a. BarsShown s t h.domain ids)
+    → IfErr r (λ f. f ≡ OfMessage OutOfMemory) → IfErr r (λ f. t.ended ≡ Some f) → IfErr r (λ f. t.told ≡ s.told) → Answers r second m first v v s t filed
+refuses first v s t filed second m h barred ids (Ok a) good p read much refused bars out ended told = subst (λ (b : PeerAnswer). Answers (Ok b) second m first v v s t filed) (sym refused) (record { header = h; is_header = good; barred = barred; read = read; ids = ids; too_much = much; bars = bars }, refl)
+refuses first v s t filed second m h barred ids (Err f) good p read much refused bars out ended told = (ended, subst (λ (g : RecordFault). HasStopped g first v t.told filed m) (sym out) (stops_out OutOfMemory first v s filed t.told m refl p told))
 
 -- with other ids that have no template
 abbrev with_known : PeerView → KnownShown → PeerView

@@ -17,9 +17,9 @@ use Rattle.recording_files.proofs.Going.{stands_cut}
 use Rattle.ipfix_datagrams.specs.Datagrams.{preparation_of, IsTaken}
 use Rattle.ipfix_datagrams.specs.declared.reading.DatagramReading.{DatagramReading}
 use Rattle.recording_peer.specs.Peers.{basis_with, Resumed, known_after_all, all_given, sent_of, peer_reports}
-use Rattle.recording_peer.specs.Recording.{PeerTold, PeerView, FiledDatagrams, last_file, taken_before, taken_in, HasDatagram, FilesHold, Counts, IsPeer, HasStopped}
+use Rattle.recording_peer.specs.Recording.{PeerTold, PeerView, FiledDatagrams, counted_report, last_file, taken_before, taken_in, HasDatagram, FilesHold, Counts, IsPeer, HasStopped}
 use Rattle.recording_peer.specs.Fronts.{TookDatagram, taken_as}
-use Rattle.recording_peer.proofs.Taking.{counted_report, holds_turned, file_with, octets_with, taken_with, fronts_with}
+use Rattle.recording_peer.proofs.Taking.{holds_turned, file_with, octets_with, taken_with, fronts_with}
 
 -- other files with the same datagrams
 abbrev holds_with : (first v after : FilesView) (filed : FiledDatagrams) (cut_off : List ℕ) (h : FilesHold first v filed []) → StandsWith (peer_reports [] h.files) first.contents after.contents (map sent_of h.files) (sent_of (last_file filed h.file)) cut_off

@@ -23,7 +23,7 @@ use Rattle.ipfix_datagrams.specs.declared.reading.DatagramReading.{DatagramReadi
 use Rattle.recording_peer.specs.Peers.{Resumed, Taken, basis_with, AreResumed, resumed_after, AreTaken, HasFront, HaveFronts, PeerFile, givens, known_after_all, messages_with, given_with, all_messages, all_given, sent_of, withdrawals_ignored, peer_report, peer_reports, resumption_in, resumption_of, resumptions}
 use Rattle.recording_peer.specs.Late.{never, times_of}
 use Rattle.recording_peer.specs.declared.resumption.Resumption.{Resumption}
-use Rattle.recording_peer.specs.Recording.{BarsOnce, KnownShown, PeerTold, PeerView, FiledDatagrams, none_filed, taken_before, taken_in, taken_by_file, filed_with, with_ignored, finished_now, ignored_now, ignored_still, file_finished, last_file, HasDatagram, IsLastFile, FilesHold, Counts, KeepsListed, KeepsLeft, LeftShown, left_listed, times_shown, IsPeer}
+use Rattle.recording_peer.specs.Recording.{BarsOnce, KnownShown, PeerTold, PeerView, FiledDatagrams, counted_report, none_filed, taken_before, taken_in, taken_by_file, filed_with, with_ignored, finished_now, ignored_now, ignored_still, file_finished, last_file, HasDatagram, IsLastFile, FilesHold, Counts, KeepsListed, KeepsLeft, LeftShown, left_listed, times_shown, IsPeer}
 use Rattle.recording_peer.specs.Fronts.{TookDatagram, taken_as}
 use Rattle.std.specs.BTreeMap.{BTreeMap}
 use Rattle.recording_resumption.specs.declared.earlier_domain.EarlierDomain.{EarlierDomain}
@@ -74,11 +74,7 @@ represents {first} {v} {s} {filed} d p same = record {
 
 -- ---- the next file
 
--- what is counted of the file
-abbrev pub counted_report : PeerTold → FileReport
-counted_report c = record c.counts.file { ignored_withdrawals = c.ignored }
-
--- is what is to be told of it
+-- what is counted of the file is what is to be told of it
 pub last_reported : (c : PeerTold) (filed : FiledDatagrams) → Counts c filed → counted_report c ≡ peer_report (givens (taken_before filed)) filed.here filed.ignored_here
 last_reported c filed counted = ap₂ (λ (f : FileReport) (n : ℕ). record f { ignored_withdrawals = n }) counted.counted.file counted.ignored
 

@@ -1,5 +1,6 @@
 -- What a recorder took for a datagram.
 use Rattle.std.specs.Prelude.{◌≡◌, ◌⊎◌, ℕ, true, List, [], ◌∷◌, ◌++◌, IsOk, MatchResult, Ok, Option, Result}
+use Rattle.std.specs.Global.{Vec}
 use Rattle.ipfix_wire.specs.declared.header.Header.{Header}
 use Rattle.ipfix_message.specs.Alike.{knows}
 use Rattle.ipfix_message.specs.Domains.{History, Message, admit, events_in, message_header}
@@ -124,10 +125,10 @@ abbrev pub IsReadAfter : List Message → List Message → List ℕ → Resumed 
 IsReadAfter before here m resumed barred reading x = IsReadingOf (basis_with resumed barred) (domains_after before here) m reading x
 
 -- a datagram is taken as it was read, with what was due at the end of an earlier run, or memory ran out
-abbrev pub TakesDatagram : State → State → List ℕ → Option ℕ → DatagramReading → Result MessageCount MessageFault → List ℕ → Type 0
-TakesDatagram old new m due reading result octets =
+abbrev pub TakesDatagram : State → State → List ℕ → Option ℕ → DatagramReading → Result MessageCount MessageFault → Vec ℕ → Type 0
+TakesDatagram old new m due reading result out =
     (before here : List Message) (second : ℕ) (resumed : Resumed) (barred : List ℕ) (x : Message) → Keeps old before here → resumed.due ≡ due → IsReadAfter before here m resumed barred reading x
-    → OrOutOfMemory result (TookDatagram before here new m second resumed barred reading x octets)
+    → OrOutOfMemory result (TookDatagram before here new m second resumed barred reading x out.items)
 
 -- the recorder and its files represent these datagrams, and after them the next, at a second, was read so, which gives this
 pub record HasRead (first before : FilesView) (s : PeerView) (filed : FiledDatagrams) (second : ℕ) (m : List ℕ) (reading : DatagramReading) : Type 0 where
@@ -141,8 +142,8 @@ pub record HasRead (first before : FilesView) (s : PeerView) (filed : FiledDatag
   pub weighs : WeighAfter reading.weights s.known.budget (known_after_all (taken_in filed)) given.domains
 
 -- a datagram is read, or refused, after those that were taken, with what is resumed before it, where these ids have no template
-abbrev pub ReadsWhere : PeerView → FiledDatagrams → List ℕ → List ℕ → Result Reading MessageFault → Type 0
-ReadsWhere s filed m barred result =
+abbrev pub ReadsWhere : PeerView → List ℕ → List ℕ → Result Reading MessageFault → FiledDatagrams → Type 0
+ReadsWhere s m barred result filed =
     let basis = basis_with (resumed_for filed m) barred in
     let ds = known_after_all (taken_in filed) in
     MatchResult result (AnswersOf basis s.known.budget ds m) (IsRefused basis ds m)
@@ -153,7 +154,7 @@ pub record ReadsAt (s : PeerView) (filed : FiledDatagrams) (second : ℕ) (m : L
   pub where_barred : IsReadWhere s.known.reorder (taken_in filed) (barred_shown s.known) second m h barred
   pub answers : AnswersOf (basis_with (resumed_for filed m) barred) s.known.budget (known_after_all (taken_in filed)) m reading
 
-abbrev pub ReadsAfter : PeerView → FiledDatagrams → ℕ → List ℕ → Header → Result Reading MessageFault → Type 0
-ReadsAfter s filed second m h result =
+abbrev pub ReadsAfter : PeerView → ℕ → List ℕ → Header → Result Reading MessageFault → FiledDatagrams → Type 0
+ReadsAfter s second m h result filed =
     MatchResult result (ReadsAt s filed second m h)
     (λ f. IsRefusedAt s.known.reorder (taken_in filed) (barred_shown s.known) (resumed_for filed m) second m f (Ok h))

@@ -99,8 +99,12 @@ AreResumed earlier before (t ∷ ts) = (t.resumed ≡ resumed_after earlier befo
 abbrev pub resumption_in : ℕ → ℕ → Option Resumption
 resumption_in domain templates = if templates == 0 then None else Some (record { domain = domain; templates = templates })
 
+-- with a datagram under this header, by what is resumed before it
+abbrev pub resumption_with : Header → Resumed → Option Resumption
+resumption_with h resumed = resumption_in h.domain (length resumed.templates)
+
 abbrev pub resumption_of : Taken → List Resumption
-resumption_of t = option_to_list (resumption_in t.given.header.domain (length t.resumed.templates))
+resumption_of t = option_to_list (resumption_with t.given.header t.resumed)
 
 -- the domains that did, in the order in which they did
 abbrev pub resumptions : List Taken → List Resumption

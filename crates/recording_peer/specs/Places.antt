@@ -1,5 +1,7 @@
 -- What keeps a peer's place, where there is no room for one more (RFC 7011, section 10.3).
-use Rattle.std.specs.Prelude.{◌≡◌, ◌==◌, ℕ, ◌+◌, ◌-◌, Bool, false, nat_eq, nat_lt, if◌then◌else◌, List, sum_by, IsSome, MatchBool, Option, None, option_map, unwrap_or}
+use Rattle.std.specs.Prelude.{◌≡◌, ◌==◌, ℕ, ◌+◌, ◌-◌, Bool, false, nat_eq, nat_lt, if◌then◌else◌, List, sum_by, IsSome, MatchBool, Option, None, option_copied, option_map, unwrap_or}
+use Rattle.std.specs.Borrow.{Bor}
+use Rattle.std.specs.BTreeMap.{BTreeMap}
 use Rattle.std.specs.List.{list_any}
 use Rattle.std.specs.Map.{lookup}
 use Rattle.std.specs.Option.{option_and_then}
@@ -11,6 +13,10 @@ use Rattle.ipfix_datagrams.specs.Datagrams.{known_in}
 use Rattle.ipfix_datagrams.specs.RecordsCame.{has_records}
 use Rattle.ipfix_message.specs.declared.template_limit.TheConstants.{DOMAIN_FIELDS}
 use Rattle.recording_peer.specs.Recording.{PeerView, barred_shown}
+
+-- templates as they are listed, if there are any
+abbrev pub listed : Option (Bor (BTreeMap ℕ Template)) → Option (List (ℕ × Template))
+listed templates = option_map (λ ts. ts.entries) (option_copied templates)
 
 -- what the template of an id counts, if there is one
 abbrev pub fields_in : Option (List (ℕ × Template)) → ℕ → ℕ

@@ -39,7 +39,7 @@ use Rattle.recording_peer.specs.declared.peer_answer.PeerAnswer.TheVariants.{Rec
 use Rattle.recording_peer.specs.declared.peer_session.PeerSession.{PeerSession}
 use Rattle.recording_peer.specs.declared.resumption.Resumption.{Resumption}
 use Rattle.recording_peer.specs.Late.{IsReadWhere, IsRefusedAt, times_of}
-use Rattle.recording_peer.specs.Peers.{basis_with, Resumed, Taken, AreResumed, left_in, resumed_at, AreTaken, HaveFronts, PeerFile, part_of, sent_of, withdrawals_ignored, peer_report, peer_reports, datagrams, givens, known_after_all, all_messages, all_given, records_over_udp, resumptions}
+use Rattle.recording_peer.specs.Peers.{basis_with, Resumed, Taken, AreResumed, left_in, resumed_after, resumed_at, AreTaken, HaveFronts, PeerFile, part_of, sent_of, withdrawals_ignored, peer_report, peer_reports, datagrams, givens, known_after_all, all_messages, all_given, records_over_udp, resumptions}
 
 -- the counts, the withdrawals that were ignored since a file was finished, how far the sequence numbers of each domain reach, and the
 -- domains that went on after an earlier run
@@ -48,6 +48,10 @@ pub record PeerTold : Type 0 where
   pub ignored : ℕ
   pub advances : List (ℕ × Reach)
   pub resumed : List Resumption
+
+-- the report of the file that isn't finished, by what was counted
+abbrev pub counted_report : PeerTold → FileReport
+counted_report c = record c.counts.file { ignored_withdrawals = c.ignored }
 
 -- what is left of a domain, and of each
 abbrev pub LeftShown : Type 0
@@ -226,6 +230,10 @@ pub record IsPeer (first after : FilesView) (s : PeerView) (filed : FiledDatagra
   pub left : KeepsLeft s.earlier filed.earlier (taken_in filed)
   pub times : times_shown s.known ≡ times_of (taken_in filed)
 
+-- whichever datagrams it represents, this is so of them
+abbrev pub Whichever : PeerView → (FiledDatagrams → Type 0) → Type 0
+Whichever s IsSo = (first after : FilesView) (filed : FiledDatagrams) → IsPeer first after s filed → IsSo filed
+
 -- ---- a call fails
 
 -- a call of the files failed: after the datagrams are the first octets of what was to be written for this one
@@ -263,13 +271,16 @@ pub record HasStopped (fault : RecordFault) (first after : FilesView) (c : PeerT
 
 -- ---- its calls
 
--- what is resumed before a datagram that comes after these
+-- what is resumed before a datagram with this header that comes after these, and before any datagram
+abbrev pub resumed_next : FiledDatagrams → Header → Resumed
+resumed_next filed h = resumed_after filed.earlier (taken_in filed) h
+
 abbrev pub resumed_for : FiledDatagrams → List ℕ → Resumed
 resumed_for filed m = resumed_at filed.earlier (taken_in filed) (message_header m)
 
 -- a datagram was taken at a second after these, and is in the file that isn't finished; this is what it adds to the counts. Each id that
 -- it defines has a template then
-pub record IsRecorded (count : MessageCount) (second : ℕ) (m : List ℕ) (first after : FilesView) (s t : PeerView) (filed : FiledDatagrams) : Type 0 where
+pub record IsRecorded (second : ℕ) (m : List ℕ) (first after : FilesView) (s t : PeerView) (filed : FiledDatagrams) (count : MessageCount) : Type 0 where
   pub next : Taken
   pub datagram : next.datagram ≡ m
   pub at : next.second ≡ second
@@ -306,7 +317,7 @@ pub record IsOverBudget (second : ℕ) (m : List ℕ) (s t : PeerView) (filed : 
 
 -- what is answered of a datagram that comes at a second, by the files and the recorder before and after it
 abbrev pub Answers : Result PeerAnswer RecordFault → ℕ → List ℕ → FilesView → FilesView → FilesView → PeerView → PeerView → FiledDatagrams → Type 0
-Answers (Ok (Recorded count)) second m first before after s t filed = IsRecorded count second m first after s t filed
+Answers (Ok (Recorded count)) second m first before after s t filed = IsRecorded second m first after s t filed count
 Answers (Ok TooMuch) second m first before after s t filed = IsOverBudget second m s t filed × (after ≡ before)
 Answers (Ok Ignored) second m first before after s t filed = IsIgnored m first before after s t filed
 Answers (Ok (Refused fault)) second m first before after s t filed =
@@ -314,8 +325,8 @@ Answers (Ok (Refused fault)) second m first before after s t filed =
 Answers (Err fault) second m first before after s t filed = (t.ended ≡ Some fault) × HasStopped fault first after t.told filed m
 
 -- a recorder and its files, whichever datagrams they represent, take the next
-abbrev pub TakesDatagram : {F : Type 0} → (F → FilesView) → ℕ → List ℕ → Result PeerAnswer RecordFault → PeerView → PeerView → F → F → Type 0
-TakesDatagram seen second m answer s t old new = (first : FilesView) (filed : FiledDatagrams) → IsPeer first (seen old) s filed
+abbrev pub Takes : {F : Type 0} → (F → FilesView) → ℕ → List ℕ → Result PeerAnswer RecordFault → PeerView → PeerView → F → F → Type 0
+Takes seen second m answer s t old new = (first : FilesView) (filed : FiledDatagrams) → IsPeer first (seen old) s filed
     → Answers answer second m first (seen old) (seen new) s t filed
 
 -- or they finish the file that isn't finished, if it has a datagram: what is known of templates stays
@@ -339,6 +350,15 @@ pub record CameAfter (first after : FilesView) (since : Contents) : Type 0 where
     reports = start.reports ++ since.reports;
     unfinished = since.unfinished;
   })
+
+-- files that hold these datagrams, and after them these octets, and what has come into them since the first
+pub record Held (cut_off : List ℕ) : Type 0 where
+  pub first : FilesView
+  pub after : FilesView
+  pub filed : FiledDatagrams
+  pub holds : FilesHold first after filed cut_off
+  pub since : Contents
+  pub came : CameAfter first after since
 
 -- each of these files is read by itself as a session of a connection is, with no fault, and one after another they give the data
 -- records of datagrams, each once, in their order, under the templates in force over UDP, but for the options records that are told

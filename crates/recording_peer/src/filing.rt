@@ -1,6 +1,6 @@
 //! Writing the files of a peer.
 
-ghost use Rattle.std.specs.Prelude.{◌≡◌, ◌<◌, ◌++◌, Some, Ok, All, IfOk, IfErr, length, vec_len};
+ghost use Rattle.std.specs.Prelude.{◌≡◌, ◌<◌, ◌++◌, Some, Ok, All, IfOk, IfErr, vec_len};
 ghost use Rattle.std.specs.Option.{option_to_list};
 ghost use Rattle.std.specs.BTreeMap.{btree_map_len};
 ghost use Rattle.std.specs.Vec.{vec_capacity};
@@ -11,8 +11,8 @@ ghost use Rattle.recording_peer.specs.declared.peer_answer.PeerAnswer.TheVariant
 ghost use Rattle.ipfix_datagrams.specs.Datagrams.{HasTemplateIds};
 ghost use Rattle.ipfix_datagrams.specs.Withdrawals.{HasTemplateId};
 ghost use Rattle.recording_files.specs.Files.{FilesView};
-ghost use Rattle.recording_peer.specs.Peers.{resumed_after, resumption_in};
-ghost use Rattle.recording_peer.specs.Recording.{BarsShown, FiledDatagrams, IsPeer, IsRecorded, HasStopped, FinishesFile, taken_in};
+ghost use Rattle.recording_peer.specs.Peers.{resumption_in, resumption_with};
+ghost use Rattle.recording_peer.specs.Recording.{BarsShown, FiledDatagrams, IsRecorded, HasStopped, FinishesFile, Whichever, counted_report, resumed_next, taken_in};
 ghost use Rattle.recording_peer.specs.Fronts.{HasRead, ReadsAfter, ReadsWhere};
 ghost use Rattle.recording_peer.specs.Late.{is_late};
 
@@ -31,9 +31,7 @@ use std::collections::BTreeMap;
 impl PeerRecorder {
     /// The report of the file that isn't finished.
     pub(crate) fn file_report(&self) -> FileReport
-        ensures { result ≡ record self.now.told.counts.file {
-          ignored_withdrawals = self.now.told.ignored;
-        } }
+        ensures { result ≡ counted_report self.now.told }
     {
         FileReport {
             ignored_withdrawals: self.ignored,
@@ -65,9 +63,7 @@ impl PeerRecorder {
 
     // The sequence number that was due when an earlier run ended, if its domain goes on with this datagram.
     fn due_left(&self, header: &Header) -> Option<u32>
-        ensures { (first after : FilesView) (filed : FiledDatagrams)
-            → IsPeer first after self.now filed
-            → result ≡ (resumed_after filed.earlier (taken_in filed) header.now).due }
+        ensures { Whichever self.now (λ filed. result ≡ (resumed_next filed header.now).due) }
     {
         match resumed(&self.earlier, header) {
             Some(domain) => domain.due(),
@@ -77,10 +73,8 @@ impl PeerRecorder {
 
     // Which domain goes on with this datagram after an earlier run, if that left templates in it.
     fn resumption(&self, header: &Header) -> Option<Resumption>
-        ensures { (first after : FilesView) (filed : FiledDatagrams)
-            → IsPeer first after self.now filed
-            → result ≡ resumption_in header.now.domain
-            (length (resumed_after filed.earlier (taken_in filed) header.now).templates) }
+        ensures { Whichever self.now
+            (λ filed. result ≡ resumption_with header.now (resumed_next filed header.now)) }
     {
         match resumed(&self.earlier, header) {
             Some(domain) => resumption_of(domain, header.domain),
@@ -90,9 +84,8 @@ impl PeerRecorder {
 
     // Whether a datagram with this header comes late.
     fn is_late(&self, header: &Header) -> bool
-        ensures { (first after : FilesView) (filed : FiledDatagrams)
-            → IsPeer first after self.now filed
-            → result ≡ is_late self.now.known.reorder (taken_in filed) header.now }
+        ensures { Whichever self.now
+            (λ filed. result ≡ is_late self.now.known.reorder (taken_in filed) header.now) }
     {
         if 0 < self.known.reorder {
             self.advances.is_before(header.domain, header.sequence)
@@ -112,9 +105,8 @@ impl PeerRecorder {
     ) -> Result<Reading, MessageFault>
         requires { message_header datagram.now ≡ Ok header.now }
         ensures ids { IfOk result HasTemplateIds }
-        ensures reads { (first after : FilesView) (filed : FiledDatagrams)
-            → IsPeer first after self.now filed
-            → ReadsAfter self.now filed second datagram.now header.now result }
+        ensures reads { Whichever self.now
+            (ReadsAfter self.now second datagram.now header.now result) }
     {
         if !self.is_late(header) {
             let barred = self.known.barred_in(header.domain);
@@ -135,9 +127,7 @@ impl PeerRecorder {
     ) -> Result<Reading, MessageFault>
         requires { message_header datagram.now ≡ Ok header.now }
         ensures ids { IfOk result HasTemplateIds }
-        ensures reads { (first after : FilesView) (filed : FiledDatagrams)
-            → IsPeer first after self.now filed
-            → ReadsWhere self.now filed datagram.now barred.now result }
+        ensures reads { Whichever self.now (ReadsWhere self.now datagram.now barred.now result) }
     {
         let domains = self.recorder.domains();
         let known = &self.known;
@@ -161,10 +151,11 @@ impl PeerRecorder {
         header: &Header,
         ids: &[u16],
     ) -> Result<PeerAnswer, RecordFault>
-        ensures refused { IfOk result (λ answer. (answer ≡ TooMuch)
-            × BarsShown self.old self.new header.now.domain ids.now) }
-        ensures out { IfErr result (λ fault. (fault ≡ OfMessage OutOfMemory)
-            × (self.new.ended ≡ Some fault) × (self.new.told ≡ self.old.told)) }
+        ensures refused { IfOk result (λ answer. answer ≡ TooMuch) }
+        ensures bars { IfOk result (λ _. BarsShown self.old self.new header.now.domain ids.now) }
+        ensures out { IfErr result (λ fault. fault ≡ OfMessage OutOfMemory) }
+        ensures ended { IfErr result (λ fault. self.new.ended ≡ Some fault) }
+        ensures told { IfErr result (λ _. self.new.told ≡ self.old.told) }
     {
         match self.known.bar(alloc, header.domain, ids) {
             Ok(()) => Ok(PeerAnswer::TooMuch),
@@ -191,8 +182,8 @@ impl PeerRecorder {
         requires ids { All HasTemplateId reading.now.withdrawn.items }
         ensures recorded { (first : FilesView) (filed : FiledDatagrams)
             → HasRead first (F.seen files.old) self.old filed second datagram.now reading.now
-            → IfOk result (λ count. IsRecorded count second datagram.now first (F.seen files.new)
-            self.old self.new filed) }
+            → IfOk result (IsRecorded second datagram.now first (F.seen files.new) self.old self.new
+            filed) }
         ensures stopped { (first : FilesView) (filed : FiledDatagrams)
             → HasRead first (F.seen files.old) self.old filed second datagram.now reading.now
             → IfErr result (λ fault. HasStopped fault first (F.seen files.new) self.new.told

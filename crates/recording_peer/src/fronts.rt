@@ -149,7 +149,7 @@ pub fn take_datagram(
 ) -> Result<MessageCount, MessageFault>
     requires header { message_header datagram.now ≡ Ok header.now }
     requires ids { All HasTemplateId reading.now.withdrawn.items }
-    ensures { TakesDatagram recorder.old recorder.new datagram.now due_left reading.now result out.new.items }
+    ensures { TakesDatagram recorder.old recorder.new datagram.now due_left reading.now result out.new }
 {
     let due = recorder.due(header.domain).or(due_left);
     let own = Header {

@@ -9,24 +9,21 @@ ghost use Rattle.recording_files.specs.Files.{Contents, FilesView, all_of};
 ghost use Rattle.recording_peer.specs.declared.peer_session.PeerSession.{PeerSession};
 ghost use Rattle.recording_peer.specs.Peers.{known_after_all};
 ghost use Rattle.recording_peer.specs.Places.{SaysInForce};
-ghost use Rattle.recording_peer.specs.Recording.{FiledDatagrams, FilesHold, IsPeer, PeerView, StopsAt, TurnedUnknown, HasStopped, CameAfter, GiveRecordsOverUdp, KeepsWhole, PeerTold, IsPeerTold, Tells, ReportsAddUp, taken_in};
+ghost use Rattle.recording_peer.specs.Recording.{FiledDatagrams, Held, PeerView, StopsAt, TurnedUnknown, HasStopped, CameAfter, GiveRecordsOverUdp, KeepsWhole, PeerTold, IsPeerTold, Tells, ReportsAddUp, Whichever, taken_in};
 
 /// The files of a peer, with the one that isn't finished, are each read by itself as a session of a
 /// connection is, with no fault; and one after another they give the data records of the datagrams that
 /// were taken, each once, in their order, under the templates in force after the rules over UDP, but for the options records that
 /// a file tells again at its head.
 pub fn files_give_the_records_over_udp()
-    ensures { (first after : FilesView) (since : Contents) (filed : FiledDatagrams)
-        → FilesHold first after filed [] → CameAfter first after since
-        → GiveRecordsOverUdp (all_of since) (taken_in filed) }
+    ensures { (h : Held []) → GiveRecordsOverUdp (all_of h.since) (taken_in h.filed) }
 {}
 
 /// One after another, as octets, those files are one session of a connection, with no fault and with the same
 /// data records, those that are told again among them.
 pub fn files_are_one_session()
-    ensures { (first after : FilesView) (since : Contents) (filed : FiledDatagrams)
-        → FilesHold first after filed [] → CameAfter first after since
-        → GiveRecordsOverUdp (octets_of (all_of since) ∷ []) (taken_in filed) }
+    ensures { (h : Held [])
+        → GiveRecordsOverUdp (octets_of (all_of h.since) ∷ []) (taken_in h.filed) }
 {}
 
 /// The files of a peer that ended with a fault, while this datagram was taken, keep the whole datagrams.
@@ -41,9 +38,8 @@ pub fn files_keep_whole_datagrams()
 /// over all domains. After a fault they do too. Where a file was finished, but the answer was that it
 /// wasn't, its report was given and is told once more: then those that were given add up.
 pub fn file_reports_add_up()
-    ensures told { (first after : FilesView) (since : Contents) (filed : FiledDatagrams)
-        (cut_off : List ℕ) (r : PeerSession) → FilesHold first after filed cut_off
-        → IsPeerTold r filed → CameAfter first after since → ReportsAddUp since.reports r }
+    ensures told { (cut_off : List ℕ) (h : Held cut_off) (r : PeerSession)
+        → IsPeerTold r h.filed → ReportsAddUp h.since.reports r }
     ensures stopped { (first after : FilesView) (since : Contents) (c : PeerTold)
         (filed : FiledDatagrams) (m : List ℕ) (r : PeerSession)
         → StopsAt first after c filed m → Tells c r → CameAfter first after since
@@ -57,6 +53,6 @@ pub fn file_reports_add_up()
 /// Whether a peer has a template ([`PeerRecorder::has_template`](crate::PeerRecorder::has_template)) says whether one is in force
 /// over UDP: it is known in one of the domains, and its id isn't one of those that have none.
 pub fn has_template_in_force()
-    ensures { (first after : FilesView) (s : PeerView) (filed : FiledDatagrams)
-        → IsPeer first after s filed → SaysInForce s (known_after_all (taken_in filed)) }
+    ensures { (s : PeerView)
+        → Whichever s (λ filed. SaysInForce s (known_after_all (taken_in filed))) }
 {}

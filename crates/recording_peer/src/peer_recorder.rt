@@ -4,7 +4,7 @@ ghost use Rattle.std.specs.Prelude.{◌≡◌, ℕ, List, [], Some, unwrap_or};
 ghost use Rattle.ipfix_message.specs.declared.fault.MessageFault.TheVariants.{OutOfMemory};
 ghost use Rattle.recording_files.specs.Files.{FilesView, IsEmpty};
 ghost use Rattle.recording_files.specs.declared.record_fault.RecordFault.TheVariants.{Message as OfMessage};
-ghost use Rattle.recording_peer.specs.Recording.{FiledDatagrams, IsPeer, HasStopped, barred_shown, TakesDatagram, FinishesFile, StaysEnded, Tells, none_filed, answer_of, left_listed};
+ghost use Rattle.recording_peer.specs.Recording.{FiledDatagrams, IsPeer, HasStopped, barred_shown, Takes, FinishesFile, StaysEnded, Tells, none_filed, answer_of, left_listed};
 
 use crate::peer_answer::PeerAnswer;
 use crate::peer_session::PeerSession;
@@ -98,8 +98,7 @@ impl PeerRecorder {
         second: u64,
         files: &mut F,
     ) -> Result<PeerAnswer, RecordFault>
-        ensures answers { TakesDatagram F.seen second datagram.now result self.old self.new
-            files.old files.new }
+        ensures answers { Takes F.seen second datagram.now result self.old self.new files.old files.new }
         ensures ended { StaysEnded F.seen result self.old self.new files.old files.new }
     {
         if let Some(fault) = &self.ended {

@@ -1,7 +1,7 @@
 //! What keeps a peer's place, where there is no room for one more.
 
-ghost use Rattle.std.specs.Prelude.{◌≡◌, ◌-◌, nat_lt, option_copied, option_map, sum_by};
-ghost use Rattle.recording_peer.specs.Places.{fields_for, fields_in, fields_left, has_record, has_template};
+ghost use Rattle.std.specs.Prelude.{◌≡◌, ◌-◌, nat_lt, sum_by};
+ghost use Rattle.recording_peer.specs.Places.{fields_for, fields_in, fields_left, has_record, has_template, listed};
 
 use crate::peer_recorder::PeerRecorder;
 use ipfix_message::{DOMAIN_FIELDS, Templates, count_of};
@@ -40,7 +40,7 @@ impl PeerRecorder {
 
 // What the template of an id counts, if there is one.
 fn fields_in(templates: Option<&Templates>, id: u16) -> u64
-    ensures { result ≡ fields_in (option_map (λ ts. ts.entries) (option_copied templates.entry)) id }
+    ensures { result ≡ fields_in (listed templates.entry) id }
 {
     let Some(templates) = templates else {
         return 0;
@@ -58,9 +58,8 @@ fn without_those(
     ended: Option<&Templates>,
     ids: &[u16],
 ) -> u64
-    ensures { let in_files = option_map (λ ts. ts.entries) (option_copied files.entry) in
-        let ended_there = option_map (λ ts. ts.entries) (option_copied ended.entry) in
-        result ≡ count - sum_by (fields_for in_files ended_there) ids.now }
+    ensures { result ≡ count
+        - sum_by (fields_for (listed files.entry) (listed ended.entry)) ids.now }
 {
     let mut left = count;
     for id in ids {

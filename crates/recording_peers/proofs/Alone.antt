@@ -5,7 +5,7 @@ use Rattle.std.specs.Map.{lookup, lookup_key, remove_entry}
 use Rattle.std.specs.declared.net.socket_addr.SocketAddr.{SocketAddr}
 use Rattle.std.specs.contracts.net.socket_addr.SocketAddrEq.TheImpl.Laws.{laws-law}
 use Rattle.recording_files.specs.Files.{FilesView}
-use Rattle.recording_peers.specs.declared.session_limits.SessionLimits.{SessionLimits}
+use Rattle.recording_peers.specs.declared.peer_limits.PeerLimits.{PeerLimits}
 use Rattle.recording_peers.specs.declared.peer_state.PeerState.{PeerState}
 use Rattle.recording_peers.specs.declared.outcome.Became.{Became}
 use Rattle.recording_peers.specs.declared.outcome.Became.TheVariants.{Taken, Ended, NoPlace, NoMemory}
@@ -142,7 +142,7 @@ module _ {F : Type 0} (peer : SocketAddr) where
       ∙ append_assoc (happened_to peer cs) (cond (same_peer peer r.peer) (came_in r ∷ []) []) (own_of peer rs)
       ∙ ap (λ hs. happened_to peer cs ++ hs) (sym (own_cons r rs))
 
-module _ {F : Type 0} (seen : F → FilesView) (made_for : F → SocketAddr → Type 0) (laws : Laws) (limits : SessionLimits) (most : ℕ) where
+module _ {F : Type 0} (seen : F → FilesView) (made_for : F → SocketAddr → Type 0) (laws : Laws) (limits : PeerLimits) (most : ℕ) where
   pub stand_by : (became : Became F) (r : Reception F) (after : List (SocketAddr × PeerState F)) (cs : PeerHappenings) → StandBy seen limits became r after cs → StandFor seen limits after (happened_by became r cs)
   stand_by Taken r after cs s = s.0
   stand_by (Ended k) r after cs s = s.0

@@ -2,6 +2,7 @@
 use Rattle.std.proofs.Common.{◌≡◌, ℕ, zero, suc, ◌<◌, Bool, true, false, Option, Some, Result, Ok, Err, List, [], ◌∷◌, ◌++◌, length, slice_get, refl, sym, ap, subst, ◌∙◌, append_assoc, arith, length-append}
 use Rattle.std.specs.Prelude.{MatchResult}
 use Rattle.std.proofs.lemmas.List.{append-nil, map-append}
+use Rattle.ipfix_message.specs.declared.fault.MessageFault.TheVariants.{TooManyFields}
 use Rattle.ipfix_session.specs.Given.{IsPrefix}
 use Rattle.recording_files.specs.declared.record_fault.RecordFault.{RecordFault}
 use Rattle.recording_files.specs.Files.{FilesView}
@@ -13,7 +14,7 @@ use Rattle.recording_peer.specs.Recording.{FiledDatagrams, barred_shown, file_fi
 use Rattle.recording_peers.specs.declared.peer_state.PeerState.{PeerState}
 use Rattle.recording_peers.specs.declared.refusals.Refusals.{Refusals}
 use Rattle.recording_peers.specs.Happenings.{datagrams_of}
-use Rattle.recording_peers.specs.Kept.{Said, WasRecorded, WasRefused, WasIgnored, SaidSo, IsSettled, ignored_after, Recording, HasFailed, says_of, counts_said}
+use Rattle.recording_peers.specs.Kept.{Said, WasRecorded, WasRefused, WasOverBudget, WasIgnored, SaidSo, IsSettled, ignored_after, Recording, HasFailed, says_of, counts_said}
 use Rattle.recording_peers.specs.Calls.{Part, Follows, RunsTo, IsRunning, refused_after, one_more_refused, recorded_then, filed_more, filed_then}
 use Rattle.recording_peers.proofs.Growing.{Grows, prefix-both, prefix-same}
 
@@ -34,12 +35,14 @@ pub refused-append : (said more : List Said) (r : Option Refusals) → refused_a
 refused-append [] more r = refl
 refused-append (WasRecorded c ∷ said) more r = refused-append said more r
 refused-append (WasRefused fault ∷ said) more r = refused-append said more (Some (one_more_refused r fault))
+refused-append (WasOverBudget ∷ said) more r = refused-append said more (Some (one_more_refused r TooManyFields))
 refused-append (WasIgnored m ∷ said) more r = refused-append said more r
 
 pub ignored-append : (ms : List (List ℕ)) (said more : List Said) → ignored_after ms (said ++ more) ≡ ignored_after (ignored_after ms said) more
 ignored-append ms [] more = refl
 ignored-append ms (WasRecorded c ∷ said) more = ignored-append ms said more
 ignored-append ms (WasRefused fault ∷ said) more = ignored-append ms said more
+ignored-append ms (WasOverBudget ∷ said) more = ignored-append ms said more
 ignored-append ms (WasIgnored m ∷ said) more = ignored-append (ms ++ m ∷ []) said more
 
 -- ---- what is recorded then

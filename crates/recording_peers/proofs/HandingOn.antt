@@ -7,6 +7,7 @@ use Rattle.lru.proofs.Pairs.{slice_get-cut}
 use Rattle.ipfix_session.specs.Given.{IsPrefix}
 use Rattle.ipfix_datagrams.specs.Datagrams.{IsTooMuch, barred_after}
 use Rattle.ipfix_message.specs.declared.fault.MessageFault.{MessageFault}
+use Rattle.ipfix_message.specs.declared.fault.MessageFault.TheVariants.{TooManyFields}
 use Rattle.recording_files.specs.declared.message_count.MessageCount.{MessageCount}
 use Rattle.recording_files.specs.declared.record_fault.RecordFault.{RecordFault}
 use Rattle.recording_files.specs.Files.{FilesView}
@@ -18,42 +19,42 @@ use Rattle.recording_resumption.specs.declared.earlier_domain.EarlierDomain.{Ear
 use Rattle.ipfix_message.specs.Domains.{message_header}
 use Rattle.recording_peer.specs.Late.{IsReadWhere, IsRefusedAt}
 use Rattle.recording_peer.specs.Peers.{Taken, basis_with, known_after_all}
-use Rattle.recording_peer.specs.Recording.{BarsOnce, KnownShown, PeerView, FiledDatagrams, IsPeer, IsRecorded, HasStopped, TakesDatagram, barred_shown, resumed_for, FinishesFile, filed_with, with_ignored, file_finished, taken_in, ignored_in}
+use Rattle.recording_peer.specs.Recording.{BarsOnce, KnownShown, PeerView, FiledDatagrams, IsPeer, IsRecorded, HasStopped, Takes, barred_shown, resumed_for, FinishesFile, filed_with, with_ignored, file_finished, taken_in, ignored_in}
 use Rattle.recording_peer.proofs.PeerFiles.{taken_in-push, in-finished, ignored-finished}
 use Rattle.recording_peers.specs.declared.peer_state.PeerState.{PeerState}
 use Rattle.recording_peers.specs.Happenings.{datagrams_of}
-use Rattle.recording_peers.specs.Kept.{Barred, none_barred, Said, WasRecorded, WasRefused, WasIgnored, SaidSo, Settles, IsSettled, ignored_after, Recording, HasRecorded, HasFailed, counts_said, counts_of, limits_kept}
-use Rattle.recording_peers.specs.declared.session_limits.SessionLimits.{SessionLimits}
-use Rattle.recording_peers.specs.declared.refusals.DatagramFault.TheVariants.{Message as OfMessage, TooManyFields}
+use Rattle.recording_peers.specs.Kept.{Barred, none_barred, Said, WasRecorded, WasRefused, WasOverBudget, WasIgnored, SaidSo, Settles, IsSettled, ignored_after, Recording, HasRecorded, HasFailed, counts_said, counts_of, limits_kept}
+use Rattle.recording_peers.specs.declared.peer_limits.PeerLimits.{PeerLimits}
 use Rattle.recording_peers.specs.Calls.{Part, Follows, RunsTo, IsRunning, handed_on, one_more_refused, recorded_then, filed_then}
 use Rattle.recording_peers.proofs.Growing.{Grows, grows-none}
 use Rattle.recording_peers.proofs.Following.{follows-of, ignored-append, recorded-none, datagrams-longer}
 
 -- ---- one more is settled
 
-settles-more : (n : SessionLimits) (left : BTreeMap ℕ EarlierDomain) (before : List Taken) (old : Barred) (ms : List (List ℕ)) (said : List Said) (all : List Taken) (between : Barred) (m : List ℕ) (s : Said) (now : List Taken) (new : Barred)
+settles-more : (n : PeerLimits) (left : BTreeMap ℕ EarlierDomain) (before : List Taken) (old : Barred) (ms : List (List ℕ)) (said : List Said) (all : List Taken) (between : Barred) (m : List ℕ) (s : Said) (now : List Taken) (new : Barred)
     → Settles n left before old ms said all between → Settles n left all between (m ∷ []) (s ∷ []) now new → Settles n left before old (ms ++ m ∷ []) (said ++ s ∷ []) now new
 settles-more n left before old [] [] all between m s now new h one = subst (λ (b : Barred). Settles n left before b (m ∷ []) (s ∷ []) now new) h.1 (subst (λ (ts : List Taken). Settles n left ts between (m ∷ []) (s ∷ []) now new) h.0 one)
 settles-more n left before old [] (t ∷ said) all between m s now new h one = absurd h
 settles-more n left before old (x ∷ ms) [] all between m s now new h one = absurd h
 settles-more n left before old (x ∷ ms) (WasRecorded c ∷ said) all between m s now new h one = (h.0, h.1, h.2, h.3, h.4, settles-more n left (before ++ h.0 ∷ []) h.1 ms said all between m s now new h.5 one)
-settles-more n left before old (x ∷ ms) (WasRefused (OfMessage fault) ∷ said) all between m s now new h one = (h.0, settles-more n left before old ms said all between m s now new h.1 one)
-settles-more n left before old (x ∷ ms) (WasRefused TooManyFields ∷ said) all between m s now new h one = (h.0, h.1, settles-more n left before h.0 ms said all between m s now new h.2 one)
+settles-more n left before old (x ∷ ms) (WasRefused fault ∷ said) all between m s now new h one = (h.0, settles-more n left before old ms said all between m s now new h.1 one)
+settles-more n left before old (x ∷ ms) (WasOverBudget ∷ said) all between m s now new h one = (h.0, h.1, settles-more n left before h.0 ms said all between m s now new h.2 one)
 settles-more n left before old (x ∷ ms) (WasIgnored d ∷ said) all between m s now new h one = (h.0, h.1, settles-more n left before old ms said all between m s now new h.2 one)
 
-pub settles-length : (n : SessionLimits) (left : BTreeMap ℕ EarlierDomain) (before : List Taken) (old : Barred) (ms : List (List ℕ)) (said : List Said) (all : List Taken) (now : Barred) → Settles n left before old ms said all now → length said ≡ length ms
+pub settles-length : (n : PeerLimits) (left : BTreeMap ℕ EarlierDomain) (before : List Taken) (old : Barred) (ms : List (List ℕ)) (said : List Said) (all : List Taken) (now : Barred) → Settles n left before old ms said all now → length said ≡ length ms
 settles-length n left before old [] [] all now h = refl
 settles-length n left before old [] (t ∷ said) all now h = absurd h
 settles-length n left before old (x ∷ ms) [] all now h = absurd h
 settles-length n left before old (x ∷ ms) (WasRecorded c ∷ said) all now h = ap suc (settles-length n left (before ++ h.0 ∷ []) h.1 ms said all now h.5)
-settles-length n left before old (x ∷ ms) (WasRefused (OfMessage fault) ∷ said) all now h = ap suc (settles-length n left before old ms said all now h.1)
-settles-length n left before old (x ∷ ms) (WasRefused TooManyFields ∷ said) all now h = ap suc (settles-length n left before h.0 ms said all now h.2)
+settles-length n left before old (x ∷ ms) (WasRefused fault ∷ said) all now h = ap suc (settles-length n left before old ms said all now h.1)
+settles-length n left before old (x ∷ ms) (WasOverBudget ∷ said) all now h = ap suc (settles-length n left before h.0 ms said all now h.2)
 settles-length n left before old (x ∷ ms) (WasIgnored d ∷ said) all now h = ap suc (settles-length n left before old ms said all now h.2)
 
 -- those that were ignored, with the next one
 ignored-next : (p : Recording) (more : List Taken) (s : Said) → ignored_in p.filed ≡ ignored_after [] p.said → ignored_in (filed_then false p.filed more (s ∷ [])) ≡ ignored_after [] (p.said ++ s ∷ [])
 ignored-next p more (WasRecorded c) h = h ∙ sym (ignored-append [] p.said (WasRecorded c ∷ []))
 ignored-next p more (WasRefused fault) h = h ∙ sym (ignored-append [] p.said (WasRefused fault ∷ []))
+ignored-next p more WasOverBudget h = h ∙ sym (ignored-append [] p.said (WasOverBudget ∷ []))
 ignored-next p more (WasIgnored m) h =
     sym (append_assoc (flat_map (λ (ms : List (List ℕ)). ms) p.filed.ignored) p.filed.ignored_here (m ∷ [])) ∙ ap (λ (ms : List (List ℕ)). ms ++ m ∷ []) h
     ∙ sym (ignored-append [] p.said (WasIgnored m ∷ []))
@@ -96,10 +97,10 @@ module _ {F : Type 0} (seen : F → FilesView) where
   }
 
   -- its limits stay
-  bounds-with : (m : List ℕ) (first : FilesView) (s t : PeerView) (filed : FiledDatagrams) (second : ℕ) (count : MessageCount) (fs : F) → IsRecorded count second m first (seen fs) s t filed → limits_kept t.known ≡ limits_kept s.known
+  bounds-with : (m : List ℕ) (first : FilesView) (s t : PeerView) (filed : FiledDatagrams) (second : ℕ) (count : MessageCount) (fs : F) → IsRecorded second m first (seen fs) s t filed count → limits_kept t.known ≡ limits_kept s.known
   bounds-with m first s t filed second count fs x = λ i. record { reorder = x.reorder i; templates = x.budget i }
 
-  recorded-one : (a : Arrival) (second : ℕ) (old : PeerState F) (p : Recording) (count : MessageCount) (t : PeerView) (fs : F) → limits_kept old.recorder.known ≡ p.limits → (x : IsRecorded count second a.octets p.first (seen fs) old.recorder t p.filed)
+  recorded-one : (a : Arrival) (second : ℕ) (old : PeerState F) (p : Recording) (count : MessageCount) (t : PeerView) (fs : F) → limits_kept old.recorder.known ≡ p.limits → (x : IsRecorded second a.octets p.first (seen fs) old.recorder t p.filed count)
       → SettlesNext a old p (WasRecorded (counts_of count)) (taken_in (filed_then false p.filed (x.next ∷ []) (WasRecorded (counts_of count) ∷ []))) (barred_shown t.known)
   recorded-one a second old p count t fs bounds x = (
     x.next,
@@ -107,7 +108,7 @@ module _ {F : Type 0} (seen : F → FilesView) where
     x.datagram,
     record { records = sym x.counts.records; unknown_sets = sym (ap (λ o. o.unknown_sets) x.counts.passed_over) },
     record {
-      barred = subst (λ (n : SessionLimits). IsReadWhere n.reorder (taken_in p.filed) (barred_shown old.recorder.known) x.next.second x.next.datagram x.next.given.header x.next.barred) bounds
+      barred = subst (λ (n : PeerLimits). IsReadWhere n.reorder (taken_in p.filed) (barred_shown old.recorder.known) x.next.second x.next.datagram x.next.given.header x.next.barred) bounds
           (subst (λ (m : List ℕ). IsReadWhere old.recorder.known.reorder (taken_in p.filed) (barred_shown old.recorder.known) x.next.second m x.next.given.header x.next.barred) (sym x.datagram)
           (subst (λ (k : ℕ). IsReadWhere old.recorder.known.reorder (taken_in p.filed) (barred_shown old.recorder.known) k a.octets x.next.given.header x.next.barred) (sym x.at) x.barred));
       again = subst (λ (m : List ℕ). (domain : ℕ) → barred_shown t.known domain ≡ (if domain == x.next.given.header.domain then barred_after (barred_shown old.recorder.known domain) m else barred_shown old.recorder.known domain)) (sym x.datagram) x.has_again;
@@ -116,7 +117,7 @@ module _ {F : Type 0} (seen : F → FilesView) where
   )
 
   -- it was recorded, and noted
-  pub follows-recorded : (old : PeerState F) (a : Arrival) (second : ℕ) (count : MessageCount) (t : PeerView) (fs : F) (w : WindowView) → TakesDatagram seen second a.octets (Ok (Recorded count)) old.recorder t old.files fs
+  pub follows-recorded : (old : PeerState F) (a : Arrival) (second : ℕ) (count : MessageCount) (t : PeerView) (fs : F) (w : WindowView) → Takes seen second a.octets (Ok (Recorded count)) old.recorder t old.files fs
       → w ≡ after_writing old.window a (counts_of count) → Follows seen (handed_on a) false old (record old { recorder = t; files = fs; window = w }) (Ok tt)
   follows-recorded old a second count t fs w takes noted =
       let new = record old { recorder = t; files = fs; window = w } in
@@ -135,11 +136,11 @@ module _ {F : Type 0} (seen : F → FilesView) where
       })
 
   -- it was refused, and nothing else changed
-  pub follows-refused : (old : PeerState F) (a : Arrival) (second : ℕ) (fault : MessageFault) (t : PeerView) (fs : F) → TakesDatagram seen second a.octets (Ok (Refused fault)) old.recorder t old.files fs
-      → Follows seen (handed_on a) false old (record old { recorder = t; files = fs; refused = Some (one_more_refused old.refused (OfMessage fault)) }) (Ok tt)
+  pub follows-refused : (old : PeerState F) (a : Arrival) (second : ℕ) (fault : MessageFault) (t : PeerView) (fs : F) → Takes seen second a.octets (Ok (Refused fault)) old.recorder t old.files fs
+      → Follows seen (handed_on a) false old (record old { recorder = t; files = fs; refused = Some (one_more_refused old.refused fault) }) (Ok tt)
   follows-refused old a second fault t fs takes =
-      let new = record old { recorder = t; files = fs; refused = Some (one_more_refused old.refused (OfMessage fault)) } in
-      follows-of seen (handed_on a) false old new (Ok tt) (WasRefused (OfMessage fault) ∷ []) refl refl refl
+      let new = record old { recorder = t; files = fs; refused = Some (one_more_refused old.refused fault) } in
+      follows-of seen (handed_on a) false old new (Ok tt) (WasRefused fault ∷ []) refl refl refl
       (λ p r is.
       let x = takes p.first p.filed is.recorded.is in
       let filed : FiledDatagrams = record p.filed { here = p.filed.here ++ [] } in
@@ -147,11 +148,11 @@ module _ {F : Type 0} (seen : F → FilesView) where
       let peer : IsPeer p.first (seen fs) t p.filed = subst (λ v. IsPeer p.first v t p.filed) (sym x.2) (subst (λ s. IsPeer p.first (seen old.files) s p.filed) (sym x.1) is.recorded.is) in
       record {
         more = [];
-        leads = hands-on a old new p r (WasRefused (OfMessage fault)) [] is is.window (record {
+        leads = hands-on a old new p r (WasRefused fault) [] is is.window (record {
           empty = is.recorded.empty;
           is = subst (λ f. IsPeer p.first (seen fs) t f) (sym same) peer;
           bounds = ap (λ (s : PeerView). limits_kept s.known) x.1 ∙ is.recorded.bounds;
-          settles = settled-next a old p r (WasRefused (OfMessage fault)) [] (barred_shown t.known) is ((second, subst (λ (n : SessionLimits). IsRefusedAt n.reorder (taken_in p.filed) (barred_shown old.recorder.known) (resumed_for p.filed a.octets) second a.octets fault (message_header a.octets)) is.recorded.bounds x.0), (ap taken_in same, ap (λ (s : PeerView). barred_shown s.known) x.1));
+          settles = settled-next a old p r (WasRefused fault) [] (barred_shown t.known) is ((second, subst (λ (n : PeerLimits). IsRefusedAt n.reorder (taken_in p.filed) (barred_shown old.recorder.known) (resumed_for p.filed a.octets) second a.octets fault (message_header a.octets)) is.recorded.bounds x.0), (ap taken_in same, ap (λ (s : PeerView). barred_shown s.known) x.1));
         });
       })
 
@@ -170,11 +171,11 @@ module _ {F : Type 0} (seen : F → FilesView) where
     times = p.times;
   }
 
-  pub follows-too_much : (old : PeerState F) (a : Arrival) (second : ℕ) (t : PeerView) (fs : F) → TakesDatagram seen second a.octets (Ok TooMuch) old.recorder t old.files fs
+  pub follows-too_much : (old : PeerState F) (a : Arrival) (second : ℕ) (t : PeerView) (fs : F) → Takes seen second a.octets (Ok TooMuch) old.recorder t old.files fs
       → Follows seen (handed_on a) false old (record old { recorder = t; files = fs; refused = Some (one_more_refused old.refused TooManyFields) }) (Ok tt)
   follows-too_much old a second t fs takes =
       let new = record old { recorder = t; files = fs; refused = Some (one_more_refused old.refused TooManyFields) } in
-      follows-of seen (handed_on a) false old new (Ok tt) (WasRefused TooManyFields ∷ []) refl refl refl
+      follows-of seen (handed_on a) false old new (Ok tt) (WasOverBudget ∷ []) refl refl refl
       (λ p r is.
       let x = takes p.first p.filed is.recorded.is in
       let over = x.0 in
@@ -184,20 +185,20 @@ module _ {F : Type 0} (seen : F → FilesView) where
       let peer : IsPeer p.first (seen fs) t p.filed = subst (λ v. IsPeer p.first v t p.filed) (sym x.1) barred in
       record {
         more = [];
-        leads = hands-on a old new p r (WasRefused TooManyFields) [] is is.window (record {
+        leads = hands-on a old new p r WasOverBudget [] is is.window (record {
           empty = is.recorded.empty;
           is = subst (λ f. IsPeer p.first (seen fs) t f) (sym same) peer;
           bounds = ap (λ (s : PeerView). limits_kept s.known) over.bars.others ∙ is.recorded.bounds;
-          settles = settled-next a old p r (WasRefused TooManyFields) [] (barred_shown t.known) is (
+          settles = settled-next a old p r WasOverBudget [] (barred_shown t.known) is (
             barred_shown t.known,
             record {
               header = over.header;
               is_header = over.is_header;
               second = second;
               without = over.barred;
-              read = subst (λ (n : SessionLimits). IsReadWhere n.reorder (taken_in p.filed) (barred_shown old.recorder.known) second a.octets over.header over.barred) is.recorded.bounds over.read;
+              read = subst (λ (n : PeerLimits). IsReadWhere n.reorder (taken_in p.filed) (barred_shown old.recorder.known) second a.octets over.header over.barred) is.recorded.bounds over.read;
               ids = over.ids;
-              too_much = subst (λ (n : SessionLimits). IsTooMuch (basis_with (resumed_for p.filed a.octets) over.barred) n.templates (known_after_all (taken_in p.filed)) a.octets over.ids) is.recorded.bounds over.too_much;
+              too_much = subst (λ (n : PeerLimits). IsTooMuch (basis_with (resumed_for p.filed a.octets) over.barred) n.templates (known_after_all (taken_in p.filed)) a.octets over.ids) is.recorded.bounds over.too_much;
               barred = over.bars.barred;
             },
             (ap taken_in same, refl),
@@ -206,7 +207,7 @@ module _ {F : Type 0} (seen : F → FilesView) where
       })
 
   -- it was ignored, and only counted
-  pub follows-ignored : (old : PeerState F) (a : Arrival) (second : ℕ) (t : PeerView) (fs : F) → TakesDatagram seen second a.octets (Ok Ignored) old.recorder t old.files fs
+  pub follows-ignored : (old : PeerState F) (a : Arrival) (second : ℕ) (t : PeerView) (fs : F) → Takes seen second a.octets (Ok Ignored) old.recorder t old.files fs
       → Follows seen (handed_on a) false old (record old { recorder = t; files = fs }) (Ok tt)
   follows-ignored old a second t fs takes =
       let new = record old { recorder = t; files = fs } in
@@ -226,7 +227,7 @@ module _ {F : Type 0} (seen : F → FilesView) where
       })
 
   -- the recorder, or its files, failed
-  pub follows-failed : (old : PeerState F) (a : Arrival) (second : ℕ) (fault : RecordFault) (t : PeerView) (fs : F) → TakesDatagram seen second a.octets (Err fault) old.recorder t old.files fs
+  pub follows-failed : (old : PeerState F) (a : Arrival) (second : ℕ) (fault : RecordFault) (t : PeerView) (fs : F) → Takes seen second a.octets (Err fault) old.recorder t old.files fs
       → Follows seen (handed_on a) false old (record old { recorder = t; files = fs }) (Err fault)
   follows-failed old a second fault t fs takes =
       let new = record old { recorder = t; files = fs } in
@@ -253,7 +254,7 @@ module _ {F : Type 0} (seen : F → FilesView) where
     pub stopped : (first after : FilesView) (filed : FiledDatagrams) (m : List ℕ) → IsPeer first after t filed → HasStopped fault first after u.told filed m
 
   -- to note one that was recorded
-  pub follows-unnoted : (old : PeerState F) (a : Arrival) (second : ℕ) (count : MessageCount) (t u : PeerView) (fs : F) (w : WindowView) (fault : RecordFault) → TakesDatagram seen second a.octets (Ok (Recorded count)) old.recorder t old.files fs
+  pub follows-unnoted : (old : PeerState F) (a : Arrival) (second : ℕ) (count : MessageCount) (t u : PeerView) (fs : F) (w : WindowView) (fault : RecordFault) → Takes seen second a.octets (Ok (Recorded count)) old.recorder t old.files fs
       → EndsFor fault t u → Follows seen (handed_on a) false old (record old { recorder = u; files = fs; window = w }) (Err fault)
   follows-unnoted old a second count t u fs w fault takes ends =
       let new = record old { recorder = u; files = fs; window = w } in

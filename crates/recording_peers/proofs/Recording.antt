@@ -8,7 +8,7 @@ use Rattle.lru.specs.LruCache.{promoted, last_entry}
 use Rattle.recording_files.specs.declared.record_fault.RecordFault.{RecordFault}
 use Rattle.recording_files.specs.Files.{FilesView}
 use Rattle.recording_resumption.specs.declared.earlier_domain.EarlierDomain.{EarlierDomain}
-use Rattle.recording_peers.specs.declared.session_limits.SessionLimits.{SessionLimits}
+use Rattle.recording_peers.specs.declared.peer_limits.PeerLimits.{PeerLimits}
 use Rattle.recording_peers.specs.declared.peer_state.PeerState.{PeerState}
 use Rattle.recording_peers.specs.declared.turn.Turn.{Turn}
 use Rattle.recording_peers.specs.declared.outcome.Became.{Became}
@@ -50,7 +50,7 @@ module _ {F : Type 0} (seen : F → FilesView) where
         others = left ∙ taken_out r.peer None es old new h;
       }
 
-  module _ (made_for : F → SocketAddr → Type 0) (limits : SessionLimits) (most : ℕ) where
+  module _ (made_for : F → SocketAddr → Type 0) (limits : PeerLimits) (most : ℕ) where
     -- a session begins, and one goes for it
     pub begins_with : {E : Type 0} (peer : SocketAddr) (left : BTreeMap ℕ EarlierDomain) (answer : Result (Option (SocketAddr × PeerState F)) E) (es after : List (SocketAddr × PeerState F)) (k : PeerState F) → Begins seen made_for limits peer left k
         → IfOk answer (λ gone. PutsIn most peer k gone es after) → OnErr answer (after ≡ es) → BeginsWith seen made_for limits most peer left answer es after

@@ -14,7 +14,7 @@ use Rattle.recording_order.specs.Counts.{with_counts_begun}
 use Rattle.recording_order.specs.Windows.{WindowView}
 use Rattle.recording_order.specs.Releases.{Run, Says, Event, Came, Tick, Agree, step, tick, run_from, run, finish}
 use Rattle.recording_peer.specs.Recording.{IsPeer, PeerView, barred_shown, taken_in}
-use Rattle.recording_peers.specs.declared.session_limits.SessionLimits.{SessionLimits}
+use Rattle.recording_peers.specs.declared.peer_limits.PeerLimits.{PeerLimits}
 use Rattle.recording_peers.specs.declared.peer_state.PeerState.{PeerState}
 use Rattle.recording_peers.specs.Happenings.{Happening, DatagramCame, SecondBegan, arrived, event_of, events_of, datagrams_of}
 use Rattle.recording_peers.specs.Kept.{Said, SaidSo, Recording, HasRecorded, HasFailed, IsSession, HasEnded, IsReleased, IsSettled, limits_kept, none_barred, says_of}
@@ -49,7 +49,7 @@ pub record Laws : Type 0 where
   pub finish_alike : (says : Says) (r s : Run) → RunsAlike r s → RunsAlike (finish says r) (finish says s)
   pub told : (w : WindowView) → SameButCounts (with_counts_begun w) w
 
-module _ {F : Type 0} (seen : F → FilesView) (laws : Laws) (limits : SessionLimits) where
+module _ {F : Type 0} (seen : F → FilesView) (laws : Laws) (limits : PeerLimits) where
   same-run : (k : PeerState F) (hs : List Happening) (s : IsSession seen k limits hs) (more : List Said) (says : Says) → SaidSo (s.recording.said ++ more) says
       → run says limits.reorder (events_of hs) ≡ run (says_of s.recording.said) limits.reorder (events_of hs)
   same-run k hs s more says so =

@@ -4,7 +4,7 @@ use Rattle.std.specs.Prelude.{unwrap_or}
 use Rattle.std.specs.declared.net.socket_addr.SocketAddr.{SocketAddr}
 use Rattle.recording_files.specs.declared.record_fault.RecordFault.{RecordFault}
 use Rattle.recording_files.specs.Files.{FilesView}
-use Rattle.recording_peers.specs.declared.session_limits.SessionLimits.{SessionLimits}
+use Rattle.recording_peers.specs.declared.peer_limits.PeerLimits.{PeerLimits}
 use Rattle.recording_peers.specs.declared.peer_state.PeerState.{PeerState}
 use Rattle.recording_peers.specs.declared.outcome.Became.{Became}
 use Rattle.recording_peers.specs.declared.outcome.Became.TheVariants.{Taken, Ended, NoPlace, NoMemory}
@@ -16,7 +16,7 @@ use Rattle.recording_peers.specs.Sessions.{PeerHappenings, happened_to, happened
 use Rattle.recording_peers.proofs.Paired.{paired_lookup, paired_first, paired_others, paired_gone}
 use Rattle.recording_peers.proofs.SessionSteps.{Laws, StandsBy, takes-stands}
 
-module _ {F : Type 0} (seen : F → FilesView) (made_for : F → SocketAddr → Type 0) (laws : Laws) (limits : SessionLimits) where
+module _ {F : Type 0} (seen : F → FilesView) (made_for : F → SocketAddr → Type 0) (laws : Laws) (limits : PeerLimits) where
   -- a session stands for this
   abbrev Stands : PeerState F → List Happening → Type 0
   Stands k hs = IsSession seen k limits hs

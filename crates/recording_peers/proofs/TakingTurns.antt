@@ -12,15 +12,15 @@ module _ {F : Type 0} (seen : F → FilesView) (old went_on ordered new : PeerSt
   -- what was refused is told, datagrams are handed on, the counts of domains are told, and then which domains went on
   pub turn_taken : t.refused ≡ old.refused → Follows seen (λ says r. tick says second r) is_over (record old { refused = None }) went_on t.answer
       → TellsCounts is_over went_on.window t.orders.items ordered.window → ordered ≡ record went_on { window = ordered.window }
-      → TellsResumed ordered.recorder.told.resumed ordered.resumptions_told t.resumed.items new.resumptions_told → new ≡ record ordered { resumptions_told = new.resumptions_told }
+      → TellsResumed ordered.recorder.told.resumed t.resumed.items ordered new → new ≡ record ordered { resumptions_told = new.resumptions_told }
       → TakesTurn seen old new second is_over t
   turn_taken refused follows counts others resumed more = record {
     refused = refused;
     window = went_on.window;
     follows = subst (λ (k : PeerState F). Follows seen (λ says r. tick says second r) is_over (record old { refused = None }) k t.answer) (sym same) follows;
     counts = subst (λ (w : WindowView). TellsCounts is_over went_on.window t.orders.items w) (sym (ap (λ (k : PeerState F). k.window) more)) counts;
-    resumed = subst (λ (r : PeerView). TellsResumed r.told.resumed old.resumptions_told t.resumed.items new.resumptions_told) (sym (ap (λ (k : PeerState F). k.recorder) more))
-        (subst (λ (n : ℕ). TellsResumed ordered.recorder.told.resumed n t.resumed.items new.resumptions_told) before resumed);
+    resumed = subst (λ (r : PeerView). TellsResumed r.told.resumed t.resumed.items old new) (sym (ap (λ (k : PeerState F). k.recorder) more))
+        (subst (λ (n : ℕ). TellsResumed ordered.recorder.told.resumed t.resumed.items (record ordered { resumptions_told = n }) new) before resumed);
   }
     where
       before : ordered.resumptions_told ≡ old.resumptions_told

@@ -4,7 +4,7 @@ use Rattle.std.specs.declared.net.socket_addr.SocketAddr.{SocketAddr}
 use Rattle.lru.specs.LruCache.{last_entry}
 use Rattle.recording_files.specs.declared.record_fault.RecordFault.{RecordFault}
 use Rattle.recording_files.specs.Files.{FilesView}
-use Rattle.recording_peers.specs.declared.session_limits.SessionLimits.{SessionLimits}
+use Rattle.recording_peers.specs.declared.peer_limits.PeerLimits.{PeerLimits}
 use Rattle.recording_peers.specs.declared.peer_state.PeerState.{PeerState}
 use Rattle.recording_peers.specs.declared.in_turn.InTurn.{InTurn}
 use Rattle.recording_peers.specs.Happenings.{Happening, SecondBegan}
@@ -15,7 +15,7 @@ use Rattle.recording_peers.specs.Sessions.{PeerHappenings, StandFor, StandInTurn
 use Rattle.recording_peers.proofs.Paired.{paired_get, paired_take, paired_length}
 use Rattle.recording_peers.proofs.SessionSteps.{Laws, StandsBy, turn-stands}
 
-module _ {F : Type 0} (seen : F → FilesView) (limits : SessionLimits) where
+module _ {F : Type 0} (seen : F → FilesView) (limits : PeerLimits) where
   abbrev Stands : PeerState F → List Happening → Type 0
   Stands k hs = IsSession seen k limits hs
 

@@ -3,10 +3,11 @@ use Rattle.std.specs.Prelude.{◌≡◌, ◌⊎◌, ℕ, Bool, true, false, List
 use Rattle.ipfix_wire.specs.declared.header.Header.{Header}
 use Rattle.ipfix_message.specs.Domains.{message_header}
 use Rattle.ipfix_message.specs.declared.fault.MessageFault.{MessageFault}
+use Rattle.ipfix_message.specs.declared.fault.MessageFault.TheVariants.{TooManyFields}
 use Rattle.ipfix_session.specs.Sources.{one_more}
 use Rattle.recording_files.specs.declared.record_fault.RecordFault.{RecordFault}
 use Rattle.recording_files.specs.Files.{FilesView}
-use Rattle.recording_order.specs.Releases.{Run, Says, Came, hand_on, step, tick}
+use Rattle.recording_order.specs.Releases.{Run, Says, Came, begin_anew, hand_on, step, take_run, tick}
 use Rattle.recording_order.specs.Arrivals.{Arrival}
 use Rattle.recording_order.specs.Counts.{told_counts, with_counts_begun}
 use Rattle.recording_order.specs.Windows.{WindowView}
@@ -16,11 +17,9 @@ use Rattle.recording_peer.specs.Recording.{FiledDatagrams, file_finished}
 use Rattle.recording_peer.specs.declared.resumption.Resumption.{Resumption}
 use Rattle.recording_peers.specs.declared.peer_state.PeerState.{PeerState}
 use Rattle.recording_peers.specs.declared.refusals.Refusals.{Refusals}
-use Rattle.recording_peers.specs.declared.refusals.DatagramFault.{DatagramFault}
-use Rattle.recording_peers.specs.declared.refusals.DatagramFault.TheVariants.{Message as OfMessage}
 use Rattle.recording_peers.specs.declared.turn.Turn.{Turn}
-use Rattle.recording_peers.specs.Happenings.{datagrams_of}
-use Rattle.recording_peers.specs.Kept.{Said, WasRecorded, WasRefused, WasIgnored, ignored_after, SaidSo, Recording, HasRecorded, HasFailed}
+use Rattle.recording_peers.specs.Happenings.{arrival, datagrams_of}
+use Rattle.recording_peers.specs.Kept.{Said, WasRecorded, WasRefused, WasOverBudget, WasIgnored, ignored_after, SaidSo, Recording, HasRecorded, HasFailed}
 
 -- ---- datagrams that are refused
 
@@ -29,13 +28,14 @@ abbrev pub untold : Option Refusals → ℕ
 untold None = 0
 untold (Some r) = r.count
 
-abbrev pub one_more_refused : Option Refusals → DatagramFault → Refusals
+abbrev pub one_more_refused : Option Refusals → MessageFault → Refusals
 one_more_refused r fault = record { count = one_more (untold r); last = fault }
 
 abbrev pub refused_after : List Said → Option Refusals → Option Refusals
 refused_after [] r = r
 refused_after (WasRecorded c ∷ said) r = refused_after said r
 refused_after (WasRefused fault ∷ said) r = refused_after said (Some (one_more_refused r fault))
+refused_after (WasOverBudget ∷ said) r = refused_after said (Some (one_more_refused r TooManyFields))
 refused_after (WasIgnored m ∷ said) r = refused_after said r
 
 -- ---- datagrams that are handed on
@@ -44,9 +44,15 @@ refused_after (WasIgnored m ∷ said) r = refused_after said r
 abbrev pub Part : Type 0
 Part = Says → Run → Run
 
--- a datagram is handed on, or comes
+-- a datagram is handed on, or after those of its domain that wait; it is offered to the window; or it comes
 abbrev pub handed_on : Arrival → Part
 handed_on a says r = hand_on says a r.window r
+
+abbrev pub begun_anew : Arrival → Part
+begun_anew a says r = begin_anew says a r
+
+abbrev pub offering : Arrival → Part
+offering a says r = take_run says a r
 
 abbrev pub arriving : Arrival → Part
 arriving a says r = step says r (Came a)
@@ -72,9 +78,10 @@ TellsCounts true w orders after = ((orders ≡ told_counts w) × (after ≡ with
 
 -- ---- domains that went on after an earlier run
 
--- of these domains so many were told: the others are told now, or wait where there is no memory for that
-abbrev pub TellsResumed : List Resumption → ℕ → List Resumption → ℕ → Type 0
-TellsResumed all told now after = ((now ≡ drop told all) × (after ≡ length all)) ⊎ ((now ≡ []) × (after ≡ told))
+-- of these domains a session told as many as it says: the others are told now, or wait where there is no memory for that
+abbrev pub TellsResumed : {F : Type 0} → List Resumption → List Resumption → PeerState F → PeerState F → Type 0
+TellsResumed all now old new =
+    ((now ≡ drop old.resumptions_told all) × (new.resumptions_told ≡ length all)) ⊎ ((now ≡ []) × (new.resumptions_told ≡ old.resumptions_told))
 
 module _ {F : Type 0} (seen : F → FilesView) where
   -- the files and the recorder stand for what a run has handed on, and the window is the run's
@@ -99,12 +106,16 @@ module _ {F : Type 0} (seen : F → FilesView) where
         (λ x. RunsTo new (recorded_then finishes p more said) part r)
         (λ fault. HasFailed seen new fault (recorded_then false p more said) (λ says. (part says r).handed_on))
 
+  -- a call does with a datagram that came at a second what a part of a run does with it, and finishes no file
+  abbrev pub FollowsWith : (Arrival → Part) → Header → ℕ → List ℕ → PeerState F → PeerState F → Result (Unit {0}) RecordFault → Type 0
+  FollowsWith part h second m old new answer = Follows (part (arrival h second m)) false old new answer
+
   -- ---- a datagram that comes
 
   -- one that has a header takes its place; any other is refused, and nothing else changes
   abbrev pub TakesBy : Result Header MessageFault → PeerState F → PeerState F → List ℕ → ℕ → Result (Unit {0}) RecordFault → Type 0
-  TakesBy (Ok h) old new m second answer = Follows (arriving (record { header = h; second = second; octets = m })) false old new answer
-  TakesBy (Err fault) old new m second answer = (answer ≡ Ok tt) × (new ≡ record old { refused = Some (one_more_refused old.refused (OfMessage fault)) })
+  TakesBy (Ok h) old new m second answer = FollowsWith arriving h second m old new answer
+  TakesBy (Err fault) old new m second answer = (answer ≡ Ok tt) × (new ≡ record old { refused = Some (one_more_refused old.refused fault) })
 
   abbrev pub Takes : PeerState F → PeerState F → List ℕ → ℕ → Result (Unit {0}) RecordFault → Type 0
   Takes old new m second answer = TakesBy (message_header m) (record old { heard = second }) new m second answer
@@ -118,4 +129,4 @@ module _ {F : Type 0} (seen : F → FilesView) where
     pub window : WindowView
     pub follows : Follows (λ says r. tick says second r) is_over (record old { refused = None }) (record new { window = window; resumptions_told = old.resumptions_told }) t.answer
     pub counts : TellsCounts is_over window t.orders.items new.window
-    pub resumed : TellsResumed new.recorder.told.resumed old.resumptions_told t.resumed.items new.resumptions_told
+    pub resumed : TellsResumed new.recorder.told.resumed t.resumed.items old new

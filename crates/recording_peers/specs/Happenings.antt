@@ -6,6 +6,10 @@ use Rattle.ipfix_message.specs.declared.fault.MessageFault.{MessageFault}
 use Rattle.recording_order.specs.Arrivals.{Arrival}
 use Rattle.recording_order.specs.Releases.{Event, Came, Tick, came}
 
+-- a datagram with this header came at a second
+abbrev pub arrival : Header → ℕ → List ℕ → Arrival
+arrival h second octets = record { header = h; second = second; octets = octets }
+
 -- a datagram came at a second, or a second began
 pub data Happening : Type 0 where
   DatagramCame : List ℕ → ℕ → Happening
@@ -13,7 +17,7 @@ pub data Happening : Type 0 where
 
 -- a datagram has its place by its header; one whose header can't be read is refused at once, and changes nothing
 abbrev pub arrived : List ℕ → ℕ → Result Header MessageFault → List Event
-arrived octets second (Ok h) = Came (record { header = h; second = second; octets = octets }) ∷ []
+arrived octets second (Ok h) = Came (arrival h second octets) ∷ []
 arrived octets second (Err fault) = []
 
 abbrev pub event_of : Happening → List Event

@@ -5,8 +5,7 @@ use Rattle.std.specs.Option.{option_to_list}
 use Rattle.std.specs.BTreeMap.{BTreeMap}
 use Rattle.ipfix_message.specs.Domains.{Message, message_header}
 use Rattle.ipfix_wire.specs.declared.header.Header.{Header}
-use Rattle.recording_peers.specs.declared.refusals.DatagramFault.{DatagramFault}
-use Rattle.recording_peers.specs.declared.refusals.DatagramFault.TheVariants.{Message as OfMessage, TooManyFields}
+use Rattle.ipfix_message.specs.declared.fault.MessageFault.{MessageFault}
 use Rattle.ipfix_session.specs.Given.{IsPrefix}
 use Rattle.ipfix_session.specs.Ledger.{count_in}
 use Rattle.recording_files.specs.declared.record_fault.RecordFault.{RecordFault}
@@ -22,7 +21,7 @@ use Rattle.recording_peer.specs.Late.{IsReadWhere, IsRefusedAt}
 use Rattle.recording_peer.specs.Peers.{Taken, basis_with, known_after_all, resumed_at}
 use Rattle.recording_peer.specs.Recording.{barred_shown, FiledDatagrams, KnownShown, IsPeer, HasStopped, taken_in, ignored_in}
 use Rattle.recording_peers.specs.declared.peer_state.PeerState.{PeerState}
-use Rattle.recording_peers.specs.declared.session_limits.SessionLimits.{SessionLimits}
+use Rattle.recording_peers.specs.declared.peer_limits.PeerLimits.{PeerLimits}
 use Rattle.recording_peers.specs.Happenings.{Happening, events_of, datagrams_of}
 
 -- ---- what the recorder said
@@ -32,7 +31,9 @@ pub data Said : Type 0 where
   -- it was recorded, with so many data records and unknown sets
   WasRecorded : DatagramCounts → Said
   -- it was refused
-  WasRefused : DatagramFault → Said
+  WasRefused : MessageFault → Said
+  -- it was refused for what it defines: with it the templates would count more than the budget
+  WasOverBudget : Said
   -- this one was ignored
   WasIgnored : List ℕ → Said
 
@@ -40,6 +41,7 @@ abbrev pub counts_said : Option Said → Option DatagramCounts
 counts_said None = None
 counts_said (Some (WasRecorded counts)) = Some counts
 counts_said (Some (WasRefused fault)) = None
+counts_said (Some WasOverBudget) = None
 counts_said (Some (WasIgnored m)) = None
 
 -- the datagrams that were ignored, and then those of which that was said
@@ -47,6 +49,7 @@ abbrev pub ignored_after : List (List ℕ) → List Said → List (List ℕ)
 ignored_after ignored [] = ignored
 ignored_after ignored (WasRecorded c ∷ said) = ignored_after ignored said
 ignored_after ignored (WasRefused fault ∷ said) = ignored_after ignored said
+ignored_after ignored (WasOverBudget ∷ said) = ignored_after ignored said
 ignored_after ignored (WasIgnored m ∷ said) = ignored_after (ignored ++ m ∷ []) said
 
 -- what it adds to the counts, as the window notes it
@@ -77,7 +80,7 @@ pub record HasAgain (reorder : ℕ) (before : List Taken) (old next : Barred) (x
   pub again : (domain : ℕ) → next domain ≡ (if domain == x.given.header.domain then barred_after (old domain) x.datagram else old domain)
 
 -- one was refused for what it defines: those for which it would have changed what is known have none from then on
-pub record WasTooMuch (limits : SessionLimits) (left : BTreeMap ℕ EarlierDomain) (before : List Taken) (old next : Barred) (m : List ℕ) : Type 0 where
+pub record WasTooMuch (limits : PeerLimits) (left : BTreeMap ℕ EarlierDomain) (before : List Taken) (old next : Barred) (m : List ℕ) : Type 0 where
   pub header : Header
   pub is_header : message_header m ≡ Ok header
   pub second : ℕ
@@ -89,25 +92,25 @@ pub record WasTooMuch (limits : SessionLimits) (left : BTreeMap ℕ EarlierDomai
 
 -- each of these, one after another, was taken at a second, with these counts, or refused, or ignored, after those that were taken before it
 -- and what an earlier run left, where these ids have no template; then all these were taken, and these ids have none
-abbrev pub Settles : SessionLimits → BTreeMap ℕ EarlierDomain → List Taken → Barred → List (List ℕ) → List Said → List Taken → Barred → Type 0
+abbrev pub Settles : PeerLimits → BTreeMap ℕ EarlierDomain → List Taken → Barred → List (List ℕ) → List Said → List Taken → Barred → Type 0
 Settles limits left before old [] [] all now = (all ≡ before) × (now ≡ old)
 Settles limits left before old [] (s ∷ said) all now = ⊥
 Settles limits left before old (m ∷ ms) [] all now = ⊥
 Settles limits left before old (m ∷ ms) (WasRecorded c ∷ said) all now =
     (x : Taken) × (next : Barred) × (x.datagram ≡ m) × HasCounts c x.given × HasAgain limits.reorder before old next x × Settles limits left (before ++ x ∷ []) next ms said all now
-Settles limits left before old (m ∷ ms) (WasRefused (OfMessage fault) ∷ said) all now =
+Settles limits left before old (m ∷ ms) (WasRefused fault ∷ said) all now =
     ((second : ℕ) × IsRefusedAt limits.reorder before old (resumed_at left before (message_header m)) second m fault (message_header m)) × Settles limits left before old ms said all now
-Settles limits left before old (m ∷ ms) (WasRefused TooManyFields ∷ said) all now = (next : Barred) × WasTooMuch limits left before old next m × Settles limits left before next ms said all now
+Settles limits left before old (m ∷ ms) (WasOverBudget ∷ said) all now = (next : Barred) × WasTooMuch limits left before old next m × Settles limits left before next ms said all now
 Settles limits left before old (m ∷ ms) (WasIgnored d ∷ said) all now = (d ≡ m) × (withdraws_only m ≡ true) × Settles limits left before old ms said all now
 
 -- the limits that a recorder keeps
-abbrev pub limits_kept : KnownShown → SessionLimits
+abbrev pub limits_kept : KnownShown → PeerLimits
 limits_kept k = record { reorder = k.reorder; templates = k.budget }
 
 -- of a session: its limits, what was seen of its files at first, the datagrams that stand in them, and what was said of each that was
 -- handed on
 pub record Recording : Type 0 where
-  pub limits : SessionLimits
+  pub limits : PeerLimits
   pub first : FilesView
   pub filed : FiledDatagrams
   pub said : List Said
@@ -146,7 +149,7 @@ module _ {F : Type 0} (seen : F → FilesView) (k : PeerState F) where
 
   -- ---- a session with these limits
 
-  module _ (limits : SessionLimits) (happenings : List Happening) where
+  module _ (limits : PeerLimits) (happenings : List Happening) where
     -- it stands for what happened since it began: its files have those that are released by then of the datagrams that came
     pub record IsSession : Type 0 where
       pub recording : Recording

@@ -2,7 +2,6 @@
 pub mod Answers
 pub mod Scripts
 pub mod Happenings
-pub mod DatagramFaults
 pub mod Kept
 pub mod Calls
 pub mod Table

@@ -4,14 +4,14 @@ use Rattle.std.specs.declared.net.socket_addr.SocketAddr.{SocketAddr}
 use Rattle.recording_files.specs.Files.{FilesView}
 use Rattle.recording_peers.specs.declared.outcome.Became.{Became}
 use Rattle.recording_peers.specs.declared.outcome.Became.TheVariants.{Taken, Ended, NoPlace, NoMemory}
-use Rattle.recording_peers.specs.declared.session_limits.SessionLimits.{SessionLimits}
+use Rattle.recording_peers.specs.declared.peer_limits.PeerLimits.{PeerLimits}
 use Rattle.recording_peers.specs.Happenings.{Happening}
 use Rattle.recording_peers.specs.Table.{same_peer, of_peer, others_for}
 use Rattle.recording_peers.specs.Steps.{PeerSessions, Reception, Records}
 use Rattle.recording_peers.specs.Sessions.{PeerHappenings, came_in, went_in, with_happening}
 
 -- they were recorded one after another
-abbrev pub AreRecorded : {F : Type 0} → (F → FilesView) → (F → SocketAddr → Type 0) → SessionLimits → ℕ → List (Reception F) → PeerSessions F → PeerSessions F → Type 0
+abbrev pub AreRecorded : {F : Type 0} → (F → FilesView) → (F → SocketAddr → Type 0) → PeerLimits → ℕ → List (Reception F) → PeerSessions F → PeerSessions F → Type 0
 AreRecorded seen made_for limits most [] es after = after ≡ es
 AreRecorded {F} seen made_for limits most (r ∷ rs) es after =
     (between : PeerSessions F) × Records seen made_for limits most r es between × AreRecorded seen made_for limits most rs between after

@@ -3,7 +3,7 @@ use Rattle.std.specs.Prelude.{◌≡◌, ℕ, List, [], ◌∷◌, ◌++◌, Opt
 use Rattle.std.specs.declared.net.socket_addr.SocketAddr.{SocketAddr}
 use Rattle.lru.specs.LruCache.{last_entry}
 use Rattle.recording_files.specs.Files.{FilesView}
-use Rattle.recording_peers.specs.declared.session_limits.SessionLimits.{SessionLimits}
+use Rattle.recording_peers.specs.declared.peer_limits.PeerLimits.{PeerLimits}
 use Rattle.recording_peers.specs.declared.peer_state.PeerState.{PeerState}
 use Rattle.recording_peers.specs.declared.outcome.Became.{Became}
 use Rattle.recording_peers.specs.declared.outcome.Became.TheVariants.{Taken, Ended, NoPlace, NoMemory}
@@ -36,7 +36,7 @@ went_in r = address_of r.gone
 abbrev pub came_in : {F : Type 0} → Reception F → Happening
 came_in r = DatagramCame r.octets r.second
 
-module _ {F : Type 0} (seen : F → FilesView) (limits : SessionLimits) where
+module _ {F : Type 0} (seen : F → FilesView) (limits : PeerLimits) where
   -- the session of each peer stands for its own
   abbrev pub StandFor : PeerSessions F → PeerHappenings → Type 0
   StandFor es cs = Paired (λ k hs. IsSession seen k limits hs) es cs

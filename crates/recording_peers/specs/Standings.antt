@@ -1,12 +1,28 @@
 -- Peers that are kept, and what happened to each (RFC 7011, section 10.3).
+use Rattle.std.specs.Prelude.{List}
 use Rattle.recording_files.specs.Files.{FilesView}
-use Rattle.recording_peers.specs.declared.session_limits.SessionLimits.{SessionLimits}
+use Rattle.recording_peers.specs.declared.peer_limits.PeerLimits.{PeerLimits}
+use Rattle.recording_peers.specs.declared.peer_state.PeerState.{PeerState}
+use Rattle.recording_peers.specs.Happenings.{Happening, came_with_header}
+use Rattle.recording_peers.specs.Kept.{HasRecorded, IsReleased, Recording}
 use Rattle.recording_peers.specs.Sessions.{PeerHappenings, StandFor}
 use Rattle.recording_peers.specs.Steps.{PeerSessions}
 
 -- the session of each peer stands for its own
 pub record Standing {F : Type 0} (seen : F → FilesView) : Type 0 where
-  pub limits : SessionLimits
+  pub limits : PeerLimits
   pub sessions : PeerSessions F
   pub own : PeerHappenings
   pub stand : StandFor seen limits sessions own
+
+-- a session in which none waits any more: its files have all that is released of what happened to its peer
+pub record Released {F : Type 0} (seen : F → FilesView) : Type 0 where
+  pub session : PeerState F
+  pub limits : PeerLimits
+  pub happened : List Happening
+  pub recording : Recording
+  pub is : IsReleased seen session limits happened recording
+
+-- they have all that came, as it came
+abbrev pub HasAllThatCame : {F : Type 0} {seen : F → FilesView} → Released seen → Type 0
+HasAllThatCame {F} {seen} r = HasRecorded seen r.session r.recording (came_with_header r.happened)

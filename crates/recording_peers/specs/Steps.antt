@@ -1,9 +1,9 @@
 -- What becomes of a datagram, and of the peers that are kept.
-use Rattle.std.specs.Prelude.{◌≡◌, ◌≤◌, ◌⊎◌, ℕ, Bool, not, nat_lt, if◌then◌else◌, is_some, List, length, [], ◌∷◌, Option, Some, None, Result, Ok, Err}
+use Rattle.std.specs.Prelude.{◌≡◌, ◌≤◌, ◌⊎◌, ℕ, Bool, not, nat_lt, if◌then◌else◌, is_some, IfSome, List, length, [], ◌∷◌, Option, Some, None, Result, Ok, Err}
 use Rattle.std.specs.Option.{option_or}
 use Rattle.std.specs.BTreeMap.{BTreeMap}
 use Rattle.std.specs.declared.net.socket_addr.SocketAddr.{SocketAddr}
-use Rattle.lru.specs.LruCache.{last_entry}
+use Rattle.lru.specs.LruCache.{last_entry, lru_cache}
 use Rattle.recording_files.specs.declared.record_fault.RecordFault.{RecordFault}
 use Rattle.recording_files.specs.Files.{FilesView}
 use Rattle.recording_resumption.specs.declared.earlier_domain.EarlierDomain.{EarlierDomain}
@@ -11,10 +11,11 @@ use Rattle.recording_peer.specs.Beginnings.{BeginsPeer, WhyNone, resumed_first}
 use Rattle.recording_peer.specs.Places.{has_template, has_record}
 use Rattle.recording_peer.specs.Recording.{left_listed}
 use Rattle.recording_peers.specs.declared.peer_state.PeerState.{PeerState}
+use Rattle.recording_peers.specs.declared.outcome.Outcome.{Outcome}
 use Rattle.recording_peers.specs.declared.outcome.Became.{Became}
 use Rattle.recording_peers.specs.declared.outcome.Became.TheVariants.{Taken, Ended, NoPlace, NoMemory}
 use Rattle.recording_peers.specs.declared.peers.Peers.{Peers}
-use Rattle.recording_peers.specs.declared.session_limits.SessionLimits.{SessionLimits}
+use Rattle.recording_peers.specs.declared.peer_limits.PeerLimits.{PeerLimits}
 use Rattle.recording_peers.specs.declared.in_turn.InTurn.{InTurn}
 use Rattle.recording_peers.specs.declared.turn.Turn.{Turn}
 use Rattle.recording_peers.specs.Kept.{IsSession}
@@ -34,6 +35,10 @@ pub record Reception (F : Type 0) : Type 0 where
   pub second : ℕ
   pub became : Became F
   pub gone : Option (SocketAddr × PeerState F)
+
+-- with the outcome that was answered
+abbrev pub reception : {F : Type 0} → SocketAddr → List ℕ → ℕ → Outcome F → Reception F
+reception peer m second o = record { peer = peer; octets = m; second = second; became = o.became; gone = o.gone }
 
 -- what became of it, by the answer of its peer's session
 abbrev pub became_by : {F : Type 0} → Result (Unit {0}) RecordFault → PeerState F → Became F
@@ -82,6 +87,14 @@ pub record FindsNoPlace {F : Type 0} (budget most : ℕ) (r : Reception F) (es a
   pub nothing : TakesNothing r es after
   pub why : WhyNoPlace budget most r es
 
+-- a datagram begins a session with these limits, by what an earlier run left of its peer
+abbrev pub DatagramBegins : PeerLimits → BTreeMap ℕ EarlierDomain → List ℕ → Type 0
+DatagramBegins limits left m = BeginsPeer limits.templates (resumed_first left m) m
+
+-- none are kept, and there is room for so many
+abbrev pub KeepsNone : {F : Type 0} → ℕ → Peers F → Type 0
+KeepsNone most peers = peers.kept ≡ lru_cache [] most
+
 -- the room for peers, and the limits of their sessions, stay
 pub record KeepsLimits {F : Type 0} (old new : Peers F) : Type 0 where
   pub room : new.kept.cap ≡ old.kept.cap
@@ -97,7 +110,7 @@ pub record TakesKept {F : Type 0} (seen : F → FilesView) (r : Reception F) (es
   pub became : r.became ≡ became_by answer new
   pub others : after ≡ kept_by answer None r.peer new es
 
-module _ {F : Type 0} (seen : F → FilesView) (made_for : F → SocketAddr → Type 0) (limits : SessionLimits) where
+module _ {F : Type 0} (seen : F → FilesView) (made_for : F → SocketAddr → Type 0) (limits : PeerLimits) where
   -- a session that begins, with files that were made for its peer, and with what an earlier run left of the peer
   pub record Begins (peer : SocketAddr) (left : BTreeMap ℕ EarlierDomain) (k : PeerState F) : Type 0 where
     pub session : IsSession seen k limits []
@@ -109,7 +122,7 @@ module _ {F : Type 0} (seen : F → FilesView) (made_for : F → SocketAddr → 
   pub record BeginsBy (peer : SocketAddr) (m : List ℕ) (k : PeerState F) : Type 0 where
     pub left : BTreeMap ℕ EarlierDomain
     pub begins : Begins peer left k
-    pub by : BeginsPeer limits.templates (resumed_first left m) m
+    pub by : DatagramBegins limits left m
 
   -- a peer that isn't kept is first then, with a session that begins, and this one went for it; or there is no memory
   abbrev pub BeginsWith : {E : Type 0} → ℕ → SocketAddr → BTreeMap ℕ EarlierDomain → Result (Option (SocketAddr × PeerState F)) E → PeerSessions F → PeerSessions F → Type 0
@@ -166,3 +179,29 @@ pub record GoesOn {F : Type 0} (seen : F → FilesView) (second : ℕ) (is_over 
   pub resumed : t.resumed ≡ turn.resumed
   pub ended : t.ended ≡ ended_by turn.answer new
   pub others : after ≡ first_by turn.answer t.peer new (others_than_last es)
+
+-- of the last one, which was silent for longest, a datagram came since then
+abbrev pub LastIsHeard : {F : Type 0} → ℕ → PeerSessions F → Type 0
+LastIsHeard since es = IfSome (last_entry es) (λ e. since ≤ e.1.heard)
+
+-- ---- what the calls do with the peers that are kept
+
+module _ {F : Type 0} (seen : F → FilesView) where
+  -- a datagram of one of them, which came at a second, was taken, and this became of it
+  abbrev pub PeersTake : SocketAddr → List ℕ → ℕ → Peers F → Peers F → Became F → Type 0
+  PeersTake peer m second old new became = TakesKept seen (reception peer m second (record { became = became; gone = None })) old.kept.entries new.kept.entries
+
+  abbrev pub PeersGoOn : ℕ → Bool → Peers F → Peers F → InTurn F → Type 0
+  PeersGoOn second is_over old new t = GoesOn seen second is_over old.kept.entries new.kept.entries t
+
+-- one that isn't kept was put in, with this session, and this one went for it
+abbrev pub PeersPutIn : {F : Type 0} → SocketAddr → PeerState F → Peers F → Peers F → Option (SocketAddr × PeerState F) → Type 0
+PeersPutIn peer k old new gone = PutsIn old.kept.cap peer k gone old.kept.entries new.kept.entries
+
+module _ {F : Type 0} (seen : F → FilesView) (made_for : F → SocketAddr → Type 0) where
+  abbrev pub PeersBegin : {E : Type 0} → SocketAddr → BTreeMap ℕ EarlierDomain → Result (Option (SocketAddr × PeerState F)) E → Peers F → Peers F → Type 0
+  PeersBegin peer left answer old new = BeginsWith seen made_for old.limits old.kept.cap peer left answer old.kept.entries new.kept.entries
+
+  -- a datagram of any peer, which came at a second, was recorded, with this outcome
+  abbrev pub PeersRecord : SocketAddr → List ℕ → ℕ → Outcome F → Peers F → Peers F → Type 0
+  PeersRecord peer m second o old new = Records seen made_for old.limits old.kept.cap (reception peer m second o) old.kept.entries new.kept.entries

@@ -1,11 +1,12 @@
 //! Datagrams that are handed on to the recorder.
 
 ghost use Rattle.std.specs.Prelude.{◌≡◌, false};
-ghost use Rattle.recording_peers.specs.Calls.{Follows, handed_on};
+ghost use Rattle.recording_peers.specs.Calls.{Follows, FollowsWith, handed_on};
 ghost use Rattle.recording_peers.specs.Kept as specs;
 
 use crate::peer_state::PeerState;
-use crate::refusals::{DatagramFault, one_more};
+use crate::refusals::one_more;
+use ipfix_message::MessageFault;
 use ipfix_wire::Header;
 use recording_files::{FileSeries, MessageCount, RecordFault};
 use recording_order::{Datagram, DatagramCounts};
@@ -33,11 +34,7 @@ impl<F: FileSeries> PeerState<F> {
         second: u64,
         now: u64,
     ) -> Result<(), RecordFault>
-        ensures { Follows F.seen (handed_on (record {
-          header = header.now;
-          second = second;
-          octets = datagram.now;
-        })) false self.old self.new result }
+        ensures { FollowsWith F.seen handed_on header.now second datagram.now self.old self.new result }
     {
         match self.recorder.take(alloc, datagram, now, &mut self.files)? {
             PeerAnswer::Recorded(count) => {
@@ -48,12 +45,11 @@ impl<F: FileSeries> PeerState<F> {
                 }
             }
             PeerAnswer::Refused(fault) => {
-                let fault = DatagramFault::Message(fault);
                 self.refused = Some(one_more(self.refused, fault));
                 Ok(())
             }
             PeerAnswer::TooMuch => {
-                self.refused = Some(one_more(self.refused, DatagramFault::TooManyFields));
+                self.refused = Some(one_more(self.refused, MessageFault::TooManyFields));
                 Ok(())
             }
             PeerAnswer::Ignored => Ok(()),

@@ -7,14 +7,14 @@ ghost use Rattle.lru.specs.LruCache.{last_entry};
 ghost use Rattle.recording_order.specs.InOrder.{AreNext};
 ghost use Rattle.recording_order.specs.Releases.{finish, start};
 ghost use Rattle.recording_peers.specs.declared.peer_state.PeerState.{PeerState};
-ghost use Rattle.recording_peers.specs.declared.session_limits.SessionLimits.{SessionLimits};
+ghost use Rattle.recording_peers.specs.declared.peer_limits.PeerLimits.{PeerLimits};
 ghost use Rattle.recording_peers.specs.declared.in_turn.InTurn.{InTurn};
 ghost use Rattle.recording_peers.specs.Calls.{Follows};
-ghost use Rattle.recording_peers.specs.Happenings.{Happening, came_with_header, events_of};
-ghost use Rattle.recording_peers.specs.Kept.{HasRecorded, IsReleased, IsSession, Recording, says_of};
+ghost use Rattle.recording_peers.specs.Happenings.{Happening, events_of};
+ghost use Rattle.recording_peers.specs.Kept.{IsReleased, IsSession, Recording, says_of};
 ghost use Rattle.recording_peers.specs.Runs.{AreRecorded, IsNeverEvicted, happened_after, own_of};
 ghost use Rattle.recording_peers.specs.Sessions.{EvictedStands, PeerHappenings, StandAfter, StandAfterTurn, StandFor, happened_to};
-ghost use Rattle.recording_peers.specs.Standings.{Standing};
+ghost use Rattle.recording_peers.specs.Standings.{HasAllThatCame, Released, Standing};
 ghost use Rattle.recording_peers.specs.Steps.{GoesOn, PeerSessions, Reception, Records};
 ghost use Rattle.recording_peers.specs.Table.{others_than_last};
 
@@ -76,14 +76,13 @@ pub fn sessions_stand_for_their_own<F: FileSeries, P: PeerPlace<F>>()
 /// what is released of the datagrams that came. Where none waits at all, or each came in its order, these are
 /// all that came, as they came.
 pub fn files_have_what_is_released<F: FileSeries>()
-    ensures released { (old new : PeerState F) (limits : SessionLimits) (hs : List Happening)
+    ensures released { (old new : PeerState F) (limits : PeerLimits) (hs : List Happening)
         → IsSession F.seen old limits hs → Follows F.seen finish false old new (Ok tt)
         → (p : Recording) × IsReleased F.seen new limits hs p }
-    ensures off { (k : PeerState F) (limits : SessionLimits) (hs : List Happening) (p : Recording)
-        → limits.reorder ≡ 0 → IsReleased F.seen k limits hs p → HasRecorded F.seen k p (came_with_header hs) }
-    ensures in_order { (k : PeerState F) (limits : SessionLimits) (hs : List Happening) (p : Recording)
-        → AreNext (says_of p.said) (start limits.reorder) (events_of hs)
-        → IsReleased F.seen k limits hs p → HasRecorded F.seen k p (came_with_header hs) }
+    ensures off { (r : Released F.seen) → r.limits.reorder ≡ 0 → HasAllThatCame r }
+    ensures in_order { (r : Released F.seen)
+        → AreNext (says_of r.recording.said) (start r.limits.reorder) (events_of r.happened)
+        → HasAllThatCame r }
 {
     only_what_was_handed_on_is_asked();
     counts_change_nothing();

@@ -1,8 +1,6 @@
 //! A datagram that comes takes its place.
 
-ghost use Rattle.std.specs.Prelude.{◌≡◌, false};
-ghost use Rattle.recording_order.specs.Releases as releases;
-ghost use Rattle.recording_peers.specs.Calls.{Follows, arriving};
+ghost use Rattle.recording_peers.specs.Calls.{FollowsWith, arriving, begun_anew, offering};
 
 use crate::peer_state::PeerState;
 use ipfix_wire::Header;
@@ -19,11 +17,7 @@ impl<F: FileSeries> PeerState<F> {
         datagram: &[u8],
         second: u64,
     ) -> Result<(), RecordFault>
-        ensures { Follows F.seen (λ says r. releases.begin_anew says (record {
-          header = header.now;
-          second = second;
-          octets = datagram.now;
-        }) r) false self.old self.new result }
+        ensures { FollowsWith F.seen begun_anew header.now second datagram.now self.old self.new result }
     {
         self.empty(alloc, header.domain, second)?;
         self.hand_on(alloc, header, datagram, second, second)
@@ -37,11 +31,7 @@ impl<F: FileSeries> PeerState<F> {
         datagram: &[u8],
         second: u64,
     ) -> Result<(), RecordFault>
-        ensures { Follows F.seen (λ says r. releases.take_run says (record {
-          header = header.now;
-          second = second;
-          octets = datagram.now;
-        }) r) false self.old self.new result }
+        ensures { FollowsWith F.seen offering header.now second datagram.now self.old self.new result }
     {
         for _round in 0..=self.window.waiting_count() {
             match self.window.offer(alloc, header, datagram, second) {
@@ -64,11 +54,7 @@ impl<F: FileSeries> PeerState<F> {
         datagram: &[u8],
         second: u64,
     ) -> Result<(), RecordFault>
-        ensures { Follows F.seen (arriving (record {
-          header = header.now;
-          second = second;
-          octets = datagram.now;
-        })) false self.old self.new result }
+        ensures { FollowsWith F.seen arriving header.now second datagram.now self.old self.new result }
     {
         self.offer(alloc, header, datagram, second)?;
         self.settle(alloc, header.domain, second)

@@ -6,8 +6,8 @@ ghost use Rattle.recording_peer.specs.Recording.{left_listed};
 ghost use Rattle.recording_peers.specs.Calls.{Takes, TakesTurn};
 ghost use Rattle.recording_peers.specs.Kept.{IsSession};
 
-use crate::refusals::{DatagramFault, Refusals, one_more};
-use crate::session_limits::SessionLimits;
+use crate::peer_limits::PeerLimits;
+use crate::refusals::{Refusals, one_more};
 use crate::turn::Turn;
 use ipfix_message::header_of;
 use recording_files::{FileSeries, RecordFault};
@@ -40,7 +40,7 @@ impl<F: FileSeries> PeerState<F> {
         alloc: Global,
         files: F,
         earlier: EarlierDomains,
-        limits: SessionLimits,
+        limits: PeerLimits,
         now: u64,
     ) -> Self
         requires { IsEmpty (F.seen files).contents }
@@ -74,7 +74,6 @@ impl<F: FileSeries> PeerState<F> {
         match header_of(datagram) {
             Ok(header) => self.take_in_order(alloc, &header, datagram, second),
             Err(fault) => {
-                let fault = DatagramFault::Message(fault);
                 self.refused = Some(one_more(self.refused, fault));
                 Ok(())
             }

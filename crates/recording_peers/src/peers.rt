@@ -1,16 +1,16 @@
 //! The peers that are kept.
 
-ghost use Rattle.std.specs.Prelude.{◌≡◌, ◌≤◌, ◌<◌, ◌==◌, [], Some, None, length, IfOk, IfSome};
+ghost use Rattle.std.specs.Prelude.{◌≡◌, ◌<◌, ◌==◌, [], Some, None, length, IfOk, IfSome};
 ghost use Rattle.std.specs.NonZero.{non_zero_usize_get};
-ghost use Rattle.lru.specs.LruCache.{lru_cache, last_entry};
-ghost use Rattle.recording_peers.specs.Steps.{Records, GoesOn, KeepsLimits};
+ghost use Rattle.lru.specs.LruCache.{last_entry};
+ghost use Rattle.recording_peers.specs.Steps.{KeepsLimits, KeepsNone, LastIsHeard, PeersGoOn, PeersRecord};
 ghost use Rattle.recording_peers.specs.Table.{others_than_last};
 
 use crate::in_turn::InTurn;
 use crate::outcome::Outcome;
+use crate::peer_limits::PeerLimits;
 use crate::peer_place::PeerPlace;
 use crate::peer_state::PeerState;
-use crate::session_limits::SessionLimits;
 use crate::turn::Turn;
 use lru::LruCache;
 use recording_files::FileSeries;
@@ -25,7 +25,7 @@ pub struct Peers<F> {
     /// The session of each, under its address and port.
     pub kept: LruCache<SocketAddr, PeerState<F>, RandomState>,
     /// The limits of each session.
-    pub limits: SessionLimits,
+    pub limits: PeerLimits,
 }
 
 impl<F: FileSeries + Drop> Peers<F> {
@@ -35,9 +35,9 @@ impl<F: FileSeries + Drop> Peers<F> {
         alloc: Global,
         most: NonZeroUsize,
         keys: RandomState,
-        limits: SessionLimits,
+        limits: PeerLimits,
     ) -> Result<Self, AllocError>
-        ensures kept { IfOk result (λ peers. peers.kept ≡ lru_cache [] (non_zero_usize_get most)) }
+        ensures kept { IfOk result (KeepsNone (non_zero_usize_get most)) }
         ensures limits { IfOk result (λ peers. peers.limits ≡ limits) }
     {
         let kept = LruCache::with_hasher(alloc, most, keys)?;
@@ -70,15 +70,7 @@ impl<F: FileSeries + Drop> Peers<F> {
         datagram: &[u8],
         second: u64,
     ) -> Outcome<F>
-        ensures records { Records F.seen P.made_for self.old.limits self.old.kept.cap
-            (record {
-              peer = peer;
-              octets = datagram.now;
-              second = second;
-              became = result.became;
-              gone = result.gone;
-            })
-            self.old.kept.entries self.new.kept.entries }
+        ensures records { PeersRecord F.seen P.made_for peer datagram.now second result self.old self.new }
         ensures limits { KeepsLimits self.old self.new }
     {
         match self.take(alloc, peer, datagram, second) {
@@ -92,8 +84,7 @@ impl<F: FileSeries + Drop> Peers<F> {
     /// ([`PeerState::take_turn`]). A session that ends at that goes out.
     pub fn go_on(&mut self, alloc: Global, second: u64, is_over: bool) -> Option<InTurn<F>>
         ensures none { result ≡ None → (self.old.kept.entries ≡ []) × (self.new ≡ self.old) }
-        ensures goes_on { IfSome result
-            (GoesOn F.seen second is_over self.old.kept.entries self.new.kept.entries) }
+        ensures goes_on { IfSome result (PeersGoOn F.seen second is_over self.old self.new) }
         ensures limits { KeepsLimits self.old self.new }
     {
         if self.kept.len() == 0 {
@@ -122,11 +113,12 @@ impl<F: FileSeries + Drop> Peers<F> {
 
     /// Takes out the peer that was silent for longest, if its last datagram came before a time in seconds.
     pub fn take_silent(&mut self, since: u64) -> Option<(SocketAddr, PeerState<F>)>
-        ensures none { result ≡ None → (self.new ≡ self.old)
-            × IfSome (last_entry self.old.kept.entries) (λ e. since ≤ e.1.heard) }
-        ensures silent { IfSome result (λ e. (last_entry self.old.kept.entries ≡ Some e)
-            × (e.1.heard < since)
-            × (self.new.kept.entries ≡ others_than_last self.old.kept.entries)) }
+        ensures none { result ≡ None → self.new ≡ self.old }
+        ensures heard { result ≡ None → LastIsHeard since self.old.kept.entries }
+        ensures silent { IfSome result (λ e. e.1.heard < since) }
+        ensures last { IfSome result (λ e. last_entry self.old.kept.entries ≡ Some e) }
+        ensures rest { IfSome result
+            (λ _. self.new.kept.entries ≡ others_than_last self.old.kept.entries) }
         ensures limits { KeepsLimits self.old self.new }
     {
         let (_, kept) = self.kept.peek_lru()?;

@@ -4,7 +4,7 @@ ghost use Rattle.std.specs.Prelude.{◌≡◌, ◌<◌, ◌^◌, ◌∷◌, Some
 ghost use Rattle.std.specs.Map.{lookup_entry, remove_entry};
 ghost use Rattle.lru.specs.LruCache.{IsValid};
 ghost use Rattle.recording_peers.specs.Table.{address_of, of_peer, same_peer};
-ghost use Rattle.recording_peers.specs.Steps.{KeepsLimits, PutsIn, goes_first, gone_for};
+ghost use Rattle.recording_peers.specs.Steps.{KeepsLimits, PeersPutIn, goes_first, gone_for};
 
 use crate::peer_state::PeerState;
 use crate::peers::Peers;
@@ -96,8 +96,7 @@ impl<F: FileSeries + Drop> Peers<F> {
         session: PeerState<F>,
     ) -> Result<Option<(SocketAddr, PeerState<F>)>, AllocError>
         requires { of_peer peer self.old.kept.entries ≡ None }
-        ensures gone { IfOk result (λ gone. PutsIn self.old.kept.cap peer session gone
-            self.old.kept.entries self.new.kept.entries) }
+        ensures gone { IfOk result (PeersPutIn peer session self.old self.new) }
         ensures none { OnErr result (self.new.kept.entries ≡ self.old.kept.entries) }
         ensures limits { KeepsLimits self.old self.new }
     {

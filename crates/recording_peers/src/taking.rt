@@ -1,9 +1,8 @@
 //! Taking the datagrams of peers.
 
 ghost use Rattle.std.specs.Prelude.{◌≡◌, ◌≤◌, Some, None, IfSome, IsTrue, length};
-ghost use Rattle.recording_peer.specs.Beginnings.{BeginsPeer, resumed_first};
 ghost use Rattle.recording_peers.specs.Table.{of_peer};
-ghost use Rattle.recording_peers.specs.Steps.{BeginsWith, KeepsLimits, Records, TakesKept};
+ghost use Rattle.recording_peers.specs.Steps.{DatagramBegins, KeepsLimits, PeersBegin, PeersRecord, PeersTake};
 
 use crate::outcome::{Became, Outcome};
 use crate::peer_place::PeerPlace;
@@ -34,15 +33,7 @@ impl<F: FileSeries + Drop> Peers<F> {
         second: u64,
     ) -> Outcome<F>
         requires { of_peer peer self.old.kept.entries ≡ None }
-        ensures records { Records F.seen P.made_for self.old.limits self.old.kept.cap
-            (record {
-              peer = peer;
-              octets = datagram.now;
-              second = second;
-              became = result.became;
-              gone = result.gone;
-            })
-            self.old.kept.entries self.new.kept.entries }
+        ensures records { PeersRecord F.seen P.made_for peer datagram.now second result self.old self.new }
         ensures limits { KeepsLimits self.old self.new }
     {
         if self.lacks_room(place) {
@@ -91,17 +82,8 @@ impl<F: FileSeries + Drop> Peers<F> {
         second: u64,
     ) -> Outcome<F>
         requires new { of_peer peer self.old.kept.entries ≡ None }
-        requires begins { BeginsPeer self.old.limits.templates
-            (resumed_first earlier datagram.now) datagram.now }
-        ensures records { Records F.seen P.made_for self.old.limits self.old.kept.cap
-            (record {
-              peer = peer;
-              octets = datagram.now;
-              second = second;
-              became = result.became;
-              gone = result.gone;
-            })
-            self.old.kept.entries self.new.kept.entries }
+        requires begins { DatagramBegins self.old.limits earlier datagram.now }
+        ensures records { PeersRecord F.seen P.made_for peer datagram.now second result self.old self.new }
         ensures limits { KeepsLimits self.old self.new }
     {
         match self.begin(alloc, place, peer, earlier, second) {
@@ -129,8 +111,7 @@ impl<F: FileSeries + Drop> Peers<F> {
         second: u64,
     ) -> Result<Option<(SocketAddr, PeerState<F>)>, AllocError>
         requires { of_peer peer self.old.kept.entries ≡ None }
-        ensures begun { BeginsWith F.seen P.made_for self.old.limits self.old.kept.cap peer earlier
-            result self.old.kept.entries self.new.kept.entries }
+        ensures begun { PeersBegin F.seen P.made_for peer earlier result self.old self.new }
         ensures limits { KeepsLimits self.old self.new }
     {
         let files = place.files(alloc, peer)?;
@@ -146,15 +127,9 @@ impl<F: FileSeries + Drop> Peers<F> {
         datagram: &[u8],
         second: u64,
     ) -> Option<Became<F>>
-        ensures unknown { result ≡ None
-            → (of_peer peer self.old.kept.entries ≡ None) × (self.new ≡ self.old) }
-        ensures taken { IfSome result (λ became. TakesKept F.seen (record {
-          peer = peer;
-          octets = datagram.now;
-          second = second;
-          became = became;
-          gone = None;
-        }) self.old.kept.entries self.new.kept.entries) }
+        ensures unknown { result ≡ None → of_peer peer self.old.kept.entries ≡ None }
+        ensures none { result ≡ None → self.new ≡ self.old }
+        ensures taken { IfSome result (PeersTake F.seen peer datagram.now second self.old self.new) }
         ensures limits { KeepsLimits self.old self.new }
     {
         match self.kept.get_mut(&peer)?.take(alloc, datagram, second) {

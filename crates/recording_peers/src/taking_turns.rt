@@ -45,8 +45,7 @@ impl<F: FileSeries> PeerState<F> {
 
     /// Its domains that went on after an earlier run and weren't told, which are told now.
     pub(crate) fn take_resumed(&mut self, alloc: Global) -> Vec<Resumption>
-        ensures resumed { TellsResumed self.old.recorder.told.resumed self.old.resumptions_told
-            result.items self.new.resumptions_told }
+        ensures resumed { TellsResumed self.old.recorder.told.resumed result.items self.old self.new }
         ensures others { self.new ≡ record self.old {
           resumptions_told = self.new.resumptions_told;
         } }

@@ -2,8 +2,8 @@
 
 use recording_files::MemoryFiles;
 use recording_peers::{
-    Became, Datagram, DatagramSource, Outcome, PeerPlace, PeerState, Peers, ScriptDatagrams,
-    ScriptedDatagram, SessionLimits,
+    Became, Datagram, DatagramSource, Outcome, PeerLimits, PeerPlace, PeerState, Peers,
+    ScriptDatagrams, ScriptedDatagram,
 };
 use recording_resumption::EarlierDomains;
 use std::alloc::{AllocError, Global};
@@ -66,7 +66,7 @@ pub fn two_peers(rt: &HostRuntime) -> Result<Peers<MemoryFiles>, Fail> {
 /// No peers yet, and room for two, whose datagrams wait for so many seconds.
 pub fn peers_that_wait(rt: &HostRuntime, seconds: u64) -> Result<Peers<MemoryFiles>, Fail> {
     let most = NonZeroUsize::new(2).unwrap();
-    let limits = SessionLimits {
+    let limits = PeerLimits {
         reorder: seconds,
         templates: 16384,
     };

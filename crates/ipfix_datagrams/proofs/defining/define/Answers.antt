@@ -11,7 +11,7 @@ returns-in_err-decode c = λ ds represents room free.
     let s = c.args.stamp in
     let fits : IsStamp s = record { export_time = omega arith; sequence = omega arith; domain = omega arith } in
     let written : c.deref.result.now ≡ templates_message s (c.args.template.now ∷ []) = search rules in
-    let y = defines ds s c.args.template.now fits c.requires room free in
+    let y = defines ds s c.args.template.now fits c.requires room free.0 in
     let p = err_from_is_err_and c.from_residual.result c.from_residual.ensures.1 in
     rw (p.1, p.2) (only_memory c.in_err-decode.field-0.0 (message_gives ds c.deref.result.now) y.0 (c.in_err-decode.ensures.gives represents.fresh ds represents.stands) (ap (message_gives ds) written ∙ y.1.is))
 
@@ -20,6 +20,6 @@ returns c = λ ds represents room free.
     let s = c.args.stamp in
     let fits : IsStamp s = record { export_time = omega arith; sequence = omega arith; domain = omega arith } in
     let written : c.deref.result.now ≡ templates_message s (c.args.template.now ∷ []) = search rules in
-    let y = defines ds s c.args.template.now fits c.requires room free in
+    let y = defines ds s c.args.template.now fits c.requires room free.0 in
     let r = c.in_ok-decode.ensures.gives represents.fresh ds represents.stands in
     record { fresh = c.in_ok-decode.ensures.ok; stands = defined_by c.decode.new.self.domains ds s c.args.template.now c.deref.result.now r.0 y.0 written r.1 r.3 y.1 }

@@ -15,14 +15,14 @@ returns-in_err-define c = λ ds represents room can.
     let step : c.loop-known.known-iterator ≡ c.in-Some.known.now ∷ c.next.new.self = search rules in
     let f = c.loop-known.invariant ds represents room can in
     let p = err_from_is_err_and c.from_residual.result c.from_residual.ensures.1 in
-    rw (p.1, p.2) (c.in_err-define.ensures f.now f.represents f.room (defining_free ds d (values c.args.templates.now) c.loop-known.known-iterator c.next.new.self c.in-Some.known.now c.to_write.result.now c.loop-known.domains f step c.to_write.ensures.same))
+    rw (p.1, p.2) (c.in_err-define.ensures f.now f.represents f.room (defining_free ds d (values c.args.templates.now) c.loop-known.known-iterator c.next.new.self c.in-Some.known.now c.to_write.result.now c.loop-known.domains f step c.to_write.ensures.same, tt))
 
 pub loop-known-preserved : goal.loop-known-preserved
 loop-known-preserved c = λ ds represents room can.
     let d = c.args.header.now.domain in
     let step : c.loop-known.known-iterator ≡ c.in-Some.known.now ∷ c.next.new.self = search rules in
     let f = c.loop-known.invariant ds represents room can in
-    defining_more ds d (values c.args.templates.now) c.loop-known.known-iterator c.next.new.self c.in-Some.known.now c.to_write.result.now c.loop-known.domains c.define.new.domains f step c.to_write.ensures.same (c.in_ok-define.ensures f.now f.represents f.room)
+    defining_more ds d (values c.args.templates.now) c.loop-known.known-iterator c.next.new.self c.in-Some.known.now c.to_write.result.now c.loop-known.domains c.define.new.domains f step c.to_write.ensures.same (λ free. c.in_ok-define.ensures f.now f.represents f.room (free, tt))
 
 pub returns : goal.returns
 returns c = λ ds represents room can.

@@ -45,7 +45,7 @@ loop-rest-preserved c =
     let less = next_set-less w s r is in
     let all = events_in_sets c.args.octets.now in
     record {
-      takes = taking_more c.loop-rest.definitions c.take_set.new.definitions [] all (events_of_set s) (events_in_sets r)
+      takes = taking_more c.loop-rest.definitions c.take_set.new.all [] all (events_of_set s) (events_in_sets r)
           (subst (λ (rest : List Event). Taking c.loop-rest.definitions [] all rest) (next_set_events w s r is) c.loop-rest.invariant.takes) c.in_ok-take_set.ensures.defines;
       only = c.loop-rest.invariant.only ∙ ap (λ (b : Bool). b && c.loop-rest.definitions.withdraws_only) (next_set_withdrawals w s r is)
           ∙ and_moves (is_set_of_withdrawals s) (are_sets_of_withdrawals r) c.loop-rest.definitions.withdraws_only ∙ ap (λ (b : Bool). are_sets_of_withdrawals r && b) (sym c.in_ok-take_set.ensures.only);

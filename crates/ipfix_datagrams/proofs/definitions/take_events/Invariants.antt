@@ -8,8 +8,8 @@ use Rattle.ipfix_datagrams.proofs.definitions.take_events.Given as goal
 
 abbrev pub invariant-loop-rest : goal.invariant-loop-rest
 invariant-loop-rest l = record {
-  takes : (es : List Event) → Defines l.fn.definitions es → Taking l.definitions es (events_of l.kind l.body).items (events_of l.kind l.rest).items;
-  only : (are_withdrawals l.kind l.body && l.fn.definitions.withdraws_only) ≡ (are_withdrawals l.kind l.rest && l.definitions.withdraws_only);
+  takes : (es : List Event) → Defines l.fn.all es → Taking l.all es (events_of l.kind l.body).items (events_of l.kind l.rest).items;
+  only : (are_withdrawals l.kind l.body && l.fn.all.withdraws_only) ≡ (are_withdrawals l.kind l.rest && l.all.withdraws_only);
   room : length l.rest ≤ length l.body;
 }
 

@@ -14,7 +14,7 @@ returns-in_default c = λ s keeps.
       domain = c.args.domain;
       weight = 16 + sum (values counts);
       weighs = record { counts = counts.entries; ascending = c.weigh.ensures.ordered; at = counted; is = refl };
-      above = c.in_default.ensures.weight;
+      above = c.in_default.ensures.above;
     })
 
 pub returns-then-are_within : goal.returns-then-are_within

@@ -8,7 +8,11 @@ use Rattle.ipfix_message.specs.TemplatesInForce.{in_force}
 use Rattle.ipfix_datagrams.specs.Datagrams.{KeepsWithdrawn, Leaves, LeavesBy, preparation_of, template_at, template_in}
 use Rattle.ipfix_datagrams.specs.Attempts.{with_ended}
 use Rattle.ipfix_datagrams.proofs.Kept.{keeps_with, on_kept}
+use Rattle.ipfix_datagrams.proofs.WithdrawnKept.{taken_out}
 use Rattle.ipfix_datagrams.proofs.withdrawn_templates.keep_withdrawn.Goals as goal
+
+pub put_back-requires : goal.put_back-requires
+put_back-requires c = taken_out c.args.domain (template_at c.args.withdrawn.now) (template_at c.take_out-kept.new.withdrawn) c.take_out-kept.ensures.others
 
 pub returns-in_default : goal.returns-in_default
 returns-in_default c = λ s keeps.

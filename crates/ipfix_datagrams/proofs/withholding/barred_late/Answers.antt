@@ -5,7 +5,7 @@ use Rattle.std.specs.Ordering.{nat_cmp}
 use Rattle.std.specs.BTreeMap.{BTreeMap, get}
 use Rattle.ipfix_message.specs.declared.record.Template.{Template}
 use Rattle.ipfix_message.specs.Sets.{sets_of}
-use Rattle.ipfix_datagrams.specs.Datagrams.{barred_in, definition_of, events_of_set, has_data_set, is_changed, last_definition, template_in, withdrawn_in}
+use Rattle.ipfix_datagrams.specs.Datagrams.{barred_in, definition_of, events_of_set, has_data_set, is_changed, last_definition, template_in}
 use Rattle.ipfix_datagrams.specs.Late.{Withheld, is_later, later_in, moment_of, time_at, time_in}
 use Rattle.ipfix_datagrams.specs.declared.moment.Moment.{Moment}
 use Rattle.ipfix_datagrams.proofs.DataSets.{ids_of}
@@ -13,8 +13,8 @@ use Rattle.ipfix_datagrams.proofs.LateIds.{any_mapped, changes_none, changes_one
 use Rattle.ipfix_datagrams.proofs.Weighed.{is_changed_here}
 use Rattle.ipfix_datagrams.proofs.withholding.barred_late.Goals as goal
 
-pub returns-then-has_later : goal.returns-then-has_later
-returns-then-has_later c = λ ds represents keeps.
+pub returns-then-has_later-clause-refused : goal.returns-then-has_later-clause-refused
+returns-then-has_later-clause-refused c = λ ds represents keeps.
     let m = c.args.datagram.now in
     let h = c.args.header.now in
     let d = h.domain in
@@ -31,8 +31,8 @@ returns-then-has_later c = λ ds represents keeps.
     sym (c.has_later.ensures ∙ ap₂ (λ (o : Option (BTreeMap ℕ Moment)) (xs : List ℕ). list_any (λ id. is_later k.reorder at (time_in o id)) xs) c.get-times.ensures.value c.deref.ensures.value) ∙ c.if-has_later.true in
     inr (changes_one withheld ds m d c.in_ok-changed.changed.items are any, refl)
 
-pub returns : goal.returns
-returns c = λ ds represents keeps.
+pub returns-clause-read : goal.returns-clause-read
+returns-clause-read c = λ ds represents keeps.
     let m = c.args.datagram.now in
     let h = c.args.header.now in
     let d = h.domain in

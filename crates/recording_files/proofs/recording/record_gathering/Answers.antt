@@ -3,7 +3,7 @@ use Rattle.recording_files.proofs.ReadOn.{records_nowhere}
 use Rattle.recording_files.proofs.recording.record_gathering.Goals as goal
 
 pub returns-in-Ok : goal.returns-in-Ok
-returns-in-Ok g c = λ new fresh. c.record_through.ensures (omega (arith, c.deref_mut.ensures.len, c.in-Ok.ensures.len)) new fresh
+returns-in-Ok g c = λ new fresh. c.record_through.ensures new fresh
 
 pub returns-in-Err : goal.returns-in-Err
 returns-in-Err g c = λ new fresh.

@@ -28,7 +28,7 @@ returns-in_err-barred-clause-reads c = λ first after filed p.
     let late : is_late s.known.reorder (taken_in filed) h ≡ true = sym (c.is_late.ensures first after filed p) ∙ c.if-not-is_late.false in
     let e = err_from_is_err_and c.from_residual.result c.from_residual.ensures.1 in
     rw (e.1, e.2) (fails_late s c.self.inside.known filed c.args.second c.args.datagram.now h c.in_err-barred.field-0.0 shown p.times late
-    (c.in_err-barred.ensures known (represents c.domains-domains.result.now now c.domains-domains.ensures) (keeps_known c.self.inside.known known now.withdrawn now.fits)))
+    (c.in_err-barred.ensures.refused known (represents c.domains-domains.result.now now c.domains-domains.ensures) (keeps_known c.self.inside.known known now.withdrawn now.fits)))
 
 pub returns-clause-reads : goal.returns-clause-reads
 returns-clause-reads c = λ first after filed p.
@@ -42,5 +42,5 @@ returns-clause-reads c = λ first after filed p.
     let barred = c.in_ok-barred.barred.items in
     let result = c.read_where-2.result in
     reads_late s c.self.inside.known filed c.args.second m h barred result shown p.times late
-    (c.in_ok-barred.ensures known (represents c.domains-domains.result.now now c.domains-domains.ensures) (keeps_known c.self.inside.known known now.withdrawn now.fits))
-    (subst (λ (ids : List ℕ). ReadsWhere s filed m ids result) c.deref.ensures.value (c.read_where-2.ensures.reads first after filed p))
+    (c.in_ok-barred.ensures.read known (represents c.domains-domains.result.now now c.domains-domains.ensures) (keeps_known c.self.inside.known known now.withdrawn now.fits))
+    (subst (λ (ids : List ℕ). ReadsWhere s m ids result filed) c.deref.ensures.value (c.read_where-2.ensures.reads first after filed p))

@@ -1,10 +1,9 @@
-use Rattle.std.proofs.Common.{◌≡◌, ℕ, List, Ok, refl, sym, ap, subst}
+use Rattle.std.proofs.Common.{ℕ, List, Ok, refl, sym, ap, subst}
 use Rattle.ipfix_datagrams.specs.declared.reading.Reading.{Reading}
 use Rattle.ipfix_datagrams.specs.Datagrams.{Answers as AnswersOf}
 use Rattle.recording_peer.specs.Peers.{basis_with, known_after_all}
 use Rattle.recording_peer.specs.Recording.{BarsShown, PeerTold, PeerView, IsPeer, HasStopped, known_shown, left_listed, resumed_for, with_ignored, taken_in}
 use Rattle.std.specs.Prelude.{IfOk}
-use Rattle.recording_peer.specs.declared.peer_answer.PeerAnswer.TheVariants.{TooMuch}
 use Rattle.recording_peer.proofs.Lateness.{refused_at, refused_header}
 use Rattle.recording_peer.proofs.Refusing.{refuses}
 use Rattle.recording_peer.proofs.Taking.{inside_of, ignoring, peer_ignoring}
@@ -60,5 +59,6 @@ returns-in-Ok-TooMuch-clause-answers g c = λ first filed p.
     let d = c.in-Ok.header.domain in
     let read = c.in-Ok-TooMuch.ensures.reads first v filed p in
     let x = subst (λ (r : Reading). AnswersOf (basis_with (resumed_for filed m) read.barred) s.known.budget (known_after_all (taken_in filed)) m r) c.in-Ok-TooMuch.field-0-is read.answers in
-    let ok = subst (λ (w : List ℕ). IfOk r (λ a. (a ≡ TooMuch) × BarsShown s t d w)) c.deref.ensures.value c.refuse_too_much.ensures.refused in
-    refuses first v s t filed c.args.second m c.in-Ok.header read.barred c.in-Ok-TooMuch.ids.items r c.in-Ok.ensures.gives p read.where_barred x ok c.refuse_too_much.ensures.out
+    let bars = subst (λ (w : List ℕ). IfOk r (λ a. BarsShown s t d w)) c.deref.ensures.value c.refuse_too_much.ensures.bars in
+    refuses first v s t filed c.args.second m c.in-Ok.header read.barred c.in-Ok-TooMuch.ids.items r c.in-Ok.ensures.gives p read.where_barred x c.refuse_too_much.ensures.refused bars
+    c.refuse_too_much.ensures.out c.refuse_too_much.ensures.ended c.refuse_too_much.ensures.told

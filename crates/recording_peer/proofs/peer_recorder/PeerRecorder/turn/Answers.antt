@@ -2,8 +2,8 @@ use Rattle.std.proofs.Common.{◌≡◌, [], None, refl, sym, ap, subst, ◌∙�
 use Rattle.std.specs.Prelude.{◌≢◌}
 use Rattle.recording_files.specs.Files.{with_next}
 use Rattle.recording_peer.specs.Peers.{givens, all_given}
-use Rattle.recording_peer.specs.Recording.{PeerView, IsPeer, known_shown, left_listed, taken_before}
-use Rattle.recording_peer.proofs.Taking.{counted_report, none_given, peer_turned, peer_unturned}
+use Rattle.recording_peer.specs.Recording.{PeerView, IsPeer, counted_report, known_shown, left_listed, taken_before}
+use Rattle.recording_peer.proofs.Taking.{none_given, peer_turned, peer_unturned}
 use Rattle.recording_peer.proofs.Stopping.{stops_turning}
 use Rattle.recording_peer.proofs.peer_recorder.PeerRecorder.turn.Goals as goal
 

@@ -17,5 +17,5 @@ returns-in-None-clause-records g c =
     let new = c.in-Ok.ensures.begun in
     let there = begun c.args.peer (address_of c.in-Ok.gone) c.args.self.now.kept.entries new.0 c.requires.new in
     let are = new.2.others in
-    let nothing = (c.in-None.ensures.unknown refl).0 in
+    let nothing = c.in-None.ensures.unknown refl in
     absurd cc

@@ -16,6 +16,12 @@ returns-in_err-ended-in-Err-clause-unknown g c = λ none.
     let nothing = c.in_err-ended-in-Err.ensures.value in
     absurd cc
 
+pub returns-in_err-ended-in-Err-clause-none : goal.returns-in_err-ended-in-Err-clause-none
+returns-in_err-ended-in-Err-clause-none g c = λ none.
+    let there = value_out c.args.peer c.args.self.now.kept.entries c.in_ok-get_mut.field-0.now c.take.new.self (sym c.in_ok-get_mut.ensures.value) in
+    let nothing = c.in_err-ended-in-Err.ensures.value in
+    absurd cc
+
 pub returns-in_ok-ended-in-Err-clause-taken : goal.returns-in_ok-ended-in-Err-clause-taken
 returns-in_ok-ended-in-Err-clause-taken g c =
     let r : Reception g.row.F.Denot = record { peer = c.args.peer; octets = c.args.datagram.now; second = c.args.second; became = Ended c.in_ok-ended-in-Err.ended; gone = None } in

@@ -2,7 +2,7 @@
 
 /// What a session of a peer may keep, and for how long.
 #[derive(Clone, Copy, Debug, PartialEq, Eq)]
-pub struct SessionLimits {
+pub struct PeerLimits {
     /// For how many seconds a datagram that is ahead of the due sequence number waits, and one that comes late replaces no template that
     /// was sent after it. With 0 none waits, none is dropped, and each that comes replaces what it defines.
     pub reorder: u64,
