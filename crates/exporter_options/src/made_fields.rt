@@ -52,10 +52,11 @@ impl MadeFields {
     }
 
     /// Appends them to a record's.
-    pub fn append_to(&self, fields: &mut Fields) -> Result<(), AllocError>
-        ensures ok { OnOk result (fields.new ≡ fields.old ++ fields_beside self.now) }
+    pub fn append_to(&mut self, fields: &mut Fields) -> Result<(), AllocError>
+        ensures kept { self.new ≡ self.old }
+        ensures ok { OnOk result (fields.new ≡ fields.old ++ fields_beside self.old) }
         ensures err { OnErr result (fields.new ≡ fields.old) }
     {
-        fields.extend_shared(&self.fields)
+        fields.extend_shared(&mut self.fields)
     }
 }

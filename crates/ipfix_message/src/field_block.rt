@@ -1,17 +1,18 @@
 //! The fields of a data record (RFC 7011, section 3.4.3).
 
-ghost use Rattle.std.specs.Prelude.{◌≡◌, ◌==◌, ◌<◌, ◌^◌, [], ◌∷◌, ◌++◌, length, IfOk, OnOk, OnErr, option_copied, slice_get};
+ghost use Rattle.std.specs.Prelude.{◌≡◌, ◌==◌, ◌<◌, ◌^◌, [], ◌∷◌, ◌++◌, length, IfOk, IfSome, OnOk, OnErr, option_copied, slice_get};
 ghost use Rattle.std.specs.Option.{option_map};
 ghost use Rattle.ipfix_message.specs.Fields.{octets_of};
 ghost use Rattle.ipfix_message.specs.FieldViews.{field_of};
-ghost use Rattle.ipfix_message.specs.KeptFields.{IsKept, kept_fields};
+ghost use Rattle.ipfix_message.specs.KeptFields.{IsInSet, IsKept, after_set, kept_fields, of_set};
 ghost use Rattle.ipfix_message.specs.SetRecords.{HasRecordAt, fields_from};
 
 use crate::field_iter::{FieldIter, FieldRef};
-use crate::field_run::FieldRun;
+use crate::field_run::{FieldRun, find_element};
 use crate::own_fields::OwnFields;
 use crate::set_body::{SetBody, SetRecord};
 use crate::shared_fields::SharedFields;
+use crate::short_fields::ShortFields;
 use ipfix_wire::ElementId;
 use std::alloc::{AllocError, Global};
 use std::marker::Model;
@@ -27,7 +28,11 @@ enum Kept {
     InSet(SetRecord),
     /// They are those of the record that begins at an octet of a data set's body, and fields that
     /// other records share after these. (The record's parts are smaller here than the record.)
-    Extended(u32, Arc<SetBody, Global>, SharedFields),
+    Extended(u32, Arc<SetBody, Global>, Arc<OwnFields, Global>),
+    /// They are those of such a record, and a few short fields that were pushed after these.
+    Short(u32, Arc<SetBody, Global>, Box<ShortFields>),
+    /// They are those of such a record, and fields that were pushed after these.
+    Pushed(u32, Arc<SetBody, Global>, Box<OwnFields>),
     /// They were pushed.
     Own(Box<OwnFields>),
 }
@@ -66,7 +71,17 @@ fn own_copy(alloc: Global, kept: &Kept) -> Result<OwnFields, AllocError>
         Kept::InSet(set_record) => set_record.to_own(alloc),
         Kept::Extended(start, set, tail) => {
             let mut copy = OwnFields::copy(alloc, set.fields_at(*start))?;
-            copy.extend(tail.own())?;
+            copy.extend(tail)?;
+            Ok(copy)
+        }
+        Kept::Short(start, set, tail) => {
+            let mut copy = OwnFields::copy(alloc, set.fields_at(*start))?;
+            tail.append_to(&mut copy)?;
+            Ok(copy)
+        }
+        Kept::Pushed(start, set, tail) => {
+            let mut copy = OwnFields::copy(alloc, set.fields_at(*start))?;
+            copy.extend(tail)?;
             Ok(copy)
         }
         Kept::Own(own) => {
@@ -77,21 +92,93 @@ fn own_copy(alloc: Global, kept: &Kept) -> Result<OwnFields, AllocError>
     }
 }
 
+// A copy of the fields after those of a set, with room for one more of some octets.
+fn copy_after_set(alloc: Global, kept: &Kept, octets: usize) -> Result<OwnFields, AllocError>
+    requires { IsKept kept.now }
+    ensures { IfOk result (λ own. own ≡ after_set kept.now) }
+{
+    let mut copy = OwnFields::with_capacity(alloc, 1, octets)?;
+    match kept {
+        Kept::Nothing | Kept::InSet(_) => {}
+        Kept::Extended(_, _, tail) => copy.extend(tail)?,
+        Kept::Short(_, _, tail) => tail.append_to(&mut copy)?,
+        Kept::Pushed(_, _, tail) => copy.extend(tail)?,
+        Kept::Own(own) => copy.extend(own)?,
+    }
+    Ok(copy)
+}
+
+// Fields of a set, if these are some, and others after them.
+fn with_own(kept: Kept, own: Box<OwnFields>) -> Kept
+    requires { IsKept kept }
+    ensures kept { IsKept result }
+    ensures fields { kept_fields result ≡ of_set kept ++ own.value }
+{
+    match kept {
+        Kept::Nothing => Kept::Own(own),
+        Kept::InSet(set_record) => {
+            let (start, set) = set_record.into_parts();
+            Kept::Pushed(start, set, own)
+        }
+        Kept::Extended(start, set, _) => Kept::Pushed(start, set, own),
+        Kept::Short(start, set, _) => Kept::Pushed(start, set, own),
+        Kept::Pushed(start, set, _) => Kept::Pushed(start, set, own),
+        Kept::Own(_) => Kept::Own(own),
+    }
+}
+
+// The fields after those of a set and one more, if they are few and short, and these were not pushed.
+fn short_after_set(kept: &Kept, element: ElementId, octets: &[u8]) -> Option<ShortFields>
+    requires { IsKept kept.now }
+    ensures fields { IfSome result (λ short. short ≡ after_set kept.now
+        ++ record { element = element; octets = octets.now } ∷ []) }
+    ensures whose { IfSome result (λ _. IsInSet kept.now) }
+{
+    let mut short = ShortFields::new();
+    let fits = match kept {
+        Kept::InSet(_) => true,
+        Kept::Extended(_, _, tail) => short.extend(tail.iter()),
+        Kept::Nothing | Kept::Short(_, _, _) | Kept::Pushed(_, _, _) | Kept::Own(_) => false,
+    };
+    if fits && short.push(element, octets) {
+        Some(short)
+    } else {
+        None
+    }
+}
+
+// The fields of a set, and others after them.
+fn with_short(kept: Kept, short: Box<ShortFields>) -> Kept
+    requires kept { IsKept kept }
+    requires whose { IsInSet kept }
+    ensures kept { IsKept result }
+    ensures fields { kept_fields result ≡ of_set kept ++ short.value }
+{
+    match kept {
+        Kept::InSet(set_record) => {
+            let (start, set) = set_record.into_parts();
+            Kept::Short(start, set, short)
+        }
+        Kept::Extended(start, set, _) => Kept::Short(start, set, short),
+        kept => kept,
+    }
+}
+
 // The octets of the first field of an element in the record that begins at an octet of a set's body
 // or, where it has none, in a tail.
 #[inline(never)]
 fn find_in_both<'a>(
     set: &'a SetBody,
     start: u32,
-    tail: &'a SharedFields,
+    tail: FieldRun<'a>,
     element: ElementId,
 ) -> Option<&'a [u8]>
     requires { HasRecordAt set.now start }
-    ensures { option_copied result ≡ octets_of element (fields_from set.now start ++ tail.now) }
+    ensures { option_copied result ≡ octets_of element (fields_from set.now start ++ tail.entry) }
 {
     match set.find_at(start, element) {
         Some(octets) => Some(octets),
-        None => tail.find(element),
+        None => find_element(tail, element),
     }
 }
 
@@ -125,31 +212,46 @@ impl Fields {
         }
     }
 
-    /// Appends a field of at most 65,535 octets. A record of a data set gets octets of its own by it.
+    /// Appends a field of at most 65,535 octets. A record of a data set keeps the octets that it
+    /// shares, and gets some of its own for what is appended.
     pub fn push(&mut self, element: ElementId, octets: &[u8]) -> Result<(), AllocError>
         requires { length octets.now < 2 ^ 16 }
         ensures ok { OnOk result (self.new ≡ self.old
             ++ record { element = element; octets = octets.now } ∷ []) }
         ensures err { OnErr result (self.new ≡ self.old) }
     {
-        if let Kept::Own(own) = &mut self.kept {
-            return own.push(element, octets);
+        match &mut self.kept {
+            Kept::Short(_, _, own) => {
+                if own.push(element, octets) {
+                    return Ok(());
+                }
+            }
+            Kept::Pushed(_, _, own) => return own.push(element, octets),
+            Kept::Own(own) => return own.push(element, octets),
+            Kept::Nothing | Kept::InSet(_) | Kept::Extended(_, _, _) => {}
         }
-        let mut own = own_copy(self.alloc, &self.kept)?;
+        if let Some(short) = short_after_set(&self.kept, element, octets) {
+            let short = Box::new(self.alloc, short)?;
+            self.kept = with_short(mem::replace(&mut self.kept, Kept::Nothing), short);
+            return Ok(());
+        }
+        let mut own = copy_after_set(self.alloc, &self.kept, octets.len())?;
         own.push(element, octets)?;
-        self.kept = Kept::Own(Box::new(self.alloc, own)?);
+        let own = Box::new(self.alloc, own)?;
+        self.kept = with_own(mem::replace(&mut self.kept, Kept::Nothing), own);
         Ok(())
     }
 
     /// Appends fields that other records have, too. To a record of a data set nothing is copied.
-    pub fn extend_shared(&mut self, tail: &SharedFields) -> Result<(), AllocError>
-        ensures ok { OnOk result (self.new ≡ self.old ++ tail.now) }
+    pub fn extend_shared(&mut self, tail: &mut SharedFields) -> Result<(), AllocError>
+        ensures kept { tail.new ≡ tail.old }
+        ensures ok { OnOk result (self.new ≡ self.old ++ tail.old) }
         ensures err { OnErr result (self.new ≡ self.old) }
     {
         if tail.is_empty() {
             return Ok(());
         }
-        let shared = tail.try_clone()?;
+        let shared = tail.for_record()?;
         match mem::replace(&mut self.kept, Kept::Nothing) {
             Kept::InSet(set_record) => {
                 let (start, set) = set_record.into_parts();
@@ -157,9 +259,10 @@ impl Fields {
             }
             kept => {
                 self.kept = kept;
-                let mut own = own_copy(self.alloc, &self.kept)?;
-                own.extend(tail.own())?;
-                self.kept = Kept::Own(Box::new(self.alloc, own)?);
+                let mut own = copy_after_set(self.alloc, &self.kept, 0)?;
+                own.extend(&shared)?;
+                let own = Box::new(self.alloc, own)?;
+                self.kept = with_own(mem::replace(&mut self.kept, Kept::Nothing), own);
             }
         }
         Ok(())
@@ -194,6 +297,8 @@ impl Fields {
             Kept::Nothing => FieldIter::new(FieldRun::empty(), FieldRun::empty()),
             Kept::InSet(set_record) => FieldIter::new(set_record.iter(), FieldRun::empty()),
             Kept::Extended(start, set, tail) => FieldIter::new(set.fields_at(*start), tail.iter()),
+            Kept::Short(start, set, tail) => FieldIter::new(set.fields_at(*start), tail.iter()),
+            Kept::Pushed(start, set, tail) => FieldIter::new(set.fields_at(*start), tail.iter()),
             Kept::Own(own) => FieldIter::new(own.iter(), FieldRun::empty()),
         }
     }
@@ -213,7 +318,9 @@ impl Fields {
         match &self.kept {
             Kept::Nothing => None,
             Kept::InSet(set_record) => set_record.find(element),
-            Kept::Extended(start, set, tail) => find_in_both(set, *start, tail, element),
+            Kept::Extended(start, set, tail) => find_in_both(set, *start, tail.iter(), element),
+            Kept::Short(start, set, tail) => find_in_both(set, *start, tail.iter(), element),
+            Kept::Pushed(start, set, tail) => find_in_both(set, *start, tail.iter(), element),
             Kept::Own(own) => own.find(element),
         }
     }

@@ -1,13 +1,14 @@
 //! Fields that octets spell, in turn (RFC 7011, section 3.4.3).
 
-ghost use Rattle.std.specs.Prelude.{◌≡◌, ◌<◌, ◌^◌, [], length};
+ghost use Rattle.std.specs.Prelude.{◌≡◌, ◌<◌, ◌^◌, [], length, option_copied};
 ghost use Rattle.std.specs.Iterator.{YieldsFirstBy, item_count};
+ghost use Rattle.ipfix_message.specs.Fields.{octets_of};
 ghost use Rattle.ipfix_message.specs.SpelledFields.{BeginsWithFields, fields_in};
 ghost use Rattle.ipfix_message.specs.FieldViews.{field_of};
 
 use crate::field_iter::FieldRef;
 use crate::field_value::value_of;
-use ipfix_wire::Spec;
+use ipfix_wire::{ElementId, Spec};
 use std::marker::Model;
 
 /// The fields that are left of those that octets spell, in order.
@@ -71,4 +72,17 @@ impl<'a> Iterator for FieldRun<'a> {
             octets,
         })
     }
+}
+
+/// The octets of the first field of an element. It is found by going over the fields before it.
+#[inline(never)]
+pub fn find_element<'a>(fields: FieldRun<'a>, element: ElementId) -> Option<&'a [u8]>
+    ensures { option_copied result ≡ octets_of element fields.entry }
+{
+    for field in fields {
+        if field.element == element {
+            return Some(field.octets);
+        }
+    }
+    None
 }

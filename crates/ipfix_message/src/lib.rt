@@ -22,6 +22,7 @@ mod record;
 mod set_body;
 mod sets;
 mod shared_fields;
+mod short_fields;
 mod stamp;
 mod template_in_force;
 mod template_limit;

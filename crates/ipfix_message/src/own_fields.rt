@@ -2,9 +2,9 @@
 
 ghost use Rattle.std.specs.Prelude.{◌≡◌, ◌==◌, ◌<◌, ◌^◌, [], ◌∷◌, ◌++◌, ℕ, List, length, All, IfOk, OnOk, OnErr, option_copied};
 ghost use Rattle.ipfix_message.specs.Fields.{octets_of};
-ghost use Rattle.ipfix_message.specs.SpelledFields.{SpellsOctets, IsShort};
+ghost use Rattle.ipfix_message.specs.SpelledFields.{Spells, SpellsOctets, IsShort, fields_in};
 
-use crate::field_run::FieldRun;
+use crate::field_run::{FieldRun, find_element};
 use ipfix_wire::{ElementId, Spec, VARIABLE_WIDTH};
 use std::alloc::{AllocError, Global};
 use std::marker::Model;
@@ -91,9 +91,18 @@ impl OwnFields {
         ensures ok { OnOk result (self.new ≡ self.old ++ other.now) }
         ensures err { OnErr result (self.new ≡ self.old) }
     {
-        self.specs.reserve(other.specs.len())?;
-        self.octets.extend_from_slice(&other.octets)?;
-        self.specs.extend_from_slice(&other.specs)
+        self.extend_spelled(&other.specs, &other.octets)
+    }
+
+    /// Appends a copy of the fields of these specifiers that octets spell.
+    pub fn extend_spelled(&mut self, specs: &[Spec], octets: &[u8]) -> Result<(), AllocError>
+        requires { Spells specs.now (fields_in specs.now octets.now) octets.now }
+        ensures ok { OnOk result (self.new ≡ self.old ++ fields_in specs.now octets.now) }
+        ensures err { OnErr result (self.new ≡ self.old) }
+    {
+        self.specs.reserve(specs.len())?;
+        self.octets.extend_from_slice(octets)?;
+        self.specs.extend_from_slice(specs)
     }
 
     /// Whether there are no fields.
@@ -111,15 +120,9 @@ impl OwnFields {
     }
 
     /// The octets of the first field of an element. It is found by going over the fields before it.
-    #[inline(never)]
     pub fn find(&self, element: ElementId) -> Option<&[u8]>
         ensures { option_copied result ≡ octets_of element self.now }
     {
-        for field in self.iter() {
-            if field.element == element {
-                return Some(field.octets);
-            }
-        }
-        None
+        find_element(self.iter(), element)
     }
 }
