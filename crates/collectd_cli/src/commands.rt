@@ -409,6 +409,7 @@ pub fn verify<R: Clock + Threads + Wait + Sync>(
     };
     let KnownElements { elements, files } = load_known(rt, element_files, verbosity, &mut err)?;
     let job = VerifyJob {
+        alloc: rt.alloc(),
         receipt,
         table,
         again,
@@ -418,7 +419,6 @@ pub fn verify<R: Clock + Threads + Wait + Sync>(
     };
     Ok(run_verify(
         threads,
-        rt.alloc(),
         rt,
         &mut FilesInTurn::new(rt, rt.alloc()),
         elements,

@@ -4,7 +4,7 @@ use Rattle.std.specs.Prelude.{IfOk}
 use Rattle.std.specs.Borrow.{Bor}
 use Rattle.report_writing.specs.declared.reason.Reason.{Reason}
 use Rattle.table_parts.specs.declared.files.PartFiles.{PartFiles}
-use Rattle.command_tables.specs.Outcomes.{TextViews}
+use Rattle.period_tables.specs.Standing.{PlaceView}
 use Rattle.command_tables.specs.DayOutcomes.{StandsAs}
 use Rattle.command_tables.specs.SaidTogether.{IsStanding}
 use Rattle.command_tables.specs.TextsByName.{HasText, RefusesText}
@@ -12,7 +12,7 @@ use Rattle.command_tables.specs.declared.days.day_job.DayJob.{DayJob}
 use Rattle.command_tables.specs.declared.days.standing.Standing.{Standing}
 use Rattle.command_tables.specs.declared.days.standing.Standing.TheVariants.{Theirs, Others, Lacking}
 
-pub settled : {T : Type 0} (sees : TextViews T) (job : DayJob) (parts : Bor (List PartFiles)) (begins : ℕ) (tables days : T) (own : List ℕ) → sees.receipt_at days begins (Some own) → (answer : Result Standing Reason)
+pub settled : {T : Type 0} (sees : PlaceView T) (job : DayJob) (parts : Bor (List PartFiles)) (begins : ℕ) (tables days : T) (own : List ℕ) → sees.receipt_at days begins (Some own) → (answer : Result Standing Reason)
     → IfOk answer (IsStanding (HasText sees tables) (RefusesText sees tables) job.text.at_hand parts.now own)
     → IfOk answer (StandsAs sees job parts begins tables days)
 settled sees job parts begins tables days own stands (Ok Theirs) says = record { own = own; stands = stands; says = says }

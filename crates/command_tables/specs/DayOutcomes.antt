@@ -7,10 +7,9 @@ use Rattle.report_writing.specs.Told.{AreToldTo}
 use Rattle.report_writing.specs.declared.reason.Reason.{Reason}
 use Rattle.report_writing.specs.declared.status.Status.TheVariants.{Failed}
 use Rattle.table_parts.specs.declared.files.PartFiles.{PartFiles}
-use Rattle.period_tables.specs.Standing.{IsKeptAt, IsPutAt}
+use Rattle.period_tables.specs.Standing.{IsKeptBeside, IsPutAt, IsPutOrKept, PlaceView}
 use Rattle.period_tables.specs.declared.outcome.Outcome.{Outcome}
 use Rattle.period_tables.specs.declared.outcome.Outcome.TheVariants.{UpToDate, FileGone, Made, NotRead, NotMade, NotPut}
-use Rattle.command_tables.specs.Outcomes.{KeepsOthers, TextViews}
 use Rattle.command_tables.specs.Receipts.{IsNoReceiptFor}
 use Rattle.command_tables.specs.Merged.{IsMergeOf, IsNotMerged}
 use Rattle.command_tables.specs.Named.{AreNamed}
@@ -20,7 +19,7 @@ use Rattle.command_tables.specs.declared.days.day_job.DayJob.{DayJob}
 use Rattle.command_tables.specs.declared.days.standing.Standing.{Standing}
 use Rattle.command_tables.specs.declared.days.standing.Standing.TheVariants.{Theirs, Others, Lacking}
 
-module _ {T : Type 0} (sees : TextViews T) where
+module _ {T : Type 0} (sees : PlaceView T) where
   -- the table that is there is that of the parts: its receipt says what theirs do together
   pub record StandsNow (job : DayJob) (parts : Bor (List PartFiles)) (begins : ℕ) (tables days : T) : Type 0 where
     pub own : List ℕ
@@ -52,15 +51,15 @@ module _ {T : Type 0} (sees : TextViews T) where
   module _ {S : Type 0} (seen : S → SourceView) where
     -- the table and the receipt were merged of exactly the parts that stand
     abbrev pub IsMergedOf : DayJob → Bor (List PartFiles) → (List ℕ → Type 0) → T → List ℕ → List ℕ → Bool → Type 0
-    IsMergedOf job parts AreTold tables text receipt fault = IsMergeOf seen (HasText sees tables) (RefusesText sees tables) job parts AreTold text receipt fault
+    IsMergedOf job parts AreTold tables text receipt fault = IsMergeOf seen (HasText sees tables) (RefusesText sees tables) job parts AreTold (record { text = text; receipt = receipt; fault = fault })
 
     -- they stand, and all others are as they were
     pub record IsMade (job : DayJob) (parts : Bor (List PartFiles)) (begins : ℕ) (AreTold : List ℕ → Type 0) (fault : Bool) (tables before after : T) : Type 0 where
       pub text : List ℕ
       pub receipt : List ℕ
       pub made : IsMergedOf job parts AreTold tables text receipt fault
-      pub stands : IsPutAt (sees.text_at after begins) (sees.receipt_at after begins) text receipt
-      pub others : KeepsOthers sees begins before after
+      pub stands : IsPutAt sees begins after text receipt
+      pub others : IsKeptBeside sees begins before after
 
     -- putting them failed: they stand, or what was there before
     pub record IsNotPut (job : DayJob) (parts : Bor (List PartFiles)) (begins : ℕ) (AreTold : List ℕ → Type 0) (reason : Reason) (tables before after : T) : Type 0 where
@@ -68,9 +67,8 @@ module _ {T : Type 0} (sees : TextViews T) where
       pub receipt : List ℕ
       pub fault : Bool
       pub made : IsMergedOf job parts AreTold tables text receipt fault
-      pub left : IsPutAt (sees.text_at after begins) (sees.receipt_at after begins) text receipt
-          ⊎ IsKeptAt begins (sees.text_at before) (sees.text_at after) (sees.receipt_at before) (sees.receipt_at after)
-      pub others : KeepsOthers sees begins before after
+      pub left : IsPutOrKept sees begins before after text receipt
+      pub others : IsKeptBeside sees begins before after
       pub why : sees.refuses after begins reason
 
     -- of a table that was due

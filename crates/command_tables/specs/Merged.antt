@@ -16,6 +16,7 @@ use Rattle.command_merge_receipts.specs.declared.job.PartsJob.{PartsJob}
 use Rattle.period_collect.specs.MadeTables.{Holds, status_with}
 use Rattle.period_collect.specs.declared.kept_receipt.KeptReceipt.{KeptReceipt}
 use Rattle.command_tables.specs.declared.days.day_job.DayJob.{DayJob}
+use Rattle.command_tables.specs.declared.days.merging.MergedTable.{MergedTable}
 
 -- what a merge of these parts by their receipts is to do: in the intervals of the plan, also of parts that aren't complete, and of inputs
 -- that come twice
@@ -34,11 +35,20 @@ abbrev pub text_kept : Option KeptReceipt → Option (Vec ℕ Global)
 text_kept None = None
 text_kept (Some kept) = kept.text
 
+-- the text of a merged table, that of its receipt, and whether the run ended with status 1
+pub record MergedValue : Type 0 where
+  pub text : List ℕ
+  pub receipt : List ℕ
+  pub fault : Bool
+
+abbrev pub merged_value : MergedTable → MergedValue
+merged_value made = record { text = made.text.items; receipt = made.receipt.items; fault = made.had_fault }
+
 -- a run ended with this table and this receipt, and with status 1 or well
-pub record EndsWith (ended : MergedEnd (Vec ℕ Global) KeptReceipt) (text receipt : List ℕ) (fault : Bool) : Type 0 where
-  pub status_is : ended.status ≡ status_with fault
-  pub text_is : ended.to.out.items ≡ text
-  pub receipt_is : option_map (λ v. v.items) (text_kept ended.to.place) ≡ Some receipt
+pub record EndsWith (ended : MergedEnd (Vec ℕ Global) KeptReceipt) (made : MergedValue) : Type 0 where
+  pub status_is : ended.status ≡ status_with made.fault
+  pub text_is : ended.to.out.items ≡ made.text
+  pub receipt_is : option_map (λ v. v.items) (text_kept ended.to.place) ≡ Some made.receipt
 
 -- it ended without a table: one could not be opened; or it failed, or it kept no receipt
 abbrev pub EndsWithout : MergedEnd (Vec ℕ Global) KeptReceipt → Status → Type 0
@@ -58,10 +68,10 @@ module _ {S : Type 0} (seen : S → SourceView) (Has : List ℕ → List ℕ →
     pub runs : MergesParts seen Has Refuses merge (λ v. Some v.items) Holds to ended.to AreTold ended.status
 
   -- the table and the receipt of such a run
-  pub record IsMergeOf (text receipt : List ℕ) (fault : Bool) : Type 0 where
+  pub record IsMergeOf (made : MergedValue) : Type 0 where
     pub ended : MergedEnd (Vec ℕ Global) KeptReceipt
     pub run : IsRun ended
-    pub ends : EndsWith ended text receipt fault
+    pub ends : EndsWith ended made
 
   -- such a run, which ended without a table
   pub record IsNotMerged (status : Status) : Type 0 where

@@ -3,7 +3,7 @@ use Rattle.std.specs.Prelude.{◌≡◌, ◌⊎◌, ℕ, List, Option, None, Som
 use Rattle.ipfix_session.specs.Sources.{SourceView}
 use Rattle.table_receipts.specs.Texts.{receipt_text}
 use Rattle.table_receipts.specs.Values.{ReceiptValue}
-use Rattle.period_tables.specs.Standing.{IsKeptAt, IsKeptBeside, IsPutAt}
+use Rattle.period_tables.specs.Standing.{IsKeptBeside, IsPutAt, IsPutOrKept, PlaceView}
 use Rattle.report_writing.specs.declared.reason.Reason.{Reason}
 use Rattle.command_tables.specs.Receipts.{IsNoReceiptFor, IsNotCompared, SaysOther, SaysTheSame}
 use Rattle.command_tables.specs.Texts.{IsNotMade, IsTextOf}
@@ -13,16 +13,8 @@ use Rattle.command_tables.specs.declared.texts.job.TextJob.{TextJob}
 use Rattle.command_tables.specs.declared.texts.taking.TextOutcome.{TextOutcome}
 use Rattle.command_tables.specs.declared.texts.taking.TextOutcome.TheVariants.{NoTable, UpToDate, Made, NotRead, NotMade, NotPut}
 
--- what contracts see of a place of tables
-pub record TextViews (T : Type 0) : Type 1 where
-  pub text_at : T → ℕ → List ℕ → Type 0
-  pub receipt_at : T → ℕ → Option (List ℕ) → Type 0
-  pub refuses : T → ℕ → Reason → Type 0
-
-abbrev pub text_views : {T : Type 0} → (T → ℕ → List ℕ → Type 0) → (T → ℕ → Option (List ℕ) → Type 0) → (T → ℕ → Reason → Type 0) → TextViews T
-text_views text_at receipt_at refuses = record { text_at = text_at; receipt_at = receipt_at; refuses = refuses }
-
-module _ {T : Type 0} (sees : TextViews T) where
+-- by what contracts see of a place of tables
+module _ {T : Type 0} (sees : PlaceView T) where
   -- the text that is there is that of the table of this receipt: it has a receipt that says the same
   pub record StandsFor (own : List ℕ) (begins : ℕ) (texts : T) : Type 0 where
     pub other : List ℕ
@@ -51,26 +43,21 @@ module _ {T : Type 0} (sees : TextViews T) where
   IsNotMadeOf seen job own begins tables fault =
       (value : ReceiptValue) × (receipt_text value ≡ own) × ((export : List ℕ) × sees.text_at tables begins export × IsNotMade seen job value export fault)
 
-  -- all others are as they were
-  abbrev pub KeepsOthers : ℕ → T → T → Type 0
-  KeepsOthers begins before after = IsKeptBeside begins (sees.text_at before) (sees.text_at after) (sees.receipt_at before) (sees.receipt_at after)
-
   -- it was made, and is there with its receipt
   pub record IsMade (job : TextJob) (own : List ℕ) (begins : ℕ) (tables before after : T) : Type 0 where
     pub text : List ℕ
     pub receipt : List ℕ
     pub made : IsMadeOf job own begins tables text receipt
-    pub stands : IsPutAt (sees.text_at after begins) (sees.receipt_at after begins) text receipt
-    pub others : KeepsOthers begins before after
+    pub stands : IsPutAt sees begins after text receipt
+    pub others : IsKeptBeside sees begins before after
 
   -- it was made, and putting it failed: it is there with its receipt, or what was there before
   pub record IsNotPut (job : TextJob) (own : List ℕ) (begins : ℕ) (reason : Reason) (tables before after : T) : Type 0 where
     pub text : List ℕ
     pub receipt : List ℕ
     pub made : IsMadeOf job own begins tables text receipt
-    pub left : IsPutAt (sees.text_at after begins) (sees.receipt_at after begins) text receipt
-        ⊎ IsKeptAt begins (sees.text_at before) (sees.text_at after) (sees.receipt_at before) (sees.receipt_at after)
-    pub others : KeepsOthers begins before after
+    pub left : IsPutOrKept sees begins before after text receipt
+    pub others : IsKeptBeside sees begins before after
     pub why : sees.refuses after begins reason
 
   -- of a table with this receipt whose text was due

@@ -6,25 +6,26 @@ use Rattle.recording_names.specs.declared.period.Period.{Period}
 use Rattle.report_writing.specs.Told.{AreToldTo}
 use Rattle.report_writing.specs.declared.status.Status.{Status}
 use Rattle.report_writing.specs.declared.status.Status.TheVariants.{Failed, Well}
+use Rattle.period_tables.specs.Standing.{PlaceView}
 use Rattle.period_tables.specs.Rounds.{SettlesAtMost, is_settled}
 use Rattle.period_tables.specs.Telling.{label_text}
 use Rattle.period_tables.specs.declared.work.Round.{Round}
 use Rattle.period_tables.specs.declared.work.Work.{Work}
-use Rattle.command_tables.specs.Outcomes.{IsTextOutcome, TextViews}
+use Rattle.command_tables.specs.Outcomes.{IsTextOutcome}
 use Rattle.command_tables.specs.Telling.{text_lines, text_paths, text_status}
 use Rattle.command_tables.specs.declared.texts.job.TextJob.{TextJob}
 use Rattle.command_tables.specs.declared.texts.periods.Texts.{Texts}
 use Rattle.command_tables.specs.declared.texts.taking.TextOutcome.{TextOutcome}
 
 -- by what contracts see of a place of tables, and of what paths and lines are written to
-module _ {F M T P L S : Type 0} (sees : TextViews T) (seen : S → SourceView) (path_at : T → ℕ → List ℕ → Type 0) (paths_in : P → Option (List ℕ)) (paths_failed : P → Type 0) (lines_in : L → Option (List ℕ)) (lines_failed : L → Type 0) (job : TextJob) (round : Round) where
+module _ {F M T P L S : Type 0} (sees : PlaceView T) (seen : S → SourceView) (paths_in : P → Option (List ℕ)) (paths_failed : P → Type 0) (lines_in : L → Option (List ℕ)) (lines_failed : L → Type 0) (job : TextJob) (round : Round) where
   -- a text was taken, and its path and lines say what became of it
   pub record IsTextTold (begins : ℕ) (status : Status) (before after : Work F M T P L) (texts texts_after : T) : Type 0 where
     pub outcome : TextOutcome
     pub name : List ℕ
     pub path : List ℕ
     pub is_name : IsPeriodName begins name
-    pub is_path : path_at texts begins path
+    pub is_path : sees.path_at texts begins path
     pub taken : IsTextOutcome sees seen job begins outcome before.desk.tables texts texts_after
     pub paths : AreToldTo paths_in paths_failed before.out after.out (text_paths path outcome)
     pub lines : AreToldTo lines_in lines_failed before.err after.err (text_lines (label_text round.plan name) outcome)

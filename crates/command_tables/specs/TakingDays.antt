@@ -5,11 +5,12 @@ use Rattle.recording_names.specs.declared.period.Period.{Period}
 use Rattle.report_writing.specs.Told.{AreToldTo}
 use Rattle.report_writing.specs.declared.status.Status.{Status}
 use Rattle.report_writing.specs.declared.status.Status.TheVariants.{Failed, Well}
+use Rattle.period_tables.specs.Standing.{PlaceView}
 use Rattle.period_tables.specs.declared.outcome.Outcome.{Outcome}
 use Rattle.period_tables.specs.Telling.{outcome_lines, outcome_paths, outcome_status}
 use Rattle.period_tables.specs.declared.work.Round.{Round}
 use Rattle.period_tables.specs.declared.work.Work.{Work}
-use Rattle.command_tables.specs.Outcomes.{IsTextOutcome, TextViews}
+use Rattle.command_tables.specs.Outcomes.{IsTextOutcome}
 use Rattle.command_tables.specs.Telling.{text_lines, text_paths, text_status}
 use Rattle.command_tables.specs.declared.texts.taking.TextOutcome.{TextOutcome}
 use Rattle.command_tables.specs.DayOutcomes.{IsDayOutcome}
@@ -19,13 +20,13 @@ use Rattle.command_tables.specs.declared.days.day_tables.DayTexts.{DayTexts}
 use Rattle.command_tables.specs.declared.days.placing.PlacedPeriod.{PlacedPeriod}
 
 -- by what contracts see of a place of tables, and of what paths and lines are written to
-module _ {F M T P L S : Type 0} (sees : TextViews T) (seen : S → SourceView) (path_at : T → ℕ → List ℕ → Type 0) (paths_in : P → Option (List ℕ)) (paths_failed : P → Type 0) (lines_in : L → Option (List ℕ)) (lines_failed : L → Type 0) where
+module _ {F M T P L S : Type 0} (sees : PlaceView T) (seen : S → SourceView) (paths_in : P → Option (List ℕ)) (paths_failed : P → Type 0) (lines_in : L → Option (List ℕ)) (lines_failed : L → Type 0) where
   -- the table of a day was taken of these periods, and its path and lines, after those of the merge, say what became of it
   pub record IsDayTold (periods : List Period) (begins : ℕ) (status : Status) (before after : Work F M T P L) (made made_after : DayTables T) : Type 0 where
     pub outcome : Outcome
     pub path : List ℕ
     pub between : L
-    pub is_path : path_at made.place begins path
+    pub is_path : sees.path_at made.place begins path
     pub taken : IsDayOutcome sees seen lines_in lines_failed made.job periods begins outcome before.desk.tables made.place made_after.place before.err between
     pub paths : AreToldTo paths_in paths_failed before.out after.out (outcome_paths path outcome)
     pub lines : AreToldTo lines_in lines_failed between after.err (outcome_lines true path path outcome)
@@ -53,8 +54,8 @@ module _ {F M T P L S : Type 0} (sees : TextViews T) (seen : S → SourceView) (
     pub outcome : TextOutcome
     pub table : List ℕ
     pub path : List ℕ
-    pub is_table : path_at made.place begins table
-    pub is_path : path_at texts.place begins path
+    pub is_table : sees.path_at made.place begins table
+    pub is_path : sees.path_at texts.place begins path
     pub taken : IsTextOutcome sees seen texts.job begins outcome made.place texts.place texts_after.place
     pub paths : AreToldTo paths_in paths_failed before.out after.out (text_paths path outcome)
     pub lines : AreToldTo lines_in lines_failed before.err after.err (text_lines table outcome)

@@ -6,7 +6,7 @@ use Rattle.recording_names.specs.PeriodNames.{calendar_end}
 use Rattle.recording_periods.specs.PeriodFolders.{IsPeriodAt}
 use Rattle.report_writing.specs.declared.reason.Reason.{Reason}
 use Rattle.report_writing.specs.declared.reason.Reason.TheVariants.{NoSuchFile}
-use Rattle.command_tables.specs.Outcomes.{TextViews}
+use Rattle.period_tables.specs.Standing.{PlaceView}
 
 -- a name is that of the period that begins then
 abbrev pub NamesPeriod : ℕ → List ℕ → Type 0
@@ -21,7 +21,7 @@ NamesNone name =
 abbrev pub IsOfReceipt : List ℕ → List ℕ → Type 0
 IsOfReceipt path name = path ≡ name ++ codes ".receipt"
 
-module _ {T : Type 0} (sees : TextViews T) (tables : T) where
+module _ {T : Type 0} (sees : PlaceView T) (tables : T) where
   -- under the name of a period is the text of its table, and under that of its receipt the receipt's
   abbrev pub HasText : List ℕ → List ℕ → Type 0
   HasText path text =

@@ -15,7 +15,7 @@ use Rattle.report_writing.specs.declared.reason.Reason.{Reason}
 use Rattle.report_writing.specs.declared.status.Status.{Status}
 use Rattle.report_writing.specs.declared.status.Status.TheVariants.{Well, SessionFault, NotOpened, Failed}
 use Rattle.report_writing.specs.declared.verbosity.Verbosity.{Verbosity}
-use Rattle.table_receipts.specs.Values.{FileValue, IntoValue, ReceiptValue, file_value}
+use Rattle.table_receipts.specs.Values.{FileValue, IntoValue, ReceiptValue, file_value, receipt_value}
 use Rattle.receipt_maps.specs.MapsTold.{AreMapsWith}
 use Rattle.receipt_maps.specs.declared.maps.MapsOfPlan.{MapsOfPlan}
 use Rattle.receipt_differences.specs.Differences.{table_differs}
@@ -29,6 +29,7 @@ use Rattle.table_remaking.specs.Faults.{IsFaultOf}
 use Rattle.table_remaking.specs.declared.again.AgainFault.{AgainFault}
 use Rattle.table_remaking.specs.declared.again.AgainFault.TheVariants.{NotMade, OutOfMemory}
 use Rattle.table_remaking.specs.declared.again.MadeBy.{MadeBy}
+use Rattle.table_remaking.specs.declared.again.TableThere.{TableThere}
 use Rattle.command_verify.specs.Verified.{TellsDifferences, Verifies, memory_line, merged_line}
 use Rattle.command_verify.specs.declared.verify.VerifyJob.{VerifyJob}
 
@@ -36,6 +37,14 @@ abbrev pub again_fault_line : AgainFault → List ℕ
 again_fault_line (NotMade (Collect fault)) = collect_fault_line fault
 again_fault_line (NotMade (Run fault)) = run_fault_line fault
 again_fault_line OutOfMemory = memory_line
+
+-- a table that is there, and what its receipt says
+pub record ThereValue : Type 0 where
+  pub said : ReceiptValue
+  pub table : List ℕ
+
+abbrev pub there_value : TableThere → ThereValue
+there_value there = record { said = receipt_value there.receipt.now; table = there.table.now }
 
 -- ---- what it isn't made again by
 
@@ -71,21 +80,21 @@ pub record IsMadeBy (job : VerifyJob) (loaded : LoadedPlan) (maps : Option Maps)
 
 -- ---- how it ended
 
-module _ (said : ReceiptValue) (table : List ℕ) (status : Status) where
+module _ (there : ThereValue) (status : Status) where
   -- the table alone is compared, and this is told after what differs, unless memory runs out
   abbrev pub ComparesAlone : List ℕ → (List ℕ → Type 0) → Type 0
   ComparesAlone behind AreTold =
-      TellsDifferences said (table_differs said.table table ++ behind) status AreTold
+      TellsDifferences there.said (table_differs there.said.table there.table ++ behind) status AreTold
       ⊎ ((status ≡ Failed) × AreTold memory_line)
 
-module _ {S : Type 0} (seen : S → SourceView) (said : ReceiptValue) (table : List ℕ) (status : Status) where
+module _ {S : Type 0} (seen : S → SourceView) (there : ThereValue) (status : Status) where
   -- of these sources it was made again, and what differs was told; or it wasn't made
   abbrev pub TellsAgain : MadeBy → List S → List Origin → (List ℕ → Type 0) → Type 0
   TellsAgain by sources origins AreTold =
-      ((lines : List ℕ) × IsCompared seen by said sources origins table lines × TellsDifferences said lines status AreTold)
-      ⊎ ((fault : AgainFault) × IsFaultOf seen by said sources origins fault × (status ≡ Failed) × AreTold (again_fault_line fault))
+      ((lines : List ℕ) × IsCompared seen by there.said sources origins there.table lines × TellsDifferences there.said lines status AreTold)
+      ⊎ ((fault : AgainFault) × IsFaultOf seen by there.said sources origins fault × (status ≡ Failed) × AreTold (again_fault_line fault))
 
-module _ {S O : Type 0} (seen : S → SourceView) (job : VerifyJob) (said : ReceiptValue) (table : List ℕ) (status : Status)
+module _ {S O : Type 0} (seen : S → SourceView) (job : VerifyJob) (there : ThereValue) (status : Status)
     (opens : O → List ℕ → S → Type 0) (sizes : O → List ℕ → Option ℕ → Type 0) (refuses : O → List ℕ → Reason → Type 0) (coming : O → Option (List S)) (before after : O) (AreTold : List ℕ → Type 0) where
   -- a file can't be opened
   pub record LacksFile : Type 0 where
@@ -97,7 +106,7 @@ module _ {S O : Type 0} (seen : S → SourceView) (job : VerifyJob) (said : Rece
     pub sources : List S
     pub had : PathsAreOpened opens coming before after job.again.now sources
     pub unread : All (IsUnread seen) sources
-    pub told : TellsBehind (AreFiles (sizes before) job.again.now) job.verbosity [] AreTold (TellsAgain seen said table status by sources)
+    pub told : TellsBehind (AreFiles (sizes before) job.again.now) job.verbosity [] AreTold (TellsAgain seen there status by sources)
 
   abbrev pub OpensOrLacks : MadeBy → Type 0
   OpensOrLacks by = LacksFile ⊎ OpensFiles by
@@ -115,42 +124,42 @@ module _ {S O : Type 0} (seen : S → SourceView) (job : VerifyJob) (said : Rece
   -- with other files of maps than it was made with it isn't made again; else by these
   abbrev pub ComparesWith : LoadedPlan → MapsOfPlan → Type 0
   ComparesWith loaded maps =
-      ((files_differ maps said ≢ []) × ComparesAlone said table status (files_differ maps said) AreTold)
+      ((files_differ maps there.said ≢ []) × ComparesAlone there status (files_differ maps there.said) AreTold)
       ⊎ ((status ≡ Failed) × AreTold memory_line)
-      ⊎ ((files_differ maps said ≡ []) × OpensBy loaded maps.maps)
+      ⊎ ((files_differ maps there.said ≡ []) × OpensBy loaded maps.maps)
 
-module _ {S O : Type 0} (seen : S → SourceView) (job : VerifyJob) (said : ReceiptValue) (table : List ℕ) (status : Status)
+module _ {S O : Type 0} (seen : S → SourceView) (job : VerifyJob) (there : ThereValue) (status : Status)
     (opens : O → List ℕ → S → Type 0) (sizes : O → List ℕ → Option ℕ → Type 0) (refuses : O → List ℕ → Reason → Type 0) (coming : O → Option (List S)) (before after : O) (AreTold : List ℕ → Type 0)
     (Has : List ℕ → List ℕ → Type 0) (RefusesText : List ℕ → Reason → Type 0) where
   -- a file that the receipt names gives no map; or the maps of the plan are those of these files
   abbrev pub ComparesMapped : LoadedPlan → Type 0
   ComparesMapped loaded =
-      HasNoMaps Has RefusesText job.verbosity (names_of said.maps) AreTold status
-      ⊎ ((maps : MapsOfPlan) × AreMapsNamed Has (names_of said.maps) loaded.maps.keys.items maps × ComparesWith seen job said table status opens sizes refuses coming before after AreTold loaded maps)
+      HasNoMaps Has RefusesText job.verbosity (names_of there.said.maps) AreTold status
+      ⊎ ((maps : MapsOfPlan) × AreMapsNamed Has (names_of there.said.maps) loaded.maps.keys.items maps × ComparesWith seen job there status opens sizes refuses coming before after AreTold loaded maps)
 
   -- if the plan names some
   abbrev pub ComparesLoaded : LoadedPlan → Type 0
   ComparesLoaded loaded =
-      ((loaded.maps.maps.items ≡ []) × OpensBy seen job said table status opens sizes refuses coming before after AreTold loaded None)
+      ((loaded.maps.maps.items ≡ []) × OpensBy seen job there status opens sizes refuses coming before after AreTold loaded None)
       ⊎ ((loaded.maps.maps.items ≢ []) × ComparesMapped loaded)
 
   -- the text in the receipt is no plan
   pub record LacksPlan (known : List Known) : Type 0 where
-    pub told : TellsNoText known said.plan AreTold
+    pub told : TellsNoText known there.said.plan AreTold
     pub not_opened : status ≡ NotOpened
 
   -- it is that of a plan, with these elements
   pub record HasPlan (known : List Known) : Type 0 where
     pub loaded : LoadedPlan
-    pub is_loaded : IsLoaded known said.plan loaded.maps (table_of loaded)
+    pub is_loaded : IsLoaded known there.said.plan loaded.maps (table_of loaded)
     pub compares : ComparesLoaded loaded
 
   -- with other files of elements than it was made with it isn't made again; else by the plan of the receipt
   abbrev pub ComparesGiven : List Known → Type 0
   ComparesGiven known =
-      ((given_differ job said ≢ []) × ComparesAlone said table status (given_differ job said) AreTold)
+      ((given_differ job there.said ≢ []) × ComparesAlone there status (given_differ job there.said) AreTold)
       ⊎ ((status ≡ Failed) × AreTold memory_line)
-      ⊎ ((given_differ job said ≡ []) × (LacksPlan known ⊎ HasPlan known))
+      ⊎ ((given_differ job there.said ≡ []) × (LacksPlan known ⊎ HasPlan known))
 
   -- if the receipt says that its rows were merged into days or months, that is told, and no file is opened
   abbrev pub ComparesUnmerged : List Known → Option IntoValue → Type 0
@@ -160,12 +169,12 @@ module _ {S O : Type 0} (seen : S → SourceView) (job : VerifyJob) (said : Rece
   -- without files to make it of the table alone is compared
   abbrev pub ComparesFiles : List Known → Type 0
   ComparesFiles known =
-      ((job.again.now ≡ []) × ComparesAlone said table status [] AreTold)
-      ⊎ ((job.again.now ≢ []) × ComparesUnmerged known said.table.into)
+      ((job.again.now ≡ []) × ComparesAlone there status [] AreTold)
+      ⊎ ((job.again.now ≢ []) × ComparesUnmerged known there.said.table.into)
 
 module _ {S O : Type 0} (seen : S → SourceView) (job : VerifyJob) (status : Status)
     (opens : O → List ℕ → S → Type 0) (sizes : O → List ℕ → Option ℕ → Type 0) (refuses : O → List ℕ → Reason → Type 0) (coming : O → Option (List S)) (before after : O) (AreTold : List ℕ → Type 0) where
   -- the receipt was read, and then the table, which is compared; or one of them wasn't read
   abbrev pub RunsVerify : (List ℕ → List ℕ → Type 0) → (List ℕ → Reason → Type 0) → List Known → Type 0
   RunsVerify Has RefusesText known =
-      Verifies Has RefusesText job status AreTold (λ said table. ComparesFiles seen job said table status opens sizes refuses coming before after AreTold Has RefusesText known)
+      Verifies Has RefusesText job status AreTold (λ said table. ComparesFiles seen job (record { said = said; table = table }) status opens sizes refuses coming before after AreTold Has RefusesText known)

@@ -3,9 +3,9 @@
 ghost use Rattle.std.specs.Prelude.{◌≡◌, ◌++◌, IfOk};
 ghost use Rattle.report_writing.specs.Told.{AreToldTo};
 ghost use Rattle.report_writing.specs.Writing.{Tells};
-ghost use Rattle.table_receipts.specs.Values.{receipt_value, table_value};
+ghost use Rattle.table_receipts.specs.Values.{table_value};
 ghost use Rattle.receipt_differences.specs.Differences.{table_differs};
-ghost use Rattle.command_verify.specs.Again.{ComparesAlone, ComparesFiles, ComparesGiven, ComparesLoaded, ComparesMapped, ComparesWith, IsMadeBy, OpensBy, OpensOrLacks, TellsAgain, again_fault_line, files_differ, given_differ};
+ghost use Rattle.command_verify.specs.Again.{ComparesAlone, ComparesFiles, ComparesGiven, ComparesLoaded, ComparesMapped, ComparesWith, IsMadeBy, OpensBy, OpensOrLacks, TellsAgain, again_fault_line, files_differ, given_differ, there_value};
 
 use crate::maps::load_said_maps;
 use crate::telling::{tell_differences, tell_fault, tell_merged};
@@ -40,7 +40,6 @@ pub fn compare_files<
     R: Clock + Threads + Wait + Sync,
 >(
     rt: &R,
-    alloc: Global,
     texts: &T,
     files: &mut O,
     elements: Elements,
@@ -49,17 +48,17 @@ pub fn compare_files<
     progress: Option<P>,
     err: &mut E,
 ) -> Status
-    ensures compares { ComparesFiles S.seen job.now (receipt_value there.now.receipt.now) there.now.table.now result
+    ensures compares { ComparesFiles S.seen job.now (there_value there.now) result
         O.opens O.sizes O.refuses O.coming files.old files.new
         (AreToldTo E.contents E.failed err.old err.new) (T.has texts.now) (T.refuses texts.now) elements }
     ensures kept { E.failed err.old → E.failed err.new }
 {
     if job.again.is_empty() {
-        return compare_alone(alloc, there, b"", err);
+        return compare_alone(job.alloc, there, b"", err);
     }
     match &there.receipt.table.into {
         Some(into) => tell_merged(into.interval, err),
-        None => compare_given(rt, alloc, texts, files, elements, job, there, progress, err),
+        None => compare_given(rt, texts, files, elements, job, there, progress, err),
     }
 }
 
@@ -70,7 +69,7 @@ fn compare_alone<E: WriteLines>(
     behind: &[u8],
     err: &mut E,
 ) -> Status
-    ensures compares { ComparesAlone (receipt_value there.now.receipt.now) there.now.table.now result
+    ensures compares { ComparesAlone (there_value there.now) result
         behind.now (AreToldTo E.contents E.failed err.old err.new) }
     ensures kept { E.failed err.old → E.failed err.new }
 {
@@ -90,7 +89,6 @@ fn compare_given<
     R: Clock + Threads + Wait + Sync,
 >(
     rt: &R,
-    alloc: Global,
     texts: &T,
     files: &mut O,
     elements: Elements,
@@ -99,19 +97,19 @@ fn compare_given<
     progress: Option<P>,
     err: &mut E,
 ) -> Status
-    ensures compares { ComparesGiven S.seen job.now (receipt_value there.now.receipt.now) there.now.table.now result
+    ensures compares { ComparesGiven S.seen job.now (there_value there.now) result
         O.opens O.sizes O.refuses O.coming files.old files.new
         (AreToldTo E.contents E.failed err.old err.new) (T.has texts.now) (T.refuses texts.now) elements }
     ensures kept { E.failed err.old → E.failed err.new }
 {
-    let Ok(lines) = given_differences(alloc, job, there) else {
+    let Ok(lines) = given_differences(job, there) else {
         return tell_fault(ReceiptFault::OutOfMemory, err);
     };
     if !lines.is_empty() {
-        return compare_alone(alloc, there, &lines, err);
+        return compare_alone(job.alloc, there, &lines, err);
     }
-    match load_plan_text(alloc, elements, there.receipt.plan.as_bytes(), err) {
-        Some(loaded) => compare_loaded(rt, alloc, texts, files, job, loaded, there, progress, err),
+    match load_plan_text(job.alloc, elements, there.receipt.plan.as_bytes(), err) {
+        Some(loaded) => compare_loaded(rt, texts, files, job, loaded, there, progress, err),
         None => Status::NotOpened,
     }
 }
@@ -126,7 +124,6 @@ fn compare_loaded<
     R: Clock + Threads + Wait + Sync,
 >(
     rt: &R,
-    alloc: Global,
     texts: &T,
     files: &mut O,
     job: &VerifyJob,
@@ -135,15 +132,15 @@ fn compare_loaded<
     progress: Option<P>,
     err: &mut E,
 ) -> Status
-    ensures compares { ComparesLoaded S.seen job.now (receipt_value there.now.receipt.now) there.now.table.now result
+    ensures compares { ComparesLoaded S.seen job.now (there_value there.now) result
         O.opens O.sizes O.refuses O.coming files.old files.new
         (AreToldTo E.contents E.failed err.old err.new) (T.has texts.now) (T.refuses texts.now) loaded }
     ensures kept { E.failed err.old → E.failed err.new }
 {
     if loaded.maps.maps.is_empty() {
-        open_with(rt, alloc, files, job, loaded, None, there, progress, err)
+        open_with(rt, files, job, loaded, None, there, progress, err)
     } else {
-        compare_mapped(rt, alloc, texts, files, job, loaded, there, progress, err)
+        compare_mapped(rt, texts, files, job, loaded, there, progress, err)
     }
 }
 
@@ -157,7 +154,6 @@ fn compare_mapped<
     R: Clock + Threads + Wait + Sync,
 >(
     rt: &R,
-    alloc: Global,
     texts: &T,
     files: &mut O,
     job: &VerifyJob,
@@ -166,20 +162,20 @@ fn compare_mapped<
     progress: Option<P>,
     err: &mut E,
 ) -> Status
-    ensures compares { ComparesMapped S.seen job.now (receipt_value there.now.receipt.now) there.now.table.now result
+    ensures compares { ComparesMapped S.seen job.now (there_value there.now) result
         O.opens O.sizes O.refuses O.coming files.old files.new
         (AreToldTo E.contents E.failed err.old err.new) (T.has texts.now) (T.refuses texts.now) loaded }
     ensures kept { E.failed err.old → E.failed err.new }
 {
     match load_said_maps(
         texts,
-        alloc,
+        job.alloc,
         &there.receipt.maps,
         &loaded.maps.keys,
         job.verbosity,
         err,
     ) {
-        Ok(maps) => compare_with(rt, alloc, files, job, loaded, maps, there, progress, err),
+        Ok(maps) => compare_with(rt, files, job, loaded, maps, there, progress, err),
         Err(status) => status,
     }
 }
@@ -193,7 +189,6 @@ fn compare_with<
     R: Clock + Threads + Wait + Sync,
 >(
     rt: &R,
-    alloc: Global,
     files: &mut O,
     job: &VerifyJob,
     loaded: LoadedPlan,
@@ -202,19 +197,19 @@ fn compare_with<
     progress: Option<P>,
     err: &mut E,
 ) -> Status
-    ensures compares { ComparesWith S.seen job.now (receipt_value there.now.receipt.now) there.now.table.now result
+    ensures compares { ComparesWith S.seen job.now (there_value there.now) result
         O.opens O.sizes O.refuses O.coming files.old files.new
         (AreToldTo E.contents E.failed err.old err.new) loaded maps }
     ensures kept { E.failed err.old → E.failed err.new }
 {
-    let Ok(others) = file_differences(alloc, &maps, there) else {
+    let Ok(others) = file_differences(job.alloc, &maps, there) else {
         return tell_fault(ReceiptFault::OutOfMemory, err);
     };
     if !others.is_empty() {
-        return compare_alone(alloc, there, &others, err);
+        return compare_alone(job.alloc, there, &others, err);
     }
     let MapsOfPlan { maps, .. } = maps;
-    open_with(rt, alloc, files, job, loaded, maps, there, progress, err)
+    open_with(rt, files, job, loaded, maps, there, progress, err)
 }
 
 // Makes the table again by this plan and these maps.
@@ -226,7 +221,6 @@ fn open_with<
     R: Clock + Threads + Wait + Sync,
 >(
     rt: &R,
-    alloc: Global,
     files: &mut O,
     job: &VerifyJob,
     loaded: LoadedPlan,
@@ -235,13 +229,13 @@ fn open_with<
     progress: Option<P>,
     err: &mut E,
 ) -> Status
-    ensures opens { OpensBy S.seen job.now (receipt_value there.now.receipt.now) there.now.table.now result
+    ensures opens { OpensBy S.seen job.now (there_value there.now) result
         O.opens O.sizes O.refuses O.coming files.old files.new
         (AreToldTo E.contents E.failed err.old err.new) loaded maps }
     ensures kept { E.failed err.old → E.failed err.new }
 {
-    match made_by(alloc, job, loaded, maps) {
-        Ok(by) => open_files(rt, alloc, files, job, &by, there, progress, err),
+    match made_by(job, loaded, maps) {
+        Ok(by) => open_files(rt, files, job, &by, there, progress, err),
         Err(AllocError) => tell_fault(ReceiptFault::OutOfMemory, err),
     }
 }
@@ -255,7 +249,6 @@ fn open_files<
     R: Clock + Threads + Wait + Sync,
 >(
     rt: &R,
-    alloc: Global,
     files: &mut O,
     job: &VerifyJob,
     by: &MadeBy,
@@ -263,15 +256,23 @@ fn open_files<
     progress: Option<P>,
     err: &mut E,
 ) -> Status
-    ensures opens { OpensOrLacks S.seen job.now (receipt_value there.now.receipt.now) there.now.table.now result
+    ensures opens { OpensOrLacks S.seen job.now (there_value there.now) result
         O.opens O.sizes O.refuses O.coming files.old files.new
         (AreToldTo E.contents E.failed err.old err.new) by.now }
     ensures kept { E.failed err.old → E.failed err.new }
 {
-    match open_all(rt, alloc, files, job.again, progress, job.verbosity, err) {
+    match open_all(
+        rt,
+        job.alloc,
+        files,
+        job.again,
+        progress,
+        job.verbosity,
+        err,
+    ) {
         Ok(OpenedAll { sources, origins }) => {
             let sources = sources.into_sources();
-            tell_again(rt, alloc, sources, &origins, by, there, err)
+            tell_again(rt, job.alloc, sources, &origins, by, there, err)
         }
         Err(NotOpened { path, reason }) => {
             let _ = write_not_had_because(job.verbosity, "open", path, reason, err);
@@ -281,15 +282,10 @@ fn open_files<
 }
 
 // What the table is made again by.
-fn made_by(
-    alloc: Global,
-    job: &VerifyJob,
-    loaded: LoadedPlan,
-    maps: Option<Maps>,
-) -> Result<MadeBy, AllocError>
+fn made_by(job: &VerifyJob, loaded: LoadedPlan, maps: Option<Maps>) -> Result<MadeBy, AllocError>
     ensures { IfOk result (IsMadeBy job.now loaded maps) }
 {
-    let exporters = Vec::from_slice(alloc, job.exporters)?;
+    let exporters = Vec::from_slice(job.alloc, job.exporters)?;
     Ok(MadeBy {
         loaded,
         maps,
@@ -307,7 +303,7 @@ fn tell_again<S: Source + Send + Drop, E: WriteLines, R: Threads + Wait + Sync>(
     there: &TableThere,
     err: &mut E,
 ) -> Status
-    ensures tells { TellsAgain S.seen (receipt_value there.now.receipt.now) there.now.table.now result
+    ensures tells { TellsAgain S.seen (there_value there.now) result
         by.now sources.items origins.now (AreToldTo E.contents E.failed err.old err.new) }
     ensures kept { E.failed err.old → E.failed err.new }
 {
@@ -339,15 +335,11 @@ fn differences_of(
 }
 
 // The line of files of elements that a table wasn't made with.
-fn given_differences(
-    alloc: Global,
-    job: &VerifyJob,
-    there: &TableThere,
-) -> Result<Vec<u8>, AllocError>
+fn given_differences(job: &VerifyJob, there: &TableThere) -> Result<Vec<u8>, AllocError>
     ensures { IfOk result
-        (λ lines. lines.items ≡ given_differ job.now (receipt_value there.now.receipt.now)) }
+        (λ lines. lines.items ≡ given_differ job.now (there_value there.now).said) }
 {
-    let mut lines = Vec::new(alloc);
+    let mut lines = Vec::new(job.alloc);
     let said: &[FileReceipt] = &there.receipt.elements;
     match write_element_differences(job.element_files, said, &mut lines) {
         Ok(()) => Ok(lines),
@@ -362,7 +354,7 @@ fn file_differences(
     there: &TableThere,
 ) -> Result<Vec<u8>, AllocError>
     ensures { IfOk result
-        (λ lines. lines.items ≡ files_differ maps.now (receipt_value there.now.receipt.now)) }
+        (λ lines. lines.items ≡ files_differ maps.now (there_value there.now).said) }
 {
     let mut lines = Vec::new(alloc);
     let said: &[FileReceipt] = &there.receipt.maps;

@@ -26,6 +26,7 @@ use table_remaking::TableThere;
 /// What is to be compared.
 #[derive(Clone, Copy)]
 pub struct VerifyJob<'a> {
+    pub alloc: Global,
     /// The path of the receipt, and that of the table.
     pub receipt: &'a str,
     pub table: &'a str,
@@ -58,7 +59,6 @@ pub fn run_verify<
     R: Clock + Threads + Wait + Sync,
 >(
     rt: &R,
-    alloc: Global,
     texts: &T,
     files: &mut O,
     elements: Elements,
@@ -71,18 +71,18 @@ pub fn run_verify<
         (T.has texts.now) (T.refuses texts.now) elements }
     ensures kept { E.failed err.old → E.failed err.new }
 {
-    let text = match texts.read_text(alloc, job.receipt) {
+    let text = match texts.read_text(job.alloc, job.receipt) {
         Ok(text) => text,
         Err(reason) => {
             let _ = write_not_had_because(job.verbosity, "open", job.receipt, reason, err);
             return Status::NotOpened;
         }
     };
-    let receipt = match receipt_in(alloc, &text) {
+    let receipt = match receipt_in(job.alloc, &text) {
         Ok(receipt) => receipt,
         Err(fault) => return tell_fault(fault, err),
     };
-    let table = match texts.read_text(alloc, job.table) {
+    let table = match texts.read_text(job.alloc, job.table) {
         Ok(table) => table,
         Err(reason) => {
             let _ = write_not_had_because(job.verbosity, "open", job.table, reason, err);
@@ -93,9 +93,7 @@ pub fn run_verify<
         receipt: &receipt,
         table: &table,
     };
-    compare_files(
-        rt, alloc, texts, files, elements, job, &there, progress, err,
-    )
+    compare_files(rt, texts, files, elements, job, &there, progress, err)
 }
 
 // The receipt that octets are the text of.

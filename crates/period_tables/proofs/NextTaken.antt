@@ -18,15 +18,15 @@ pub at_most : {A E : Type 0} (answer : Result A E) (begins : ℕ) (before after 
 at_most (Ok done) begins before after ok err = inl ok
 at_most (Err refused) begins before after ok err = inr err
 
-module _ {F M T P L : Type 0} (sees : Views F M T) (path_at : T → ℕ → List ℕ → Type 0) (paths_in : P → Option (List ℕ)) (paths_failed : P → Type 0) (lines_in : L → Option (List ℕ)) (lines_failed : L → Type 0)
+module _ {F M T P L : Type 0} (sees : Views F M T) (paths_in : P → Option (List ℕ)) (paths_failed : P → Type 0) (lines_in : L → Option (List ℕ)) (lines_failed : L → Type 0)
     (round : Round) (unfinished : List (String Global)) (period : Period) (before between : Work F M T P L) (took : Took)
-    (unsettled : is_settled before.rounds period.begins ≡ false) (takes : TakesOne sees path_at paths_in paths_failed lines_in lines_failed round unfinished period took before between) where
-  next : (after : Work F M T P L) → IsNext sees path_at paths_in paths_failed lines_in lines_failed round unfinished period took.status before after
-      → TakesNext sees path_at paths_in paths_failed lines_in lines_failed round unfinished period took.status before after
-  next after is = subst (λ (b : Bool). MatchBool b ((took.status ≡ Well) × (after ≡ before)) (IsNext sees path_at paths_in paths_failed lines_in lines_failed round unfinished period took.status before after)) (sym unsettled) is
+    (unsettled : is_settled before.rounds period.begins ≡ false) (takes : TakesOne sees paths_in paths_failed lines_in lines_failed round unfinished period took before between) where
+  next : (after : Work F M T P L) → IsNext sees paths_in paths_failed lines_in lines_failed round unfinished period took.status before after
+      → TakesNext sees paths_in paths_failed lines_in lines_failed round unfinished period took.status before after
+  next after is = subst (λ (b : Bool). MatchBool b ((took.status ≡ Well) × (after ≡ before)) (IsNext sees paths_in paths_failed lines_in lines_failed round unfinished period took.status before after)) (sym unsettled) is
 
   pub settled_next : (rounds : Rounds) → took.settled ≡ true → SettlesAtMost period.begins between.rounds rounds
-      → TakesNext sees path_at paths_in paths_failed lines_in lines_failed round unfinished period took.status before (record between { rounds = rounds })
+      → TakesNext sees paths_in paths_failed lines_in lines_failed round unfinished period took.status before (record between { rounds = rounds })
   settled_next rounds is settles = next (record between { rounds = rounds }) (record {
     took = took;
     between = between;
@@ -36,7 +36,7 @@ module _ {F M T P L : Type 0} (sees : Views F M T) (path_at : T → ℕ → List
     settles = subst (λ (b : Bool). MatchBool b (SettlesAtMost period.begins between.rounds rounds) (rounds ≡ between.rounds)) (sym is) settles;
   })
 
-  pub unsettled_next : took.settled ≡ false → TakesNext sees path_at paths_in paths_failed lines_in lines_failed round unfinished period took.status before between
+  pub unsettled_next : took.settled ≡ false → TakesNext sees paths_in paths_failed lines_in lines_failed round unfinished period took.status before between
   unsettled_next is = next between (record {
     took = took;
     between = between;

@@ -4,8 +4,8 @@ use Rattle.std.specs.declared.alloc.Global.{Global}
 use Rattle.std.specs.declared.string.String.{String}
 use Rattle.recording_periods.specs.declared.due_tables.TableState.TheVariants as table
 use Rattle.period_tables.specs.Listings.{ListsNext}
-use Rattle.period_tables.specs.Outcomes.{IsDueOutcome, IsFinishedOutcome, IsLookedAt, KeepsIts, KeepsOthers, Views}
-use Rattle.period_tables.specs.Standing.{IsPutAt}
+use Rattle.period_tables.specs.Outcomes.{IsDueOutcome, IsFinishedOutcome, IsLookedAt, Views}
+use Rattle.period_tables.specs.Standing.{IsKeptBeside, IsPutOrKept}
 use Rattle.period_tables.specs.declared.desk.Desk.{Desk}
 use Rattle.period_tables.specs.declared.outcome.Outcome.{Outcome}
 use Rattle.period_tables.specs.declared.outcome.Outcome.TheVariants.{NotOver, HeldUp, UpToDate, FileGone, Made, NotRead, NotMade, NotPut}
@@ -13,8 +13,8 @@ use Rattle.period_tables.specs.declared.outcome.Outcome.TheVariants.{NotOver, He
 module _ {F M T : Type 0} (views : Views F M T)
     (begins : ℕ) (files : List (String Global)) (old mid new : Desk F M T) (maker : mid.maker ≡ old.maker) (tables : mid.tables ≡ old.tables) (folder : new.folder ≡ mid.folder)
     (looked : IsLookedAt views begins old mid files table.Due) where
-  others_kept : KeepsOthers views begins mid.tables new.tables → KeepsOthers views begins old.tables new.tables
-  others_kept kept = subst (λ t. KeepsOthers views begins t new.tables) tables kept
+  others_kept : IsKeptBeside views.place begins mid.tables new.tables → IsKeptBeside views.place begins old.tables new.tables
+  others_kept kept = subst (λ t. IsKeptBeside views.place begins t new.tables) tables kept
 
   made_before : (text receipt : List ℕ) (fault : Bool) → views.makes.is_table_of mid.maker new.maker begins files text receipt fault → views.makes.is_table_of old.maker new.maker begins files text receipt fault
   made_before text receipt fault made = subst (λ m. views.makes.is_table_of m new.maker begins files text receipt fault) maker made
@@ -52,7 +52,7 @@ module _ {F M T : Type 0} (views : Views F M T)
     receipt = h.receipt;
     fault = h.fault;
     made = made_before h.text h.receipt h.fault h.made;
-    left = subst (λ t. IsPutAt (views.table_at new.tables begins) (views.receipt_at new.tables begins) h.text h.receipt ⊎ KeepsIts views begins t new.tables) tables h.left;
+    left = subst (λ t. IsPutOrKept views.place begins t new.tables h.text h.receipt) tables h.left;
     others = others_kept h.others;
     as_before = still_made h.as_before;
     why = h.why;

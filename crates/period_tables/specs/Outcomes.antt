@@ -18,7 +18,7 @@ use Rattle.ipfix_session.specs.Sources.{SourceView}
 use Rattle.period_collect.specs.MadeTables.{Makes, makes_of}
 use Rattle.period_collect.specs.declared.maker.TableMaker.{TableMaker}
 use Rattle.period_tables.specs.Listings.{Listing, ListsNext}
-use Rattle.period_tables.specs.Standing.{IsKeptAt, IsKeptBeside, IsPutAt, NamesFiles}
+use Rattle.period_tables.specs.Standing.{IsKeptBeside, IsPutAt, IsPutOrKept, NamesFiles, PlaceView}
 use Rattle.period_tables.specs.declared.desk.Desk.{Desk}
 use Rattle.period_tables.specs.declared.outcome.Outcome.{Outcome}
 use Rattle.period_tables.specs.declared.outcome.Outcome.TheVariants.{NotOver, HeldUp, UpToDate, FileGone, Made, NotRead, NotMade, NotPut}
@@ -28,21 +28,17 @@ pub record Views (F M T : Type 0) : Type 1 where
   pub listed : F → Option (List Listing)
   pub not_listed : F → Option ℕ → Reason → Type 0
   pub makes : Makes M
-  pub table_at : T → ℕ → List ℕ → Type 0
-  pub receipt_at : T → ℕ → Option (List ℕ) → Type 0
-  pub not_put : T → ℕ → Reason → Type 0
+  pub place : PlaceView T
 
 -- by the words of their traits, and of those of the sources of tables, of what opens them, and of where lines go
 abbrev pub views : {F T S O E : Type 0} → (F → Option (List Listing)) → (F → Option ℕ → Reason → Type 0)
     → (S → SourceView) → (S → Option ErrorKind) → (O → List ℕ → S → Type 0) → (O → List ℕ → Option ℕ → Type 0) → (O → List ℕ → Reason → Type 0) → (O → Option (List S)) → (E → Option (List ℕ)) → (E → Type 0)
-    → (T → ℕ → List ℕ → Type 0) → (T → ℕ → Option (List ℕ) → Type 0) → (T → ℕ → Reason → Type 0) → Views F (TableMaker S O E) T
-views listed not_listed seen failure opens sizes refuses coming contents failed table_at receipt_at not_put = record {
+    → PlaceView T → Views F (TableMaker S O E) T
+views listed not_listed seen failure opens sizes refuses coming contents failed place = record {
   listed = listed;
   not_listed = not_listed;
   makes = makes_of seen failure opens sizes refuses coming contents failed;
-  table_at = table_at;
-  receipt_at = receipt_at;
-  not_put = not_put;
+  place = place;
 }
 
 -- that a file of this path is gone; or there was no memory for that
@@ -58,24 +54,16 @@ module _ {F M T : Type 0} (sees : Views F M T) where
     pub lists : ListsNext (sees.listed before.folder) (sees.listed after.folder) (record { period = Some begins; names = names })
     pub files_of : AreFilesOf names files
     pub paths : Option (Vec (String Global) Global)
-    pub receipt : NamesFiles (sees.receipt_at before.tables begins) paths
+    pub receipt : NamesFiles (sees.place.receipt_at before.tables begins) paths
     pub state_is : IsTableState files (option_map (λ v. v.items) paths) state
-
-  -- the table and the receipt of a period are as they were
-  abbrev pub KeepsIts : ℕ → T → T → Type 0
-  KeepsIts begins before after = IsKeptAt begins (sees.table_at before) (sees.table_at after) (sees.receipt_at before) (sees.receipt_at after)
-
-  -- nothing but the table and the receipt of one period is otherwise
-  abbrev pub KeepsOthers : ℕ → T → T → Type 0
-  KeepsOthers begins before after = IsKeptBeside begins (sees.table_at before) (sees.table_at after) (sees.receipt_at before) (sees.receipt_at after)
 
   -- the table of these files, and exactly these, was made, and is there with its receipt
   pub record IsMade (begins : ℕ) (files : List (String Global)) (fault : Bool) (before after : Desk F M T) : Type 0 where
     pub text : List ℕ
     pub receipt : List ℕ
     pub made : sees.makes.is_table_of before.maker after.maker begins files text receipt fault
-    pub stands : IsPutAt (sees.table_at after.tables begins) (sees.receipt_at after.tables begins) text receipt
-    pub others : KeepsOthers begins before.tables after.tables
+    pub stands : IsPutAt sees.place begins after.tables text receipt
+    pub others : IsKeptBeside sees.place begins before.tables after.tables
     pub as_before : sees.makes.as_before before.maker after.maker
 
   -- it was made, and putting it failed: it is there with its receipt, or what was there before
@@ -84,10 +72,10 @@ module _ {F M T : Type 0} (sees : Views F M T) where
     pub receipt : List ℕ
     pub fault : Bool
     pub made : sees.makes.is_table_of before.maker after.maker begins files text receipt fault
-    pub left : IsPutAt (sees.table_at after.tables begins) (sees.receipt_at after.tables begins) text receipt ⊎ KeepsIts begins before.tables after.tables
-    pub others : KeepsOthers begins before.tables after.tables
+    pub left : IsPutOrKept sees.place begins before.tables after.tables text receipt
+    pub others : IsKeptBeside sees.place begins before.tables after.tables
     pub as_before : sees.makes.as_before before.maker after.maker
-    pub why : sees.not_put after.tables begins reason
+    pub why : sees.place.refuses after.tables begins reason
 
   -- of a period of which the table of these files was due
   abbrev pub IsDueOutcome : ℕ → List (String Global) → Outcome → Desk F M T → Desk F M T → Type 0
@@ -108,7 +96,7 @@ module _ {F M T : Type 0} (sees : Views F M T) where
   IsFinishedOutcome begins (FileGone gone) before after =
       IsUntouched before after × (files : List (String Global)) × (path : Bor (List ℕ)) × (path.now ≡ string_bytes gone) × IsLookedAt begins before after files (table.Gone path)
   IsFinishedOutcome begins (NotRead reason) before after =
-      IsUntouched before after × (sees.not_listed after.folder (Some begins) reason ⊎ sees.not_put after.tables begins reason ⊎ (reason ≡ OutOfMemory))
+      IsUntouched before after × (sees.not_listed after.folder (Some begins) reason ⊎ sees.place.refuses after.tables begins reason ⊎ (reason ≡ OutOfMemory))
   IsFinishedOutcome begins outcome before after =
       (files : List (String Global)) × IsLookedAt begins before after files table.Due × IsDueOutcome begins files outcome before after
 

@@ -1,23 +1,41 @@
 -- The tables and receipts at a place.
-use Rattle.std.specs.Prelude.{◌≡◌, ◌≢◌, ◌↔◌, ◌||◌, ◌++◌, ℕ, Bool, false, List, Option, None, Some, bytes_eq, codes, filter, map, not, string_bytes}
+use Rattle.std.specs.Prelude.{◌≡◌, ◌≢◌, ◌↔◌, ◌⊎◌, ◌||◌, ◌++◌, ℕ, Bool, false, List, Option, None, Some, bytes_eq, codes, filter, map, not, string_bytes}
 use Rattle.std.specs.declared.alloc.Global.{Global}
 use Rattle.std.specs.declared.string.String.{String}
 use Rattle.std.specs.declared.vec.Vec.{Vec}
+use Rattle.report_writing.specs.declared.reason.Reason.{Reason}
 use Rattle.table_receipts.specs.Texts.{receipt_text}
 use Rattle.table_receipts.specs.Values.{InputValue, ReceiptValue}
 
--- the table and the receipt of a period are as they were
-abbrev pub IsKeptAt : ℕ → (ℕ → List ℕ → Type 0) → (ℕ → List ℕ → Type 0) → (ℕ → Option (List ℕ) → Type 0) → (ℕ → Option (List ℕ) → Type 0) → Type 0
-IsKeptAt begins table_was table_is receipt_was receipt_is =
-    ((text : List ℕ) → table_was begins text ↔ table_is begins text) × ((text : Option (List ℕ)) → receipt_was begins text ↔ receipt_is begins text)
+-- what contracts see of a place of tables, by the second at which a period begins
+pub record PlaceView (T : Type 0) : Type 1 where
+  -- whether the table of the period has this text
+  pub text_at : T → ℕ → List ℕ → Type 0
+  -- whether its receipt has this text, or there is none
+  pub receipt_at : T → ℕ → Option (List ℕ) → Type 0
+  -- whether this is the path of the table
+  pub path_at : T → ℕ → List ℕ → Type 0
+  -- whether the place refused what was asked of the period last, for this reason
+  pub refuses : T → ℕ → Reason → Type 0
 
--- those of all other periods are
-abbrev pub IsKeptBeside : ℕ → (ℕ → List ℕ → Type 0) → (ℕ → List ℕ → Type 0) → (ℕ → Option (List ℕ) → Type 0) → (ℕ → Option (List ℕ) → Type 0) → Type 0
-IsKeptBeside begins table_was table_is receipt_was receipt_is = (other : ℕ) → other ≢ begins → IsKeptAt other table_was table_is receipt_was receipt_is
+module _ {T : Type 0} (sees : PlaceView T) where
+  -- a table of this text is there, and its receipt
+  abbrev pub IsPutAt : ℕ → T → List ℕ → List ℕ → Type 0
+  IsPutAt begins place text receipt = sees.text_at place begins text × sees.receipt_at place begins (Some receipt)
 
--- a table of this text is there, and its receipt
-abbrev pub IsPutAt : (List ℕ → Type 0) → (Option (List ℕ) → Type 0) → List ℕ → List ℕ → Type 0
-IsPutAt table receipt text receipt_text = table text × receipt (Some receipt_text)
+  -- the table and the receipt of a period are as they were
+  abbrev pub IsKeptAt : ℕ → T → T → Type 0
+  IsKeptAt begins before after =
+      ((text : List ℕ) → sees.text_at before begins text ↔ sees.text_at after begins text)
+      × ((text : Option (List ℕ)) → sees.receipt_at before begins text ↔ sees.receipt_at after begins text)
+
+  -- those of all other periods are
+  abbrev pub IsKeptBeside : ℕ → T → T → Type 0
+  IsKeptBeside begins before after = (other : ℕ) → other ≢ begins → IsKeptAt other before after
+
+  -- putting them may have failed
+  abbrev pub IsPutOrKept : ℕ → T → T → List ℕ → List ℕ → Type 0
+  IsPutOrKept begins before after text receipt = IsPutAt begins after text receipt ⊎ IsKeptAt begins before after
 
 -- the fault of a session that is not one of its octets: a read failed, or memory ran out
 abbrev pub is_of_the_run : Option (List ℕ) → Bool

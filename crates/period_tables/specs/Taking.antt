@@ -34,15 +34,15 @@ pub record State (F M T P L : Type 0) : Type 0 where
   pub work : Work F M T P L
   pub status : Status
 
--- by what contracts see of a desk, of the paths of tables, and of what paths and lines are written to
-module _ {F M T P L : Type 0} (sees : Views F M T) (path_at : T → ℕ → List ℕ → Type 0) (paths_in : P → Option (List ℕ)) (paths_failed : P → Type 0) (lines_in : L → Option (List ℕ)) (lines_failed : L → Type 0) where
+-- by what contracts see of a desk, and of what paths and lines are written to
+module _ {F M T P L : Type 0} (sees : Views F M T) (paths_in : P → Option (List ℕ)) (paths_failed : P → Type 0) (lines_in : L → Option (List ℕ)) (lines_failed : L → Type 0) where
   -- a period was taken, and its path and lines say what became of its table
   pub record IsTakenAndTold (round : Round) (unfinished : List (String Global)) (begins : ℕ) (took : Took) (before after : Work F M T P L) : Type 0 where
     pub outcome : Outcome
     pub name : List ℕ
     pub path : List ℕ
     pub is_name : IsPeriodName begins name
-    pub is_path : path_at before.desk.tables begins path
+    pub is_path : sees.place.path_at before.desk.tables begins path
     pub taken : IsOutcome sees round.rule round.now unfinished begins outcome before.desk after.desk
     pub paths : AreToldTo paths_in paths_failed before.out after.out (outcome_paths path outcome)
     pub lines : AreToldTo lines_in lines_failed before.err after.err (outcome_lines round.tells_waiting name (label_text round.plan name) outcome)

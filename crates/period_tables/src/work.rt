@@ -80,8 +80,8 @@ pub(crate) fn take_and_tell<
     period: Period,
 ) -> Took
     ensures { TakesOne (views F.listed F.refuses S.seen S.failure O.opens O.sizes
-        O.refuses O.coming E.contents E.failed T.table T.receipt T.refuses)
-        T.path P.contents P.failed L.contents L.failed
+        O.refuses O.coming E.contents E.failed T.seen)
+        P.contents P.failed L.contents L.failed
         round.entry unfinished.now period result work.old work.new }
 {
     let Ok(name) = period_name(round.alloc, period) else {

@@ -228,13 +228,12 @@ impl<'r> TablePlace for PlanTables<'r> {
     ghost use Rattle.std.specs.Prelude.{⊤, string_bytes};
     ghost use Rattle.tables_folder.specs.PlanNames.{IsTablePath};
 
-    ghost table = { λ _ _ _. ⊤ };
-
-    ghost receipt = { λ _ _ _. ⊤ };
-
-    ghost path = { λ tables begins path. IsTablePath tables.of (string_bytes tables.path) tables.ending.now begins path };
-
-    ghost refuses = { λ _ _ _. ⊤ };
+    ghost seen = { record {
+      text_at = λ _ _ _. ⊤;
+      receipt_at = λ _ _ _. ⊤;
+      path_at = λ tables begins path. IsTablePath tables.of (string_bytes tables.path) tables.ending.now begins path;
+      refuses = λ _ _ _. ⊤;
+    } };
 
     fn table_path(&self, period: Period) -> Result<String, AllocError> {
         table_path(self.rt.alloc(), &self.path, self.of, period, self.ending)

@@ -3,7 +3,6 @@
 ghost use Rattle.std.specs.Prelude.{◌≡◌, ◌≢◌, ◌++◌, ℕ, List, Some, IfErr, IfOk, MatchOption, codes};
 ghost use Rattle.exporter_names.specs.Cuts.{HasNo, joined};
 ghost use Rattle.exporter_names.specs.RecordedExporters.{slash};
-ghost use Rattle.command_tables.specs.Outcomes.{text_views};
 ghost use Rattle.command_tables.specs.TextsByName.{NamesNone, NamesPeriod, RefusesNamed};
 
 use input_files::ReadText;
@@ -20,13 +19,12 @@ pub struct ByName<'t, T> {
 }
 
 impl<'t, T: TablePlace> ReadText for ByName<'t, T> {
-    ghost use Rattle.command_tables.specs.Outcomes.{text_views};
     ghost use Rattle.command_tables.specs.TextsByName.{HasText, RefusesText};
 
-    ghost has = { λ texts path text. HasText (text_views T.table T.receipt T.refuses) texts.tables.now path text };
+    ghost has = { λ texts path text. HasText T.seen texts.tables.now path text };
 
     ghost refuses = { λ texts path reason.
-        RefusesText (text_views T.table T.receipt T.refuses) texts.tables.now path reason };
+        RefusesText T.seen texts.tables.now path reason };
 
     fn read_text(&self, _alloc: Global, path: &str) -> Result<Vec<u8>, Reason> {
         match receipt_of(path) {
@@ -46,9 +44,9 @@ fn receipt_of(path: &str) -> Option<&str>
 
 // The text of the receipt of the period of this name.
 fn read_receipt<T: TablePlace>(tables: &T, name: &str) -> Result<Vec<u8>, Reason>
-    ensures text { IfOk result (λ text. (begins : ℕ) × NamesPeriod begins name.now × T.receipt tables.now begins (Some text.items)) }
+    ensures text { IfOk result (λ text. (begins : ℕ) × NamesPeriod begins name.now × T.seen.receipt_at tables.now begins (Some text.items)) }
     ensures refused { IfErr result
-        (RefusesNamed (text_views T.table T.receipt T.refuses) tables.now name.now) }
+        (RefusesNamed T.seen tables.now name.now) }
 {
     let Some(period) = period_named(name) else {
         return Err(Reason::NoSuchFile);
@@ -62,9 +60,9 @@ fn read_receipt<T: TablePlace>(tables: &T, name: &str) -> Result<Vec<u8>, Reason
 
 // The text of its table.
 fn read_table<T: TablePlace>(tables: &T, name: &str) -> Result<Vec<u8>, Reason>
-    ensures text { IfOk result (λ text. (begins : ℕ) × NamesPeriod begins name.now × T.table tables.now begins text.items) }
+    ensures text { IfOk result (λ text. (begins : ℕ) × NamesPeriod begins name.now × T.seen.text_at tables.now begins text.items) }
     ensures refused { IfErr result
-        (RefusesNamed (text_views T.table T.receipt T.refuses) tables.now name.now) }
+        (RefusesNamed T.seen tables.now name.now) }
 {
     let Some(period) = period_named(name) else {
         return Err(Reason::NoSuchFile);

@@ -1,6 +1,5 @@
 //! Taking the table of a day in a round, and writing what became of it.
 
-ghost use Rattle.command_tables.specs.Outcomes.{text_views};
 ghost use Rattle.command_tables.specs.TakingDays.{TakesDay, TakesDayText, TakesOneDay};
 
 use super::calendar::{Calendar, day_of};
@@ -40,9 +39,9 @@ pub fn take_day_of<F, M, T: TablePlace + Drop, P: WriteLines, L: WriteLines>(
     placed: &[PlacedPeriod],
     day: Period,
 ) -> Status
-    ensures { TakesDay (text_views T.table T.receipt T.refuses)
+    ensures { TakesDay T.seen
         ⟦<FromReader<&'static [u8]> as Source>⟧.seen
-        T.path P.contents P.failed L.contents L.failed
+        P.contents P.failed L.contents L.failed
         round.entry placed.now day.begins result work.old work.new made.old made.new }
 {
     let hour_ago = day_of(&made.calendar, round.now.saturating_sub(PAUSE));
@@ -63,9 +62,9 @@ fn take_and_tell<F, M, T: TablePlace + Drop, P: WriteLines, L: WriteLines>(
     periods: &[Period],
     day: Period,
 ) -> Status
-    ensures { TakesOneDay (text_views T.table T.receipt T.refuses)
+    ensures { TakesOneDay T.seen
         ⟦<FromReader<&'static [u8]> as Source>⟧.seen
-        T.path P.contents P.failed L.contents L.failed
+        P.contents P.failed L.contents L.failed
         periods.now day.begins result work.old work.new made.old made.new }
 {
     let Ok(path) = made.place.table_path(day) else {
@@ -94,9 +93,9 @@ pub fn take_day_text<F, M, T: TablePlace, P: WriteLines, L: WriteLines>(
     round: Round,
     day: Period,
 ) -> Status
-    ensures { TakesDayText (text_views T.table T.receipt T.refuses)
+    ensures { TakesDayText T.seen
         ⟦<FromReader<&'static [u8]> as Source>⟧.seen
-        T.path P.contents P.failed L.contents L.failed
+        P.contents P.failed L.contents L.failed
         day.begins result work.old work.new made.now texts.old texts.new }
 {
     let Ok(table) = made.place.table_path(day) else {

@@ -4,7 +4,7 @@
 ghost use Rattle.std.specs.Prelude.{◌≡◌, IfErr, IfOk};
 ghost use Rattle.flow_merge.specs.RowRecords.{CanTakeRows};
 ghost use Rattle.report_writing.specs.Told.{AreToldTo};
-ghost use Rattle.command_tables.specs.Merged.{EndsWith, EndsWithout, IsMergeOf, IsNotMerged, IsRun, parts_job, text_kept};
+ghost use Rattle.command_tables.specs.Merged.{EndsWith, EndsWithout, IsMergeOf, IsNotMerged, IsRun, merged_value, parts_job, text_kept};
 
 use super::day_job::DayJob;
 use command_merge::MergeJob;
@@ -43,7 +43,7 @@ pub(crate) fn merge_of<X: ReadText, E: WriteLines>(
 ) -> Result<MergedTable, Status>
     ensures merged { IfOk result (λ made. IsMergeOf ⟦<FromReader<&'static [u8]> as Source>⟧.seen
         (X.has texts.now) (X.refuses texts.now) job.now parts.entry (AreToldTo E.contents E.failed err.old err.new)
-        made.text.items made.receipt.items made.had_fault) }
+        (merged_value made)) }
     ensures err { IfErr result (IsNotMerged ⟦<FromReader<&'static [u8]> as Source>⟧.seen
         (X.has texts.now) (X.refuses texts.now) job.now parts.entry (AreToldTo E.contents E.failed err.old err.new)) }
 {
@@ -92,8 +92,7 @@ fn job_of<'a>(job: &DayJob<'a>, parts: &'a [PartFiles<'a>]) -> PartsJob<'a>
 
 // The table of a run, if it ended with one.
 fn merged_table(ended: MergedEnd<Vec<u8>, KeptReceipt>) -> Result<MergedTable, Status>
-    ensures merged { IfOk result (λ made.
-        EndsWith ended made.text.items made.receipt.items made.had_fault) }
+    ensures merged { IfOk result (λ made. EndsWith ended (merged_value made)) }
     ensures err { IfErr result (EndsWithout ended) }
 {
     let MergedEnd { status, to } = ended;

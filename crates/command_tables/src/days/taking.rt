@@ -2,7 +2,6 @@
 
 ghost use Rattle.std.specs.Prelude.{IfErr, IfOk};
 ghost use Rattle.report_writing.specs.Told.{AreToldTo};
-ghost use Rattle.command_tables.specs.Outcomes.{text_views};
 ghost use Rattle.command_tables.specs.DayOutcomes.{IsDayOutcome, IsDueOutcome, IsNotSettled, IsPartsOutcome, StandsAs};
 
 use super::by_name::ByName;
@@ -30,7 +29,7 @@ pub fn take_day<T: TablePlace + Drop, E: WriteLines>(
     periods: &[Period],
     err: &mut E,
 ) -> Outcome
-    ensures { IsDayOutcome (text_views T.table T.receipt T.refuses)
+    ensures { IsDayOutcome T.seen
         ⟦<FromReader<&'static [u8]> as Source>⟧.seen E.contents E.failed
         job.now periods.now day.begins result tables.now days.old days.new err.old err.new }
 {
@@ -54,7 +53,7 @@ fn take_parts<T: TablePlace + Drop, E: WriteLines>(
     parts: &[PartFiles],
     err: &mut E,
 ) -> Outcome
-    ensures { IsPartsOutcome (text_views T.table T.receipt T.refuses)
+    ensures { IsPartsOutcome T.seen
         ⟦<FromReader<&'static [u8]> as Source>⟧.seen E.contents E.failed
         job.now parts.entry day.begins result texts.now.tables.now days.old days.new err.old err.new }
 {
@@ -75,10 +74,10 @@ fn standing_of<T: TablePlace + Drop>(
     day: Period,
     parts: &[PartFiles],
 ) -> Result<Standing, Reason>
-    ensures ok { IfOk result (StandsAs (text_views T.table T.receipt T.refuses) job.now parts.entry
+    ensures ok { IfOk result (StandsAs T.seen job.now parts.entry
         day.begins texts.now.tables.now days.now) }
     ensures reason { IfErr result
-        (IsNotSettled (text_views T.table T.receipt T.refuses) day.begins days.now) }
+        (IsNotSettled T.seen day.begins days.now) }
 {
     match days.standing_receipt(day)? {
         Some(own) => stands_for(texts, alloc, &job.text.at_hand, parts, &own),
@@ -96,7 +95,7 @@ fn make_due<T: TablePlace + Drop, E: WriteLines>(
     parts: &[PartFiles],
     err: &mut E,
 ) -> Outcome
-    ensures { IsDueOutcome (text_views T.table T.receipt T.refuses)
+    ensures { IsDueOutcome T.seen
         ⟦<FromReader<&'static [u8]> as Source>⟧.seen
         job.now parts.entry day.begins (AreToldTo E.contents E.failed err.old err.new)
         result texts.now.tables.now days.old days.new }

@@ -1,7 +1,6 @@
 //! Taking the text of a period in a round.
 
 ghost use Rattle.std.specs.Prelude.{◌≡◌};
-ghost use Rattle.command_tables.specs.Outcomes.{text_views};
 ghost use Rattle.command_tables.specs.Taking.{TakesOneText, TakesText};
 
 use super::job::TextJob;
@@ -27,9 +26,9 @@ pub fn take_text_of<F, M, T: TablePlace, P: WriteLines, L: WriteLines>(
     round: Round,
     period: Period,
 ) -> Status
-    ensures { TakesText (text_views T.table T.receipt T.refuses)
+    ensures { TakesText T.seen
         ⟦<FromReader<&'static [u8]> as Source>⟧.seen
-        T.path P.contents P.failed L.contents L.failed
+        P.contents P.failed L.contents L.failed
         job.now round.entry period result work.old work.new texts.old texts.new }
 {
     if !work.rounds.has_settled(period) || texts.rounds.has_settled(period) {
@@ -48,9 +47,9 @@ fn take_and_tell<F, M, T: TablePlace, P: WriteLines, L: WriteLines>(
     round: Round,
     period: Period,
 ) -> Status
-    ensures { TakesOneText (text_views T.table T.receipt T.refuses)
+    ensures { TakesOneText T.seen
         ⟦<FromReader<&'static [u8]> as Source>⟧.seen
-        T.path P.contents P.failed L.contents L.failed
+        P.contents P.failed L.contents L.failed
         job.now round.entry period.begins result work.old work.new texts.old texts.new }
 {
     let Ok(name) = period_name(round.alloc, period) else {

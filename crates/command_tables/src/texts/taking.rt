@@ -3,7 +3,7 @@
 ghost use Rattle.std.specs.Prelude.{◌≡◌, IfErr, IfOk, MatchBool, Some, None, MatchOption};
 ghost use Rattle.table_receipts.specs.Texts.{receipt_text};
 ghost use Rattle.table_receipts.specs.Values.{receipt_value};
-ghost use Rattle.command_tables.specs.Outcomes.{IsDueOutcome, IsMadeOf, IsNotMadeOf, IsNotSettled, IsTextOutcome, StandsFor, StandsNot, text_views};
+ghost use Rattle.command_tables.specs.Outcomes.{IsDueOutcome, IsMadeOf, IsNotMadeOf, IsNotSettled, IsTextOutcome, StandsFor, StandsNot};
 
 use super::fault::TextFault;
 use super::job::TextJob;
@@ -40,7 +40,7 @@ pub fn take_text<T: TablePlace>(
     texts: &mut T,
     period: Period,
 ) -> TextOutcome
-    ensures { IsTextOutcome (text_views T.table T.receipt T.refuses)
+    ensures { IsTextOutcome T.seen
         ⟦<FromReader<&'static [u8]> as Source>⟧.seen
         job.now period.begins result tables.now texts.old texts.new }
 {
@@ -64,10 +64,10 @@ fn is_up_to_date<T: TablePlace>(
     period: Period,
 ) -> Result<bool, Reason>
     ensures ok { IfOk result (λ is. MatchBool is
-        (StandsFor (text_views T.table T.receipt T.refuses) own.now period.begins texts.now)
-        (StandsNot (text_views T.table T.receipt T.refuses) own.now period.begins texts.now)) }
+        (StandsFor T.seen own.now period.begins texts.now)
+        (StandsNot T.seen own.now period.begins texts.now)) }
     ensures reason { IfErr result
-        (IsNotSettled (text_views T.table T.receipt T.refuses) own.now period.begins texts.now) }
+        (IsNotSettled T.seen own.now period.begins texts.now) }
 {
     match texts.standing_receipt(period)? {
         Some(text) => says_the_same(alloc, own, &text),
@@ -84,7 +84,7 @@ fn make_due<T: TablePlace>(
     texts: &mut T,
     period: Period,
 ) -> TextOutcome
-    ensures { IsDueOutcome (text_views T.table T.receipt T.refuses)
+    ensures { IsDueOutcome T.seen
         ⟦<FromReader<&'static [u8]> as Source>⟧.seen
         job.now own.now period.begins result tables.now texts.old texts.new }
 {
@@ -106,9 +106,9 @@ fn make_of<T: TablePlace>(
     tables: &T,
     period: Period,
 ) -> Result<MadeText, TextFault>
-    ensures ok { IfOk result (λ made. IsMadeOf (text_views T.table T.receipt T.refuses)
+    ensures ok { IfOk result (λ made. IsMadeOf T.seen
         job.now own.now period.begins tables.now made.text.items made.receipt.items) }
-    ensures fault { IfErr result (IsNotMadeOf (text_views T.table T.receipt T.refuses)
+    ensures fault { IfErr result (IsNotMadeOf T.seen
         ⟦<FromReader<&'static [u8]> as Source>⟧.seen job.now own.now period.begins tables.now) }
 {
     let receipt = match receipt_in(alloc, own) {

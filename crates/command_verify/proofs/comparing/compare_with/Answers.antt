@@ -1,8 +1,7 @@
 use Rattle.std.proofs.Common.{◌≡◌, ◌∙◌, ℕ, List, inl, inr, subst, sym}
 use Rattle.std.specs.Prelude.{◌==◌, false, true}
 use Rattle.report_writing.specs.Told.{AreToldTo}
-use Rattle.table_receipts.specs.Values.{receipt_value}
-use Rattle.command_verify.specs.Again.{ComparesAlone}
+use Rattle.command_verify.specs.Again.{ComparesAlone, there_value}
 use Rattle.command_verify.proofs.Empty.{empty_of, filled_of}
 use Rattle.command_verify.proofs.comparing.compare_with.Goals as goal
 
@@ -12,8 +11,7 @@ returns-in_default-clause-compares g c = inr (inl (c.tell_fault.ensures.status, 
 pub returns-then-not-is_empty-clause-compares : goal.returns-then-not-is_empty-clause-compares
 returns-then-not-is_empty-clause-compares g c =
     let told = AreToldTo g.E.WriteLines.contents g.E.WriteLines.failed c.args.err.now c.compare_alone.new.err in
-    let said = receipt_value c.args.there.now.receipt.now in
-    let compares = subst (λ (l : List ℕ). ComparesAlone said c.args.there.now.table.now c.compare_alone.result l told) (c.deref.ensures.value ∙ c.in-Ok.ensures) c.compare_alone.ensures.compares in
+    let compares = subst (λ (l : List ℕ). ComparesAlone (there_value c.args.there.now) c.compare_alone.result l told) (c.deref.ensures.value ∙ c.in-Ok.ensures) c.compare_alone.ensures.compares in
     let filled = filled_of c.in-Ok.others.items (subst (λ (n : ℕ). (n == 0) ≡ false) c.in-Ok.others.ok.0 (sym c.is_empty.ensures ∙ c.if-not-is_empty.true)) in
     inl (λ none. filled (c.in-Ok.ensures ∙ none), compares)
 

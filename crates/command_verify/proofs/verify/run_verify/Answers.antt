@@ -13,6 +13,6 @@ returns-clause-verifies g c =
       has = subst (λ (t : List ℕ). g.T.ReadText.has c.args.texts.now c.args.job.now.receipt.now t) (sym (c.in-Ok-receipt_in.ensures.ok ∙ c.deref.ensures.value)) c.in-Ok.ensures.text;
       table = c.in-Ok-read_text.table.items;
       has_table = c.in-Ok-read_text.ensures.text;
-      compares = subst (λ (octets : List ℕ). ComparesFiles g.S.Source.seen c.args.job.now said octets c.compare_files.result g.O.OpenSource.opens g.O.OpenSource.sizes g.O.OpenSource.refuses g.O.OpenSource.coming
+      compares = subst (λ (octets : List ℕ). ComparesFiles g.S.Source.seen c.args.job.now (record { said = said; table = octets }) c.compare_files.result g.O.OpenSource.opens g.O.OpenSource.sizes g.O.OpenSource.refuses g.O.OpenSource.coming
           c.args.files.now c.compare_files.new.files told (g.T.ReadText.has c.args.texts.now) (g.T.ReadText.refuses c.args.texts.now) c.args.elements) c.deref-2.ensures.value c.compare_files.ensures.compares;
     })))
