@@ -2,12 +2,13 @@
 
 ghost use Rattle.std.specs.Prelude.{◌≡◌};
 ghost use Rattle.std.specs.Option.{option_map};
+ghost use Rattle.command_collect.specs.Large.{noted_counters};
 ghost use Rattle.flow_plan_fields.specs.FilteredPlans.{filter_of};
 ghost use Rattle.flow_times.specs.Noted.{noted_under};
 ghost use Rattle.flow_plan_fields.specs.Wants.{refuses_sampled as is_refusing, wanted_context as context_wanted, wanted_options as options_wanted};
 
 use crate::arguments::TableArguments;
-use command_collect::{CollectJob, Engine};
+use command_collect::{CollectJob, Engine, noted_counters};
 use flow_maps::Maps;
 use flow_plan_fields::{refuses_sampled, wanted_context, wanted_options};
 use flow_times::TimeNoting;
@@ -38,6 +39,9 @@ pub fn collect_job<'a>(
     // Of times it tells what is to be told under the plan, which is more if it is verbose.
     ensures times { result.times ≡ noted_under loaded.now.read.plan.choices.times
         table.now.verbosity.verbose }
+    // Of the plan's counters it is noted whether one is above 2^63, if it is verbose.
+    ensures great { option_map (λ c. c.now) result.great_counters ≡
+        noted_counters table.now.verbosity loaded.now.read.plan }
     ensures exporters { result.exporters.now ≡ exporters.now }
     // The rest is as the command is given.
     ensures engine { result.engine ≡ engine }
@@ -57,6 +61,7 @@ pub fn collect_job<'a>(
         estimates: loaded.estimates.as_ref(),
         refuses_sampled: refuses_sampled(&loaded.read),
         times: TimeNoting::under(loaded.read.plan.choices().times, table.verbosity.verbose),
+        great_counters: noted_counters(table.verbosity, &loaded.read.plan),
         templates,
         filter: loaded.read.conditions(),
         exporters,

@@ -1,5 +1,5 @@
 -- How a command ended that collects, by how its sources were had and run.
-use Rattle.std.proofs.Common.{◌≡◌, ℕ, List, [], ◌++◌, All, Option, inl, inr, length, subst}
+use Rattle.std.proofs.Common.{◌≡◌, ℕ, List, [], ◌++◌, All, Option, inl, inr, length, refl, subst}
 use Rattle.std.specs.Prelude.{is_some}
 use Rattle.std.proofs.lemmas.Option.{IfSome_then}
 use Rattle.std.specs.declared.io.ErrorKind.{ErrorKind}
@@ -8,16 +8,19 @@ use Rattle.ipfix_session.specs.Sources.{SourceView}
 use Rattle.report_writing.specs.declared.origin.Origin.{Origin}
 use Rattle.report_writing.proofs.Ended.{never_two, one_of_four}
 use Rattle.flow_collect.specs.InFull.{fulls_in}
+use Rattle.flow_collect.specs.declared.failure.CollectFailure.{CollectFailure}
 use Rattle.input_sources.specs.Had.{IsUnread}
 use Rattle.input_sources.specs.InputsTold.{opened_lines}
 use Rattle.output_tables.proofs.BuiltIn.{written_built_in}
 use Rattle.command_collect.specs.Collects.{Collects, CollectsJob, CollectsPlainly}
+use Rattle.command_collect.specs.CollectLines.{collect_fault_line}
 use Rattle.command_collect.specs.Engines.{due_fault}
 use Rattle.command_collect.specs.Exporters.{in_context}
 use Rattle.command_collect.specs.Gathered.{all_filtered, samplings_in, times_of_each}
+use Rattle.command_collect.specs.Large.{failure_lines}
 use Rattle.command_collect.specs.Runs.{RunsJob, RunsPlainly}
 use Rattle.command_collect.specs.declared.job.CollectJob.{CollectJob}
-use Rattle.command_collect.proofs.LinesTold.{behind_nothing, fault_told, is_strict, plain_lines}
+use Rattle.command_collect.proofs.LinesTold.{behind_nothing, fault_told, is_strict, plain_failure, plain_lines}
 use Rattle.command_collect.proofs.Ran.{IsPlainJob, ends_so, fault_plain, not_exported_short, plainly_given, table_short}
 
 -- no source was had
@@ -33,7 +36,7 @@ module _ {S W : Type 0} (seen : S → SourceView) (failure : S → Option ErrorK
       record {
         statuses = r.statuses;
         table = λ ran. ends_so seen job.verbosity.strict (is_some job.estimates) job.plan.now job.engine status _ _ (in_context job sources origins) (λ c ends. (ends.0, record { ended = ends.1.ended; are_ended = ends.1.are_ended; told = otherwise _ ends.1.told })) (r.table ran);
-        failed = λ three. fault_told (new ≡ old) _ _ _ _ Told AreTold (λ fault is. is) (λ fault is. is) otherwise (r.failed three);
+        failed = λ three. fault_told (new ≡ old) _ _ _ (failure_lines job.verbosity job.plan.now origins) _ _ Told AreTold (λ failure. failure) (λ failure is. is) (λ failure. refl) (λ fault is. is) otherwise (r.failed three);
         refused = IfSome_then (due_fault job.engine (length sources)) r.refused (λ fault refused. (refused.0, refused.1, otherwise _ refused.2));
       }
 
@@ -49,7 +52,9 @@ module _ {S W : Type 0} (seen : S → SourceView) (failure : S → Option ErrorK
             table_short seen job.verbosity.strict (is_some job.estimates) job.plan.now job.engine status given sources plainly _ _ (is_strict job plain.quiet)
             (λ c ends. (written_built_in job.elements.now job.plan.now job.output _ _ c.table plain.no_files ends.0, subst AreTold (plain_lines job plain.quiet plain.all plain.no_times origins (fulls_in c.sessions.items) (samplings_in c.sessions.items) (times_of_each c.sessions.items) c.table (capped (all_filtered c.sessions.items)) ends.1.ended ends.1.are_ended.reports) ends.1.told)) (r.table ran);
         failed = λ three.
-            fault_told (new ≡ old) _ _ _ _ AreTold AreTold (fault_plain seen job.verbosity.strict (is_some job.estimates) job.plan.now job.engine status given sources plainly (length sources))
+            fault_told (new ≡ old) _ _ _ collect_fault_line _ _ AreTold AreTold (λ (failure : CollectFailure). failure.fault)
+            (λ failure is. fault_plain seen job.verbosity.strict (is_some job.estimates) job.plan.now job.engine status given sources plainly (length sources) failure.fault is.fault_is)
+            (plain_failure job plain.quiet job.plan.now origins)
             (not_exported_short seen job.verbosity.strict (is_some job.estimates) job.plan.now job.engine status given sources plainly job.output (new ≡ old)) (λ lines told. told) (r.failed three);
         refused = r.refused;
       }

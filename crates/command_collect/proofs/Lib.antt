@@ -13,3 +13,5 @@ pub mod Lists
 pub mod Refusals
 pub mod Complete
 pub mod Hindered
+pub mod LargeLines
+pub mod CellTexts

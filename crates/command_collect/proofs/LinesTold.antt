@@ -1,5 +1,5 @@
 -- Lines that were told one after another.
-use Rattle.std.proofs.Common.{◌≡◌, ℕ, ◌+◌, List, [], ◌∷◌, ◌++◌, map, Option, None, Result, Ok, Err, refl, ap, ap₂, ◌∙◌, subst, inl, inr, append-nil, false}
+use Rattle.std.proofs.Common.{◌≡◌, ℕ, ◌+◌, List, [], ◌∷◌, ◌++◌, map, Option, None, Result, Ok, Err, refl, ap, ap₂, ◌∙◌, subst, sym, inl, inr, append-nil, false}
 use Rattle.std.specs.Prelude.{OnOk, OnErr}
 use Rattle.std.specs.List.{flat_map, enumerate_from}
 use Rattle.std.specs.Io.KnownBytes.{Appends}
@@ -7,8 +7,9 @@ use Rattle.std.specs.declared.net.socket_addr.SocketAddr.{SocketAddr}
 use Rattle.std.proofs.KnownBytes.{Appends-trans}
 use Rattle.ipfix_session.specs.declared.report.FullReport.{FullReport}
 use Rattle.flow_collect.specs.InFull.{reports_in}
-use Rattle.flow_collect.specs.declared.fault.CollectFault.{CollectFault}
+use Rattle.flow_collect.specs.declared.failure.CollectFailure.{CollectFailure}
 use Rattle.flow_export.specs.declared.fault.ExportFault.{ExportFault}
+use Rattle.flow_table.specs.Plans.{PlanValue}
 use Rattle.flow_table.specs.declared.missing.Missing.{Missing}
 use Rattle.flow_table.specs.declared.table.Table.{Table}
 use Rattle.flow_table.specs.declared.tally.Tally.{Tally}
@@ -29,15 +30,17 @@ use Rattle.report_writing.specs.declared.verbosity.TheConstants.{NOTHING_MORE}
 use Rattle.report_writing.proofs.LinesTold.{both_told, told_then}
 use Rattle.report_sessions.proofs.Untold.{told_plain}
 use Rattle.input_sources.specs.InputsTold.{opened_lines, StopsAt, TellsPeers}
+use Rattle.command_collect.specs.CollectLines.{collect_fault_line}
+use Rattle.command_collect.specs.Large.{failure_lines, row_lines, session_lines}
 use Rattle.command_collect.specs.Told.{if_filtered, run_lines, table_told, TellsFault}
 use Rattle.command_collect.specs.declared.job.CollectJob.{CollectJob}
 
 -- the fault of a run that failed, said otherwise
-module _ (IsUntouched : Type 0) (IsCollect AsCollect : CollectFault → Type 0) (IsExport AsExport : ExportFault → Type 0) (Told AreTold : List ℕ → Type 0) where
-  pub fault_told : ((fault : CollectFault) → IsCollect fault → AsCollect fault) → ((fault : ExportFault) → IsExport fault → AsExport fault) → ((line : List ℕ) → Told line → AreTold line)
-      → TellsFault IsUntouched IsCollect IsExport Told → TellsFault IsUntouched AsCollect AsExport AreTold
-  fault_told collect export otherwise (inl f) = inl (f.0, collect f.0 f.1, f.2, otherwise _ f.3)
-  fault_told collect export otherwise (inr f) = inr (f.0, export f.0 f.1, otherwise _ f.2)
+module _ {F G : Type 0} (IsUntouched : Type 0) (IsCollect : F → Type 0) (AsCollect : G → Type 0) (lines_of : F → List ℕ) (as_lines : G → List ℕ) (IsExport AsExport : ExportFault → Type 0) (Told AreTold : List ℕ → Type 0) where
+  pub fault_told : (turned : F → G) → ((fault : F) → IsCollect fault → AsCollect (turned fault)) → ((fault : F) → as_lines (turned fault) ≡ lines_of fault) → ((fault : ExportFault) → IsExport fault → AsExport fault)
+      → ((line : List ℕ) → Told line → AreTold line) → TellsFault IsUntouched IsCollect lines_of IsExport Told → TellsFault IsUntouched AsCollect as_lines AsExport AreTold
+  fault_told turned collect lines export otherwise (inl f) = inl (turned f.0, collect f.0 f.1, f.2, subst AreTold (sym (lines f.0)) (otherwise _ f.3))
+  fault_told turned collect lines export otherwise (inr f) = inr (f.0, export f.0 f.1, otherwise _ f.2)
 
 -- a write, after one that is Ok, of which these are the lines
 on_ok : {T E : Type 0} (answer : Result T E) (old mid new : Option (List ℕ)) (xs ys : List ℕ) → Appends old mid xs → OnOk answer (Appends mid new ys) → OnOk answer (Appends old new (xs ++ ys))
@@ -88,6 +91,11 @@ module _ (job : CollectJob) (plain : job.verbosity ≡ NOTHING_MORE) where
       let untold : times_told job.times origins times ≡ [] = rw no_times refl in
       let counts = ap₂ (λ (l m : List ℕ). l ++ m) nothing (ap₂ (λ (l m : List ℕ). l ++ m) untold (plain_table all table filtered)) in
       ap₂ (λ (l m : List ℕ). l ++ m) (told_plain job.verbosity is_verbose is_strict job.elements.now origins ended fulls are) counts
+
+  -- and of a fault only its line
+  pub plain_failure : (plan : PlanValue) (origins : List Origin) (failure : CollectFailure) → collect_fault_line failure.fault ≡ failure_lines job.verbosity plan origins failure
+  plain_failure plan origins failure =
+      sym (ap (λ (l : List ℕ). collect_fault_line failure.fault ++ l) (not_verbose (row_lines plan failure.row ++ session_lines origins failure.session)) ∙ append-nil _)
 
   -- what follows nothing
   pub behind_nothing : (first : List ℕ) → first ≡ [] → (origins : List Origin) (lines : List ℕ) → first ++ (opened_lines job.verbosity origins ++ lines) ≡ lines

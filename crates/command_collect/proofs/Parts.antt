@@ -15,6 +15,7 @@ use Rattle.flow_table.specs.Plans.{PlanValue}
 use Rattle.flow_table.specs.declared.table.Table.{Table}
 use Rattle.flow_table.specs.Tables.{IsTooLarge}
 use Rattle.flow_collect.specs.Contexts.{counted_in, records_in_context, sources_of}
+use Rattle.flow_collect.specs.Failures.{TellsLarge}
 use Rattle.flow_collect.specs.Headline.{all_of}
 use Rattle.flow_collect.specs.InFull.{FullSerialAnswer, IsGivenInContext}
 use Rattle.flow_collect.specs.Places.{Each4}
@@ -22,6 +23,7 @@ use Rattle.flow_collect.specs.Rated.{have_large, is_large, refuse_sampled, sampl
 use Rattle.flow_collect.specs.Refusals.{AreTooLargeInContext, IsRefused}
 use Rattle.flow_collect.specs.Texts.{AreTexts}
 use Rattle.flow_collect.specs.declared.collected.FilteredReport.{FilteredReport}
+use Rattle.flow_collect.specs.declared.failure.CollectFailure.{CollectFailure}
 use Rattle.flow_collect.specs.declared.fault.CollectFault.TheVariants.{Sampled}
 use Rattle.flow_collect.specs.declared.session_context.InContext.{InContext}
 use Rattle.command_collect.specs.Engines.{CollectsBy}
@@ -75,6 +77,7 @@ module _ {H S : Type 0} (part : H → S) (seen : S → SourceView) where
         filtered_is = g.filtered_is;
         sampling_is = g.sampling_is;
         times_is = g.times_is;
+        great_is = g.great_is;
       }
 
   given_parts : (job : CollectJob) (befores : List H) (told : List (Option IpAddr)) (origins : List Origin) (afters : List H) (fulls : List FilteredReport) (records : List (List DataRecord))
@@ -127,7 +130,7 @@ module _ {H S : Type 0} (part : H → S) (seen : S → SourceView) where
   -- those of the first text
   abbrev first_records : CollectJob → H → List (Option IpAddr) → List Origin → List ℕ → List DataRecord
   first_records job h told origins x =
-      counted_in (record { source = h; context = record { exporter = exporter_of (first_told told) (first_origin origins); wanted = job.wanted; options = asked_of job; maps = job.maps; estimates = job.estimates; refuses_sampled = job.refuses_sampled; times = job.times; templates = job.templates }; filter = job.filter }) (records_within job.templates x)
+      counted_in (record { source = h; context = record { exporter = exporter_of (first_told told) (first_origin origins); wanted = job.wanted; options = asked_of job; maps = job.maps; estimates = job.estimates; refuses_sampled = job.refuses_sampled; times = job.times; great_counters = job.great_counters; templates = job.templates }; filter = job.filter }) (records_within job.templates x)
 
   records_same : (job : CollectJob) (wholes : List H) (told : List (Option IpAddr)) (origins : List Origin) (texts : List (List ℕ))
       → records_in_context (in_places job wholes told origins) texts ≡ records_in_context (in_places job (map part wholes) told origins) texts
@@ -169,4 +172,23 @@ module _ {H S : Type 0} (part : H → S) (seen : S → SourceView) where
         records = r.records;
         given = given_parts job wholes told origins r.afters r.reports r.records r.given;
         is = subst (λ (refuses : Bool). sampling_fault refuses r.reports ≡ Some Sampled) (refuse_same job wholes told origins) r.is;
+      })
+
+  -- and what they name where a sum is too large
+  pub names_parts : (job : CollectJob) (plan : PlanValue) (wholes : List H) (sources : List S) (origins : List Origin) (failure : CollectFailure) → map part wholes ≡ sources
+      → TellsLarge (λ h. seen (part h)) plan (in_context job wholes origins) failure → TellsLarge seen plan (in_context job sources origins) failure
+  names_parts job plan wholes sources origins failure same names =
+      let told = job.exporters.now in
+      subst (λ (l : List S). TellsLarge seen plan (in_context job l origins) failure) same (record {
+        large = λ is.
+            let of = names.large is in
+            record {
+              afters = map part of.afters;
+              reports = of.reports;
+              records = of.records;
+              given = given_parts job wholes told origins of.afters of.reports of.records of.given;
+              row_is = of.row_is;
+              session_is = of.session_is;
+            };
+        others = names.others;
       })

@@ -1,7 +1,15 @@
 -- Arguments and engines that have a fault.
-use Rattle.std.proofs.Common.{◌≡◌, ℕ, Bool, true, false, List, Option, Some, None, Result, Ok, Err, refl, sym, ap, ◌∙◌, subst}
+use Rattle.std.proofs.Common.{◌≡◌, ℕ, Bool, true, false, List, [], ◌++◌, append-nil, Option, Some, None, Result, Ok, Err, refl, sym, ap, ◌∙◌, subst}
 use Rattle.std.proofs.lemmas.Option.{IfSome_then}
 use Rattle.std.specs.Prelude.{◌||◌, is_some, if◌then◌else◌, ◌==◌, nat_lt, IfSome, IfNone}
+use Rattle.flow_collect.specs.Failures.{TellsLarge, only_fault}
+use Rattle.flow_collect.specs.declared.failure.CollectFailure.{CollectFailure}
+use Rattle.flow_collect.proofs.Failures.{tells_fault}
+use Rattle.report_writing.specs.OpeningLines.{if_verbose}
+use Rattle.report_writing.specs.declared.origin.Origin.{Origin}
+use Rattle.report_writing.specs.declared.verbosity.Verbosity.{Verbosity}
+use Rattle.command_collect.specs.CollectLines.{collect_fault_line}
+use Rattle.command_collect.specs.Large.{failure_lines, large_lines}
 use Rattle.flow_collect.specs.Refusals.{HasFaultsOrSampled, IsLateInContext}
 use Rattle.ipfix_session.specs.Sources.{SourceView}
 use Rattle.flow_table.specs.Plans.{PlanValue}
@@ -67,10 +75,6 @@ job_fault {X = X} n count TooLarge AreSampled engine fault same has =
       too_large = λ is. has.too_large (ap Err is);
       sampled = λ is. has.sampled (ap Err is);
     }
-
--- it is theirs, if the arguments have one
-pub refusal_told : (due : Option CollectFault) (fault : CollectFault) (Status Untouched : Type 0) (Told : CollectFault → Type 0) → IfSome due (λ x. fault ≡ x) → Status → Untouched → Told fault → IfSome due (λ x. Status × Untouched × Told x)
-refusal_told due fault Status Untouched Told is status untouched told = IfSome_then due is (λ x same. (status, untouched, subst Told same told))
 
 -- and there is none where none was answered
 pub not_refused : {X : Type 0} (n count : ℕ) (TooLarge AreSampled : Type 0) (engine : Engine) (collected : X) (P : CollectFault → Type 0) → n ≡ count
@@ -138,3 +142,41 @@ faults_if_memory {X = X} {Y = Y} due TooLarge AreSampled x has =
       too_large = λ is. absurd (cc is);
       sampled = λ is. absurd (cc is);
     }
+
+-- ---- what is told of a failure
+
+either_nothing : (b : Bool) → ◌≡◌ {A = List ℕ} (if b then [] else []) []
+either_nothing true = refl
+either_nothing false = refl
+
+nothing_named : (verbosity : Verbosity) → if_verbose verbosity [] ≡ []
+nothing_named verbosity = either_nothing verbosity.verbose
+
+-- a fault that names nothing has its line alone
+line_alone : (verbosity : Verbosity) (plan : PlanValue) (origins : List Origin) (failure : CollectFailure) → failure ≡ only_fault failure.fault → failure_lines verbosity plan origins failure ≡ collect_fault_line failure.fault
+line_alone verbosity plan origins failure only =
+    ap (λ (f : CollectFailure). collect_fault_line failure.fault ++ large_lines verbosity plan origins f) only ∙ ap (λ (l : List ℕ). collect_fault_line failure.fault ++ l) (nothing_named verbosity) ∙ append-nil _
+
+-- the fault that the arguments have is told alone
+pub refusal_named : {S : Type 0} (seen : S → SourceView) (plan : PlanValue) (given : List (InContext S)) (engine : Engine) (n : ℕ) (failure : CollectFailure) (verbosity : Verbosity) (origins : List Origin) (Status Untouched : Type 0) (AreTold : List ℕ → Type 0)
+    → (due : Option CollectFault) → due ≡ due_fault engine n → IfSome due (λ x. failure.fault ≡ x) → TellsLarge seen plan given failure → Status → Untouched → AreTold (failure_lines verbosity plan origins failure)
+    → IfSome due (λ x. Status × Untouched × AreTold (collect_fault_line x))
+refusal_named seen plan given engine n failure verbosity origins Status Untouched AreTold None same is names status untouched told = tt
+refusal_named seen plan given engine n failure verbosity origins Status Untouched AreTold (Some x) same is names status untouched told =
+    let early : (failure.fault ≡ SumTooLarge → ⊥) = λ large. due_is_early engine n SumTooLarge (λ e. absurd (cc e)) (λ e. absurd (cc e)) (λ e. absurd (cc e)) (sym same ∙ ap Some (sym is ∙ large)) in
+    (status, untouched, subst AreTold (line_alone verbosity plan origins failure (names.others early) ∙ ap collect_fault_line is) told)
+
+-- one that comes of no sum names nothing
+pub none_named : {S : Type 0} (seen : S → SourceView) (plan : PlanValue) (given : List (InContext S)) (engine : Engine) (n : ℕ) (fault : CollectFault) → due_fault engine n ≡ Some fault → TellsLarge seen plan given (only_fault fault)
+none_named seen plan given engine n fault due = tells_fault seen plan given fault (λ large. due_is_early engine n SumTooLarge (λ e. absurd (cc e)) (λ e. absurd (cc e)) (λ e. absurd (cc e)) (due ∙ ap Some large))
+
+pub no_memory_named : {S : Type 0} (seen : S → SourceView) (plan : PlanValue) (given : List (InContext S)) → TellsLarge seen plan given (only_fault OutOfMemory)
+no_memory_named seen plan given = tells_fault seen plan given OutOfMemory (λ e. cc e)
+
+-- the same of a failure that is a fault alone
+pub faults_alone : {X : Type 0} (due : Option CollectFault) (TooLarge AreSampled : Type 0) (fault : CollectFault) (failure : CollectFailure) → failure ≡ only_fault fault
+    → HasFaultsOrSampled {X = X} due TooLarge AreSampled (Err fault) → HasFaultsOrSampled {X = X} due TooLarge AreSampled (Err failure.fault)
+faults_alone {X = X} due TooLarge AreSampled fault failure is has = subst (λ (f : CollectFailure). HasFaultsOrSampled {X = X} due TooLarge AreSampled (Err f.fault)) (sym is) has
+
+pub names_alone : {S : Type 0} (seen : S → SourceView) (plan : PlanValue) (given : List (InContext S)) (fault : CollectFault) (failure : CollectFailure) → failure ≡ only_fault fault → TellsLarge seen plan given (only_fault fault) → TellsLarge seen plan given failure
+names_alone seen plan given fault failure is names = subst (TellsLarge seen plan given) (sym is) names

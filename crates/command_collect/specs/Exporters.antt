@@ -55,6 +55,7 @@ noting job =
       estimates = job.estimates;
       refuses_sampled = job.refuses_sampled;
       times = job.times;
+      great_counters = job.great_counters;
       templates = job.templates;
       filter = job.filter;
       exporters = job.exporters;
@@ -65,7 +66,7 @@ noting job =
 abbrev pub in_places : {S : Type 0} → CollectJob → List S → List (Option IpAddr) → List Origin → List (InContext S)
 in_places job [] told origins = []
 in_places job (source ∷ sources) told origins =
-    record { source = source; context = record { exporter = exporter_of (first_told told) (first_origin origins); wanted = job.wanted; options = asked_of job; maps = job.maps; estimates = job.estimates; refuses_sampled = job.refuses_sampled; times = job.times; templates = job.templates }; filter = job.filter }
+    record { source = source; context = record { exporter = exporter_of (first_told told) (first_origin origins); wanted = job.wanted; options = asked_of job; maps = job.maps; estimates = job.estimates; refuses_sampled = job.refuses_sampled; times = job.times; great_counters = job.great_counters; templates = job.templates }; filter = job.filter }
     ∷ in_places job sources (others_told told) (other_origins origins)
 
 -- as far as the job wants it

@@ -1,9 +1,11 @@
 -- What public contracts cite.
 pub mod CollectLines
+pub mod Large
 pub mod Told
 pub mod Engines
 pub mod Gathered
 pub mod Exporters
+pub mod Jobs
 pub mod Runs
 pub mod Collects
 pub mod Limits
@@ -14,4 +16,5 @@ pub mod Tables
 pub mod Made
 pub mod Faults
 pub mod ReceiptedRuns
+pub mod HashedRuns
 pub mod Remade

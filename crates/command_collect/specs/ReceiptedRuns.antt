@@ -15,19 +15,21 @@ use Rattle.flow_table.specs.AddedUp.{rows_in}
 use Rattle.flow_table.specs.declared.table.Table.{Table}
 use Rattle.flow_collect.specs.InFull.{FullSerialAnswer, IsGivenInContext, fulls_in}
 use Rattle.flow_collect.specs.Refusals.{AreTooLargeInContext}
+use Rattle.flow_collect.specs.declared.failure.CollectFailure.{CollectFailure}
 use Rattle.flow_collect.specs.declared.fault.CollectFault.{CollectFault}
 use Rattle.flow_collect.specs.declared.fault.CollectFault.TheVariants.{SumTooLarge}
 use Rattle.input_sources.specs.Had.{AreAccepted, PathsAreOpened}
 use Rattle.input_sources.specs.Origins.{AreFiles, ArePeers}
-use Rattle.output_tables.specs.TableTexts.{IsNotWritten, export_text}
+use Rattle.output_tables.specs.TableTexts.{IsNotWritten}
 use Rattle.table_receipts.specs.Texts.{receipt_text}
 use Rattle.table_receipts.specs.Values.{ReceiptValue}
-use Rattle.command_collect.specs.CollectLines.{collect_fault_line}
 use Rattle.command_collect.specs.Collects.{Collects}
 use Rattle.command_collect.specs.Engines.{CollectsBy}
 use Rattle.command_collect.specs.Exporters.{in_noting_context}
 use Rattle.command_collect.specs.Gathered.{samplings_in}
-use Rattle.command_collect.specs.Runs.{EndedWell, IsFaultBy, Runs, RunsSources, WritesAndTellsJob, WritesTable, texts_in_context}
+use Rattle.command_collect.specs.Jobs.{job_text}
+use Rattle.command_collect.specs.Large.{failure_lines}
+use Rattle.command_collect.specs.Runs.{EndedWell, IsFailureBy, Runs, RunsSources, WritesAndTellsJob, WritesTable, texts_in_context}
 use Rattle.command_collect.specs.Told.{TellsBehind, TellsNotAccepted, TellsNotOpened}
 use Rattle.command_collect.specs.declared.job.CollectJob.{CollectJob}
 use Rattle.command_collect.specs.declared.job.Connections.{Connections}
@@ -49,7 +51,7 @@ use Rattle.command_collect.specs.declared.receipts.run.Receipted.{Receipted}
 -- the receipt of these inputs and of this table, by the digest of the table's text
 pub record IsMade (made : MadeWith) (job : CollectJob) (origins : List Origin) (fulls : List FullReport) (samplings : List SamplingReport) (digests : List (List ℕ)) (old : Option (List ℕ)) (table : Table) (receipt : ReceiptValue) : Type 0 where
   pub text : TextDigest
-  pub text_is : IsDigestOfAppended old text (export_text job.elements.now job.output job.plan.now table)
+  pub text_is : IsDigestOfAppended old text (job_text job table)
   pub is : IsReceiptOf made job (inputs_of job origins fulls digests) fulls samplings text table receipt
   -- no input is in it twice
   pub once : EachOnce (inputs_of job origins fulls digests)
@@ -100,7 +102,7 @@ module _ {S : Type 0} (seen : S → SourceView) (sources : List S) where
   -- why nothing was collected was told, and then nothing was written; or why there is no receipt; and what of the inputs that is
   abbrev pub TellsNoReceipt : CollectJob → List Origin → Type 0 → Option Hindrance → (List ℕ → Type 0) → Type 0
   TellsNoReceipt job origins IsUntouched hindrance AreTold =
-      ((fault : CollectFault) × IsFaultBy seen (length sources) job.engine (in_noting_context job sources origins) job.plan.now fault × IsUntouched × (hindrance ≡ hindrance_in fault) × AreTold (collect_fault_line fault))
+      ((failure : CollectFailure) × IsFailureBy seen (length sources) job.engine (in_noting_context job sources origins) job.plan.now failure × IsUntouched × (hindrance ≡ hindrance_in failure.fault) × AreTold (failure_lines job.verbosity job.plan.now origins failure))
       ⊎ ((fault : RunFault) × IsNotReceipted job origins IsUntouched fault × (hindrance ≡ hindrance_of fault) × AreTold (run_fault_line fault))
 
   -- a sum of the records that these sources gave is too large; or those at two places are the same, in what was collected

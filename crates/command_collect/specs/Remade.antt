@@ -6,12 +6,12 @@ use Rattle.ipfix_session.specs.Sources.{SourceView}
 use Rattle.flow_collect.specs.Contexts.{records_in_context, sources_of}
 use Rattle.flow_collect.specs.InFull.{FullSerialAnswer, IsGivenInContext, fulls_in}
 use Rattle.flow_collect.specs.Texts.{AreTexts}
-use Rattle.output_tables.specs.TableTexts.{export_text}
 use Rattle.report_writing.specs.declared.origin.Origin.{Origin}
 use Rattle.table_receipts.specs.Values.{receipt_value}
 use Rattle.command_collect.specs.Engines.{CollectsBy}
 use Rattle.command_collect.specs.Exporters.{in_noting_context}
 use Rattle.command_collect.specs.Gathered.{samplings_in}
+use Rattle.command_collect.specs.Jobs.{job_text}
 use Rattle.command_collect.specs.Runs.{IsFaultBy}
 use Rattle.command_collect.specs.declared.job.CollectJob.{CollectJob}
 use Rattle.command_collect.specs.Digests.{AreDigestsOf}
@@ -30,7 +30,7 @@ module _ {S : Type 0} (seen : S → SourceView) where
     -- the records of each session are the first of those that its source's whole text gives
     pub first : (texts : List (List ℕ)) → AreTexts seen (sources_of (in_noting_context job sources origins)) texts
         → AllZip IsPrefix collects.headline.records (records_in_context (in_noting_context job sources origins) texts)
-    pub text_is : remade.text.items ≡ export_text job.elements.now job.output job.plan.now collected.table
+    pub text_is : remade.text.items ≡ job_text job collected.table
     pub digests : List (List ℕ)
     pub are_digests : AreDigestsOf seen sources (fulls_in collected.sessions.items) digests
     pub is_made : IsMade made job origins (fulls_in collected.sessions.items) (samplings_in collected.sessions.items) digests (Some []) collected.table (receipt_value remade.receipt)

@@ -21,12 +21,14 @@ use Rattle.flow_table.specs.AddedUp.{rows_in}
 use Rattle.flow_table.specs.Plans.{PlanValue}
 use Rattle.flow_table.specs.declared.table.Table.{Table}
 use Rattle.flow_collect.specs.Contexts.{records_in_context, sources_of}
+use Rattle.flow_collect.specs.Failures.{TellsLarge}
 use Rattle.flow_collect.specs.Headline.{IsAddedUp, IsGivenBy, SerialAnswer, all_of}
 use Rattle.flow_collect.specs.InFull.{FullSerialAnswer, FullSerialHeadline, IsGivenInContext, fulls_in}
 use Rattle.flow_collect.specs.Refusals.{AreTooLarge, AreTooLargeInContext, IsLate, IsLateInContext, IsRefused}
 use Rattle.flow_collect.specs.Texts.{AreTexts, HasNoFault}
 use Rattle.flow_collect.specs.declared.collected.FilteredReport.{FilteredReport}
 use Rattle.flow_collect.specs.declared.collected.Serial.{Serial}
+use Rattle.flow_collect.specs.declared.failure.CollectFailure.{CollectFailure}
 use Rattle.flow_collect.specs.declared.fault.CollectFault.{CollectFault}
 use Rattle.flow_collect.specs.declared.session_context.InContext.{InContext}
 use Rattle.flow_collect.specs.declared.fault.CollectFault.TheVariants.{SumTooLarge, Sampled}
@@ -38,6 +40,7 @@ use Rattle.command_collect.specs.CollectLines.{collect_fault_line}
 use Rattle.command_collect.specs.Engines.{due_fault, CollectsBy}
 use Rattle.command_collect.specs.Exporters.{in_context}
 use Rattle.command_collect.specs.Gathered.{all_filtered, IsGathered, samplings_in, times_of_each}
+use Rattle.command_collect.specs.Large.{failure_lines}
 use Rattle.command_collect.specs.Told.{run_lines, TellsFault}
 use Rattle.command_collect.specs.declared.engine.Engine.{Engine}
 use Rattle.command_collect.specs.declared.gathered.Gathered.{Gathered}
@@ -52,6 +55,14 @@ HaveNoFault reports table = All HasNoFault reports
 abbrev pub WentWell : Bool → Bool → List FullReport → List SamplingReport → Table → Type 0
 WentWell true is_scaled fulls samplings table = IsSpotless fulls table.tally table.missing × IsSamplingSpotless is_scaled samplings
 WentWell false is_scaled fulls samplings table = All (λ (full : FullReport). HasNoFault full.report) fulls
+
+-- of a job's sessions, as it is strict or not, and scales or not
+abbrev pub JobWentWell : CollectJob → List FullReport → List SamplingReport → Table → Type 0
+JobWentWell job fulls samplings table = WentWell job.verbosity.strict (is_some job.estimates) fulls samplings table
+
+-- and of what was gathered
+abbrev pub GatheredWell : {S : Type 0} → CollectJob → Gathered S → Type 0
+GatheredWell job g = JobWentWell job g.run.sessions.items g.sampling.items g.run.table
 
 -- the same of reports that tell how many records were left out, which does not matter
 abbrev pub EndedWell : Bool → Bool → List FilteredReport → Table → Type 0
@@ -118,6 +129,13 @@ pub record IsJobFault (count : ℕ) (TooLarge AreSampled : Type 0) (engine : Eng
 abbrev pub IsFaultBy : {S : Type 0} → (S → SourceView) → ℕ → Engine → List (InContext S) → PlanValue → CollectFault → Type 0
 IsFaultBy seen count engine given plan fault = IsJobFault count (AreTooLargeInContext seen plan given) (IsRefused seen given) engine fault
 
+-- and where a sum is too large
+pub record IsFailureBy {S : Type 0} (seen : S → SourceView) (count : ℕ) (engine : Engine) (given : List (InContext S)) (plan : PlanValue) (failure : CollectFailure) : Type 0 where
+  pub fault_is : IsFaultBy seen count engine given plan failure.fault
+  -- a row and a session stand only beside that fault: the row is too large of the records that sessions gave, and the session is
+  -- the first that tells of a great counter
+  pub names : TellsLarge seen plan given failure
+
 module _ {S : Type 0} (seen : S → SourceView) where
   -- sources were had as the first fact says it, none of which was read before, and they were run as the last one says it
   pub record RunsSources (AreHad RunsThem : List S → Type 0) : Type 0 where
@@ -136,9 +154,9 @@ pub record Runs (engine : Engine) (count status : ℕ) (IsUntouched WritesIt Tel
   pub refused : IfSome (due_fault engine count) (λ fault. (status ≡ number_of Failed) × IsUntouched × AreTold (collect_fault_line fault))
 
 -- what was gathered of a run adds up the whole texts of its sources, if the run went well
-abbrev pub AddsUpIfWell : {S : Type 0} → (S → SourceView) → Bool → Bool → Gathered S → FullSerialAnswer S → Type 0
-AddsUpIfWell {S = S} seen strict is_scaled g c =
-    IsGathered c g → (sources : List (InContext S)) (plan : PlanValue) → FullSerialHeadline seen sources plan c → WentWell strict is_scaled g.run.sessions.items g.sampling.items g.run.table
+abbrev pub AddsUpIfWell : {S : Type 0} → (S → SourceView) → CollectJob → Gathered S → FullSerialAnswer S → Type 0
+AddsUpIfWell {S = S} seen job g c =
+    IsGathered c g → (sources : List (InContext S)) (plan : PlanValue) → FullSerialHeadline seen sources plan c → GatheredWell job g
     → AddsUpWhole (texts_in_context seen) sources plan c.table
 
 -- the table was written to a writer, and nothing else; the lines of the sessions and of the table's counts were told, and
@@ -153,7 +171,7 @@ module _ {W : Type 0} (contents : W → Option (List ℕ)) (old new : W) (AreTol
   RunsPlainly seen sources plan engine output status =
       Runs engine (length sources) status (new ≡ old)
       (WritesTable (plain_texts seen) (IsGivenBy seen) HaveNoFault plan engine status (WritesAndTells plan output) sources)
-      (TellsFault (new ≡ old) (IsCollectFault (length sources) (AreTooLarge seen plan sources) engine) (IsNotExported (plain_texts seen) (IsGivenBy seen) plan engine output (new ≡ old) sources) AreTold) AreTold
+      (TellsFault (new ≡ old) (IsCollectFault (length sources) (AreTooLarge seen plan sources) engine) collect_fault_line (IsNotExported (plain_texts seen) (IsGivenBy seen) plan engine output (new ≡ old) sources) AreTold) AreTold
 
   -- the table was written by the names that elements have under the files of a job; the sessions were told in full, each with
   -- the reason that its own source answered, and nothing else
@@ -168,4 +186,4 @@ module _ {W : Type 0} (contents : W → Option (List ℕ)) (old new : W) (AreTol
       let given = in_context job sources origins in
       Runs job.engine (length sources) status (new ≡ old)
       (WritesTable (texts_in_context seen) (IsGivenInContext seen) (EndedWell job.verbosity.strict (is_some job.estimates)) job.plan.now job.engine status (WritesAndTellsJob failure job origins) given)
-      (TellsFault (new ≡ old) (IsFaultBy seen (length sources) job.engine given job.plan.now) (IsNotExported (texts_in_context seen) (IsGivenInContext seen) job.plan.now job.engine job.output (new ≡ old) given) AreTold) AreTold
+      (TellsFault (new ≡ old) (IsFailureBy seen (length sources) job.engine given job.plan.now) (failure_lines job.verbosity job.plan.now origins) (IsNotExported (texts_in_context seen) (IsGivenInContext seen) job.plan.now job.engine job.output (new ≡ old) given) AreTold) AreTold

@@ -5,7 +5,6 @@ use Rattle.flow_estimates.specs.declared.report.SamplingReport.{SamplingReport}
 use Rattle.flow_table.specs.declared.table.Table.{Table}
 use Rattle.flow_times.specs.declared.notes.TimesReport.{TimesReport}
 use Rattle.flow_export.specs.declared.fault.ExportFault.{ExportFault}
-use Rattle.flow_collect.specs.declared.fault.CollectFault.{CollectFault}
 use Rattle.report_writing.specs.OpeningLines.{not_had_lines}
 use Rattle.output_tables.specs.ExportFaultLines.{export_fault_line}
 use Rattle.report_sampling.specs.SamplingLines.{sampling_told}
@@ -17,7 +16,6 @@ use Rattle.report_sessions.specs.ToldLines.{told_lines}
 use Rattle.report_writing.specs.declared.origin.Origin.{Origin}
 use Rattle.report_writing.specs.declared.reason.Reason.{Reason}
 use Rattle.report_writing.specs.declared.verbosity.Verbosity.{Verbosity}
-use Rattle.command_collect.specs.CollectLines.{collect_fault_line}
 use Rattle.command_collect.specs.declared.job.CollectJob.{CollectJob}
 use Rattle.input_sources.specs.Had.{IsReasonOf}
 use Rattle.input_sources.specs.InputsTold.{opened_lines, StopsAt, TellsPeers}
@@ -61,9 +59,9 @@ pub record TellsNotAccepted {S : Type 0} (IsOf : S → SocketAddr → Type 0) (R
   pub refused : IsReasonOf Refuses reason
   pub stops : TellsPeers IsOf verbosity (λ lines. AreTold (first ++ (lines ++ not_had_lines verbosity (codes "listen") address reason)))
 
--- a run that failed tells why nothing was collected, and then nothing was written; or why the table of what was collected
--- wasn't written
-abbrev pub TellsFault : Type 0 → (CollectFault → Type 0) → (ExportFault → Type 0) → (List ℕ → Type 0) → Type 0
-TellsFault IsUntouched IsCollectFault IsExportFault AreTold =
-    ((fault : CollectFault) × IsCollectFault fault × IsUntouched × AreTold (collect_fault_line fault))
+-- a run that failed tells why nothing was collected, in these lines, and then nothing was written; or why the table of what was
+-- collected wasn't written
+abbrev pub TellsFault : {F : Type 0} → Type 0 → (F → Type 0) → (F → List ℕ) → (ExportFault → Type 0) → (List ℕ → Type 0) → Type 0
+TellsFault {F = F} IsUntouched IsCollectFault lines_of IsExportFault AreTold =
+    ((fault : F) × IsCollectFault fault × IsUntouched × AreTold (lines_of fault))
     ⊎ ((fault : ExportFault) × IsExportFault fault × AreTold (export_fault_line fault))

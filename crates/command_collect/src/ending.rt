@@ -1,11 +1,11 @@
 //! How a run ended, and what it tells.
 
-ghost use Rattle.std.specs.Prelude.{◌≡◌, ◌⊎◌, ◌↔◌, true, All, IsTrue, is_some};
+ghost use Rattle.std.specs.Prelude.{◌≡◌, ◌⊎◌, ◌↔◌, true, All, IsTrue};
 ghost use Rattle.report_writing.specs.Writing.{Tells};
 ghost use Rattle.flow_collect.specs.InFull.{FullSerialAnswer};
 ghost use Rattle.flow_collect.specs.Texts.{HasNoFault};
 ghost use Rattle.report_sessions.specs.EndedSessions.{TellsEnded};
-ghost use Rattle.command_collect.specs.Runs.{AddsUpIfWell, WentWell};
+ghost use Rattle.command_collect.specs.Runs.{AddsUpIfWell, GatheredWell, JobWentWell, WentWell};
 ghost use Rattle.command_collect.specs.Told.{counts_told, if_filtered as if_filtered_by, run_lines, table_told};
 
 use crate::gathered::Gathered;
@@ -22,10 +22,8 @@ use std::io;
 /// How a run ended whose table is written.
 pub fn status_of<S: Source>(job: &CollectJob, gathered: &Gathered<S>) -> Status
     ensures ends { (result ≡ Status.Well) ⊎ (result ≡ Status.SessionFault) }
-    ensures well { (result ≡ Status.Well) ↔ WentWell job.now.verbosity.strict (is_some job.now.estimates)
-        gathered.now.run.sessions.items gathered.now.sampling.items gathered.now.run.table }
-    ensures whole { (c : FullSerialAnswer S) → AddsUpIfWell S.seen job.now.verbosity.strict
-        (is_some job.now.estimates) gathered.now c }
+    ensures well { (result ≡ Status.Well) ↔ GatheredWell job.now gathered.now }
+    ensures whole { (c : FullSerialAnswer S) → AddsUpIfWell S.seen job.now gathered.now c }
 {
     let run = &gathered.run;
     end_of(job, &run.sessions, &gathered.sampling, &run.table)
@@ -39,8 +37,8 @@ fn end_of(
     table: &FlatTable,
 ) -> Status
     ensures ends { (result ≡ Status.Well) ⊎ (result ≡ Status.SessionFault) }
-    ensures well { (result ≡ Status.Well) ↔ WentWell job.now.verbosity.strict
-        (is_some job.now.estimates) reports.now sampling.now table.now }
+    ensures well { (result ≡ Status.Well)
+        ↔ JobWentWell job.now reports.now sampling.now table.now }
 {
     if went_well(job, reports, sampling, table) {
         Status::Well
@@ -56,8 +54,7 @@ fn went_well(
     sampling: &[SamplingReport],
     table: &FlatTable,
 ) -> bool
-    ensures { IsTrue result ↔ WentWell job.now.verbosity.strict (is_some job.now.estimates) reports.now
-        sampling.now table.now }
+    ensures { IsTrue result ↔ JobWentWell job.now reports.now sampling.now table.now }
 {
     if job.verbosity.strict {
         leaves_nothing_out(job.is_scaled(), reports, sampling, table)
@@ -100,9 +97,8 @@ pub fn tell<S: Source + Drop, E: WriteLines>(
     gathered: &Gathered<S>,
     err: &mut E,
 ) -> io::Result<()>
-    ensures { let run = gathered.now.run in TellsEnded S.failure run.sources.items run.sessions.items
-        (run_lines job.now origins.now gathered.now.sampling.items gathered.now.times.items run.table
-        gathered.now.filtered)
+    ensures { let g = gathered.now in TellsEnded S.failure g.run.sources.items g.run.sessions.items
+        (run_lines job.now origins.now g.sampling.items g.times.items g.run.table g.filtered)
         (Tells E.contents E.failed err.old err.new result) }
 {
     let run = &gathered.run;

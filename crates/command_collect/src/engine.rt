@@ -1,13 +1,14 @@
 //! What collects: sessions side by side over links, or lots of sessions one after another.
 
-ghost use Rattle.std.specs.Prelude.{◌≡◌, IfOk, vec_len};
+ghost use Rattle.std.specs.Prelude.{◌≡◌, IfErr, IfOk, vec_len};
 ghost use Rattle.flow_table.specs.Fitting.{FitsPlan};
+ghost use Rattle.flow_collect.specs.Failures.{fault_in, TellsLarge};
 ghost use Rattle.flow_collect.specs.InFull.{IsGivenInContext};
 ghost use Rattle.command_collect.specs.Engines.{due_fault, CollectsBy, HasFaultsBy};
 
 use flow_collect::{
-    CollectFault, Collected, FilteredReport, InContext, OpenGate, Pool, Serial, collect_direct,
-    collect_flat, direct_refusal, refusal,
+    CollectFailure, CollectFault, Collected, FilteredReport, InContext, OpenGate, Pool, Serial,
+    collect_direct, collect_flat, direct_refusal, refusal,
 };
 use flow_table::{FlatTable, Plan};
 use ipfix_session::Source;
@@ -44,10 +45,12 @@ impl Engine {
         alloc: Global,
         sources: Vec<InContext<S>>,
         plan: &Plan,
-    ) -> Result<Serial<S, FilteredReport, FlatTable>, CollectFault>
+    ) -> Result<Serial<S, FilteredReport, FlatTable>, CollectFailure>
         ensures ok { IfOk result (CollectsBy self (IsGivenInContext S.seen) sources.entry.items plan.now) }
         ensures fits { IfOk result (λ s. FitsPlan plan.now s.table) }
-        ensures faults { HasFaultsBy S.seen self sources.entry.items plan.now (vec_len sources.entry) result }
+        ensures faults { HasFaultsBy S.seen self sources.entry.items plan.now (vec_len sources.entry)
+            (fault_in result) }
+        ensures large { IfErr result (TellsLarge S.seen plan.now sources.entry.items) }
     {
         match self {
             Engine::Links(pool) => collect_over_links(rt, alloc, sources, plan, pool),
@@ -63,16 +66,17 @@ fn collect_over_links<S: Source + Send + Drop, R: Threads + Wait + Sync>(
     sources: Vec<InContext<S>>,
     plan: &Plan,
     pool: Pool,
-) -> Result<Serial<S, FilteredReport, FlatTable>, CollectFault>
+) -> Result<Serial<S, FilteredReport, FlatTable>, CollectFailure>
     ensures ok { IfOk result (CollectsBy (Engine.Links pool) (IsGivenInContext S.seen) sources.entry.items
         plan.now) }
     ensures fits { IfOk result (λ s. FitsPlan plan.now s.table) }
     ensures faults { HasFaultsBy S.seen (Engine.Links pool) sources.entry.items plan.now
-        (vec_len sources.entry) result }
+        (vec_len sources.entry) (fault_in result) }
+    ensures large { IfErr result (TellsLarge S.seen plan.now sources.entry.items) }
 {
     match collect_flat(rt, alloc, sources, plan, pool, &OpenGate) {
         Ok(collected) => Ok(without_links(collected)),
-        Err(fault) => Err(fault),
+        Err(failure) => Err(failure),
     }
 }
 

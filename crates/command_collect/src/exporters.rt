@@ -34,6 +34,7 @@ pub fn in_context<'a, S: Drop>(
             estimates: job.estimates,
             refuses_sampled: job.refuses_sampled,
             times: job.times,
+            great_counters: job.great_counters,
             templates: job.templates,
         };
         all.push(InContext {

@@ -13,6 +13,7 @@ use flow_filter::Filter;
 use flow_maps::Maps;
 use flow_table::{Context, Plan};
 use flow_times::TimeNoting;
+use ipfix_wire::ElementId;
 use output_tables::Output;
 use report_writing::{NOTHING_MORE, Verbosity};
 use std::net::IpAddr;
@@ -43,6 +44,8 @@ pub struct CollectJob<'a> {
     pub refuses_sampled: bool,
     /// What is noted of the times of records that count, and told of each session.
     pub times: TimeNoting,
+    /// The counters of which it is noted whether a record has one above 2^63, if that is told.
+    pub great_counters: Option<&'a [ElementId]>,
     /// What the templates of a session may count, if they have a limit.
     pub templates: Option<u64>,
     /// Which records count, where the plan has conditions.
@@ -67,6 +70,7 @@ impl<'a> CollectJob<'a> {
         ensures estimates { result.estimates ≡ None }
         ensures refuses { result.refuses_sampled ≡ false }
         ensures times { result.times ≡ TimeNoting.Nothing }
+        ensures great { result.great_counters ≡ None }
         ensures templates { result.templates ≡ None }
         ensures filter { result.filter ≡ None }
     {
@@ -82,6 +86,7 @@ impl<'a> CollectJob<'a> {
             estimates: None,
             refuses_sampled: false,
             times: TimeNoting::Nothing,
+            great_counters: None,
             templates: None,
             filter: None,
             exporters: &[],

@@ -2,6 +2,7 @@
 //! made of.
 #![tactic(auto)]
 
+mod cells;
 mod collect_fault;
 mod commands;
 mod early;
@@ -10,6 +11,7 @@ mod engine;
 mod exporters;
 mod gathered;
 mod job;
+mod large;
 mod limits;
 mod receipts;
 mod table;
@@ -22,6 +24,7 @@ pub use ending::{leaves_nothing_out, status_of, tell};
 pub use engine::Engine;
 pub use gathered::Gathered;
 pub use job::{CollectJob, Connections};
+pub use large::{noted_counters, write_failure};
 pub use limits::write_limit;
 pub use receipts::{
     Ended, Hindrance, MadeWith, ReceiptFault, ReceiptPlace, Receipted, Remade, RemakeFault,

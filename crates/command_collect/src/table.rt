@@ -1,23 +1,20 @@
 //! Collecting and writing the table.
 
-ghost use Rattle.std.specs.Prelude.{IfOk, vec_len};
+ghost use Rattle.std.specs.Prelude.{IfErr, IfOk};
 ghost use Rattle.flow_table.specs.Fitting.{FitsPlan};
-ghost use Rattle.flow_collect.specs.InFull.{IsGivenInContext};
-ghost use Rattle.command_collect.specs.Engines.{HasFaultsBy};
-ghost use Rattle.command_collect.specs.Gathered.{GathersBy};
-ghost use Rattle.command_collect.specs.Exporters.{in_context as given};
+ghost use Rattle.command_collect.specs.Jobs.{GathersJob, HasJobFaults, TellsJobLarge};
 ghost use Rattle.report_writing.specs.Statuses.{number_of};
 ghost use Rattle.report_writing.specs.Told.{AreToldTo};
 ghost use Rattle.command_collect.specs.Runs.{RunsJob, RunsPlainly};
 
-use crate::collect_fault::write_collect_fault;
 use crate::ending::{status_of, tell};
 use crate::engine::Engine;
 use crate::exporters::in_context;
 use crate::gathered::{Gathered, gather};
 use crate::job::CollectJob;
+use crate::large::write_failure;
 use element_registry::Elements;
-use flow_collect::{CollectFault, Pool};
+use flow_collect::{CollectFailure, CollectFault, Pool};
 use flow_export::{AnyTable, Intervals};
 use flow_table::Plan;
 use ipfix_session::Source;
@@ -63,7 +60,8 @@ pub fn run<S: Source + Send + Drop, W: Write, E: WriteLines, R: Threads + Wait +
 /// sessions in full, each with the origin that has the session's place. What `job.wanted` names is appended to each
 /// record: the exporter by that origin, and the record's own domain; before it stands what `job.options` names. Records
 /// that `job.filter` does not count are in no row and in no class, and the line of counts ends with their number. Keys
-/// and counters have the names that `job.elements` give them. If it is strict, it ends with `SessionFault` also if
+/// and counters have the names that `job.elements` give them. Where a sum is too large, a verbose run names the row after
+/// the fault's line, and the session of a record with one of `job.great_counters` above 2^63. If it is strict, it ends with `SessionFault` also if
 /// anything shows that something which was sent isn't in the table ([`is_spotless`](report_sessions::is_spotless)).
 pub fn run_with<S: Source + Send + Drop, W: Write, E: WriteLines, R: Threads + Wait + Sync>(
     rt: &R,
@@ -83,8 +81,8 @@ pub fn run_with<S: Source + Send + Drop, W: Write, E: WriteLines, R: Threads + W
 {
     let gathered = match collect_job(rt, alloc, sources, origins, job) {
         Ok(gathered) => gathered,
-        Err(fault) => {
-            let _ = write_collect_fault(fault, err);
+        Err(failure) => {
+            let _ = write_failure(job.verbosity, job.plan, origins, &failure, err);
             return Status::Failed;
         }
     };
@@ -104,26 +102,25 @@ pub fn collect_job<S: Source + Send + Drop, R: Threads + Wait + Sync>(
     sources: Vec<S>,
     origins: &[Origin],
     job: &CollectJob,
-) -> Result<Gathered<S>, CollectFault>
-    ensures ok { IfOk result (GathersBy job.now.engine (IsGivenInContext S.seen)
-        (given job.now sources.items origins.now) job.now.plan.now) }
+) -> Result<Gathered<S>, CollectFailure>
+    ensures ok { IfOk result (GathersJob S.seen job.now sources.items origins.now) }
     ensures fits { IfOk result (λ g. FitsPlan job.now.plan.now g.run.table) }
-    ensures faults { HasFaultsBy S.seen job.now.engine (given job.now sources.items origins.now)
-        job.now.plan.now (vec_len sources) result }
+    ensures faults { HasJobFaults S.seen job.now sources origins.now result }
+    ensures large { IfErr result (TellsJobLarge S.seen job.now sources.items origins.now) }
 {
     if let Some(fault) = job.engine.refusal(sources.len()) {
-        return Err(fault);
+        return Err(CollectFailure::only(fault));
     }
     let given = match in_context(alloc, sources, origins, job) {
         Ok(given) => given,
-        Err(AllocError) => return Err(CollectFault::OutOfMemory),
+        Err(AllocError) => return Err(CollectFailure::only(CollectFault::OutOfMemory)),
     };
     let collected = match job.engine.collect(rt, alloc, given, job.plan) {
         Ok(collected) => collected,
-        Err(fault) => return Err(fault),
+        Err(failure) => return Err(failure),
     };
     match gather(alloc, collected) {
         Ok(gathered) => Ok(gathered),
-        Err(AllocError) => Err(CollectFault::OutOfMemory),
+        Err(AllocError) => Err(CollectFailure::only(CollectFault::OutOfMemory)),
     }
 }

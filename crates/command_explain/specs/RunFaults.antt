@@ -137,7 +137,7 @@ words_of (Collect collects.Workers) = words (codes "--workers is not 1 to 16") (
 words_of (Collect collects.Sessions) = words (codes "more than 64 sessions") (codes "Give files to a run with --direct, or up to 64 to a run, and merge the tables of several runs.")
 words_of (Collect collects.Link) = words (codes "--ring is not 1 to 65536") (codes "Leave it out, or take 1024.")
 words_of (Collect collects.NoThread) = words (codes "a thread could not be started") (codes "Allow the process more threads or memory, or take fewer sessions and workers.")
-words_of (Collect collects.SumTooLarge) = words (codes "a sum or a count would be 2^64 or more") (codes "Take shorter intervals; or find the session that has such a counter, and leave it out\n(docs/RECIPES.md, A sum that is too large).")
+words_of (Collect collects.SumTooLarge) = words (codes "a sum or a count would be 2^64 or more") (codes "`collectd files -v` names such a row, and a session with a counter above 2^63. Leave that\nsession out (docs/RECIPES.md, A sum that is too large), or take shorter intervals.")
 words_of (Collect collects.Sampled) = words (codes "a flow was sampled, and the plan refuses that") (codes "Let the exporter count all packets; or write sampling = \"scale\" or \"ignore\" into the plan.")
 words_of (Merge (merges.Session _)) = words (codes "a file is damaged or cut") (codes "The same line names the fault of its session. Copy the file again, or make it again.")
 words_of (Merge merges.NotAnExport) = words (codes "a file is no table of this program") (codes "Merge files that were written with --format ipfix.")

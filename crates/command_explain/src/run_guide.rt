@@ -167,8 +167,8 @@ impl RunFault {
             Collect(CollectFault::NoThread) =>
                 "Allow the process more threads or memory, or take fewer sessions and workers.",
             Collect(CollectFault::SumTooLarge) | Merge(MergeFault::SumTooLarge) =>
-                "Take shorter intervals; or find the session that has such a counter, and leave it out\n\
-                (docs/RECIPES.md, A sum that is too large).",
+                "`collectd files -v` names such a row, and a session with a counter above 2^63. Leave that\n\
+                session out (docs/RECIPES.md, A sum that is too large), or take shorter intervals.",
             Collect(CollectFault::Sampled) =>
                 "Let the exporter count all packets; or write sampling = \"scale\" or \"ignore\" into the plan.",
             Merge(MergeFault::Session(_)) =>

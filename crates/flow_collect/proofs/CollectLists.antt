@@ -1,6 +1,6 @@
 -- What all threads left, put together.
-use Rattle.std.proofs.Common.{◌≡◌, ℕ, List, [], ◌∷◌, true, Option, None, Some, refl, sym, ◌∙◌, subst, map}
-use Rattle.std.specs.Prelude.{All, MatchOption, slice_get}
+use Rattle.std.proofs.Common.{◌≡◌, ℕ, List, [], ◌∷◌, true, Some, Result, Ok, Err, refl, sym, ap, ◌∙◌, subst, map}
+use Rattle.std.specs.Prelude.{All, MatchResult, slice_get}
 use Rattle.std.specs.List.{AllZip}
 use Rattle.std.proofs.lemmas.List.Elements.{All-head, All-tail, All-append, All-cons, All-nil}
 use Rattle.ipfix_message.specs.declared.record.DataRecord.{DataRecord}
@@ -18,7 +18,8 @@ use Rattle.flow_collect.specs.InFull.{FullAnswer, FullHeadline}
 use Rattle.flow_collect.specs.LinkEnds.{IsEnded, WorkerRan, link_end_key, receivers_of}
 use Rattle.flow_collect.specs.Places.{Each3, Each4}
 use Rattle.flow_collect.specs.Promises.{IsSettled}
-use Rattle.flow_collect.specs.Refusals.{AreTooLargeInContext}
+use Rattle.flow_collect.specs.Failures.{IsLargeRun}
+use Rattle.flow_collect.specs.declared.failure.CollectFailure.{CollectFailure}
 use Rattle.flow_collect.specs.Sessions.{SessionRan}
 use Rattle.flow_collect.specs.declared.collected.Pool.{Pool}
 use Rattle.flow_collect.specs.declared.session_context.InContext.{InContext}
@@ -28,6 +29,7 @@ use Rattle.flow_collect.specs.declared.settling.Parts.{Parts}
 use Rattle.flow_collect.specs.declared.worker.LinkEnd.{LinkEnd}
 use Rattle.flow_collect.specs.declared.worker.WorkerShare.{WorkerShare}
 use Rattle.flow_collect.proofs.Contexts.{too_large_due}
+use Rattle.flow_collect.proofs.Failures.{names_bag}
 use Rattle.flow_collect.proofs.LinkEndLists.{taken_weighs}
 use Rattle.flow_collect.proofs.Runs.{told, run_headline}
 
@@ -121,17 +123,28 @@ module _ {S : Type 0} (seen : S → SourceView) where
       let each = came_settled plan pool.capacity sources starts shares ts (parts_of c) f.records d e f.came in
       (run_headline seen sources plan pool c f.records each f.came.same f.table_is f.small, f.fits)
 
-  overfull : (plan : PlanValue) (capacity : ℕ) (sources : List (InContext S)) (starts : List (Start S)) (shares : List WorkerShare) (ts : List (EndedSession S))
-      → IsDealt plan capacity sources starts shares → AllZip (SessionRan seen) starts ts → IsOverfull plan ts → AreTooLargeInContext seen plan sources
-  overfull plan capacity sources starts shares ts d e f =
+  overfull : (plan : PlanValue) (capacity : ℕ) (sources : List (InContext S)) (starts : List (Start S)) (shares : List WorkerShare) (ts : List (EndedSession S)) (failure : CollectFailure)
+      → IsDealt plan capacity sources starts shares → AllZip (SessionRan seen) starts ts → IsOverfull plan ts failure → IsLargeRun seen plan sources failure
+  overfull plan capacity sources starts shares ts failure d e f =
       let parts = f.parts in
       let each = came_settled plan capacity sources starts shares ts parts f.records d e f.came in
       let all = told seen capacity sources parts.sources.items parts.sessions.items parts.links.items each in
       let same : IsSameBag f.records (all_of all.records) = subst (λ (x : List DataRecord). IsSameBag f.records x) all.all f.came.same in
-      too_large_due seen plan sources parts.sources.items parts.sessions.items all.records f.records all.given same f.large
+      record {
+        fault_is = ap (λ (x : CollectFailure). x.fault) f.failure_is;
+        due = too_large_due seen plan sources parts.sources.items parts.sessions.items all.records f.records all.given same f.large;
+        of_large = record {
+          afters = parts.sources.items;
+          reports = parts.sessions.items;
+          records = all.records;
+          given = all.given;
+          row_is = names_bag plan f.records (all_of all.records) parts.sessions.items failure.row same f.row_is;
+          session_is = ap (λ (x : CollectFailure). x.session) f.failure_is;
+        };
+      }
 
-  pub answered : (plan : PlanValue) (pool : Pool) (sources : List (InContext S)) (starts : List (Start S)) (shares : List WorkerShare) (ts : List (EndedSession S)) (answer : Option (FullAnswer S))
-      → IsDealt plan pool.capacity sources starts shares → AllZip (SessionRan seen) starts ts → MatchOption answer (IsOverfull plan ts) (λ c. FinishedAs plan ts c)
-      → MatchOption answer (AreTooLargeInContext seen plan sources) (λ c. FullHeadline seen sources plan pool c × FitsPlan plan c.table)
-  answered plan pool sources starts shares ts None d e f = overfull plan pool.capacity sources starts shares ts d e f
-  answered plan pool sources starts shares ts (Some c) d e f = finished plan pool sources starts shares ts c d e f
+  pub answered : (plan : PlanValue) (pool : Pool) (sources : List (InContext S)) (starts : List (Start S)) (shares : List WorkerShare) (ts : List (EndedSession S)) (answer : Result (FullAnswer S) CollectFailure)
+      → IsDealt plan pool.capacity sources starts shares → AllZip (SessionRan seen) starts ts → MatchResult answer (λ c. FinishedAs plan ts c) (IsOverfull plan ts)
+      → MatchResult answer (λ c. FullHeadline seen sources plan pool c × FitsPlan plan c.table) (IsLargeRun seen plan sources)
+  answered plan pool sources starts shares ts (Err failure) d e f = overfull plan pool.capacity sources starts shares ts failure d e f
+  answered plan pool sources starts shares ts (Ok c) d e f = finished plan pool sources starts shares ts c d e f

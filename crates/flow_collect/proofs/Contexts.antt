@@ -53,7 +53,7 @@ use Rattle.flow_collect.specs.declared.session_context.InContext.{InContext}
 use Rattle.flow_collect.specs.declared.session_context.SessionContext.{SessionContext}
 use Rattle.flow_collect.specs.declared.session_context.TheConstants.{NOTHING_WANTED}
 use Rattle.flow_collect.proofs.GivenLists.{first_of_text, too_large_lists}
-use Rattle.flow_collect.proofs.Limited.{given_all_within}
+use Rattle.ipfix_session.proofs.Unlimited.{given_all_within}
 
 -- ---- a sink that appends
 

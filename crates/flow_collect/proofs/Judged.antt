@@ -28,3 +28,12 @@ never_no_thread false false is = absurd (cc is)
 
 pub has_thread : (refuses : Bool) (reports : List FilteredReport) (fault : CollectFault) → Some fault ≡ sampling_fault refuses reports → fault ≡ NoThread → ⊥
 has_thread refuses reports fault is same = never_no_thread (tell_large reports) (refuses && tell_sampled reports) (cc (is, same))
+
+large_if_told : (large sampled : Bool) → Some SumTooLarge ≡ cond large (Some SumTooLarge) (cond sampled (Some Sampled) None) → large ≡ true
+large_if_told true sampled is = refl
+large_if_told false true is = absurd (cc is)
+large_if_told false false is = absurd (cc is)
+
+-- a sum that is too large by what sessions tell is an estimate
+pub large_told : (refuses : Bool) (reports : List FilteredReport) → Some SumTooLarge ≡ sampling_fault refuses reports → tell_large reports ≡ true
+large_told refuses reports is = large_if_told (tell_large reports) (refuses && tell_sampled reports) is

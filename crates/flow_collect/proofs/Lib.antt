@@ -1,4 +1,3 @@
-mod Limited
 pub mod PlaceLists
 pub mod GivenLists
 pub mod Large
@@ -7,6 +6,7 @@ mod Timed
 pub mod Contexts
 pub mod LargeRuns
 pub mod Judged
+pub mod Failures
 pub mod InFull
 pub mod SameRuns
 pub mod Settled

@@ -1,6 +1,7 @@
 -- What a session knows beside a record, as fields that follow the record's own, and which of its records count.
 use Rattle.std.specs.Prelude.{ℕ, Bool, true, false, List, [], ◌∷◌, ◌++◌, map, take, bytes_eq, Option, Some, None, if◌then◌else◌}
 use Rattle.std.specs.Int.{w32, to_be_bytes}
+use Rattle.std.specs.List.{list_any}
 use Rattle.std.specs.Net.Addr.{ipv4_octets, ipv6_octets, ipv6_segments, low_octets}
 use Rattle.std.specs.declared.net.ipv6_addr.Ipv6Addr.{Ipv6Addr}
 use Rattle.std.specs.declared.net.ip_addr.IpAddr.{IpAddr}
@@ -23,6 +24,7 @@ use Rattle.flow_times.specs.declared.notes.TimesReport.{TimesReport}
 use Rattle.flow_times.specs.declared.notes.TimeNoting.TheVariants.{Nothing}
 use Rattle.flow_table.specs.declared.context.Context.{Context}
 use Rattle.flow_table.specs.declared.context.TheConstants.{EXPORTER, EXPORTER_IPV4_ADDRESS, EXPORTER_IPV6_ADDRESS, OBSERVATION_DOMAIN_ID}
+use Rattle.flow_collect.specs.Great.{has_great}
 use Rattle.flow_collect.specs.Rated.{asked_after, noted_after, notes_first}
 use Rattle.flow_collect.specs.declared.session_context.Exporter.{Exporter}
 use Rattle.flow_collect.specs.declared.session_context.Exporter.TheVariants.{Ipv4, Ipv6}
@@ -78,7 +80,7 @@ all_with_context c records = map (with_context c) (all_told (asked_first c.optio
 
 -- nothing is known, and nothing is wanted
 abbrev pub nothing_known : SessionContext
-nothing_known = record { exporter = None; wanted = NOTHING_WANTED; options = told.NOTHING_WANTED; maps = None; estimates = None; refuses_sampled = false; times = Nothing; templates = None }
+nothing_known = record { exporter = None; wanted = NOTHING_WANTED; options = told.NOTHING_WANTED; maps = None; estimates = None; refuses_sampled = false; times = Nothing; great_counters = None; templates = None }
 
 -- how often a session reads at most, and what its templates may count
 abbrev pub limits_in : SessionContext → SessionLimits
@@ -111,6 +113,10 @@ module _ {S : Type 0} where
   -- and what is told of the times of those that it counts, if that is asked for
   abbrev pub times_in : InContext S → List DataRecord → TimesReport
   times_in s own = times_of s.context.times (counted_in s own)
+
+  -- whether one of those that it counts has a great counter, of those that are looked at
+  abbrev pub great_in : InContext S → List DataRecord → Bool
+  great_in s own = list_any (has_great s.context.great_counters) (counted_in s own)
 
   -- the records of these texts that count, each with what the session of its source knows: of a session with a limit of templates
   -- those before the message that is above it

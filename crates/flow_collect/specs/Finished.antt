@@ -11,9 +11,11 @@ use Rattle.flow_table.specs.Partials.{plan_of}
 use Rattle.flow_table.specs.Plans.{PlanValue}
 use Rattle.flow_table.specs.Tables.{IsTable, IsTooLarge}
 use Rattle.flow_collect.specs.LinkEnds.{StandsForLinkEnds, IsEnded}
+use Rattle.flow_collect.specs.Failures.{NamesLarge, large_failure}
 use Rattle.flow_collect.specs.InFull.{FullAnswer}
 use Rattle.flow_collect.specs.Places.{Each3}
 use Rattle.flow_collect.specs.Promises.{settled_records}
+use Rattle.flow_collect.specs.declared.failure.CollectFailure.{CollectFailure}
 use Rattle.flow_collect.specs.declared.session_thread.EndedSession.{EndedSession}
 use Rattle.flow_collect.specs.declared.settling.Parts.{Parts}
 use Rattle.flow_collect.specs.declared.worker.LinkEnd.{LinkEnd}
@@ -74,9 +76,11 @@ module _ {S : Type 0} where
     pub small : IsTooLarge plan records → ⊥
     pub fits : FitsPlan plan c.table
 
-  -- or these records are too large
-  pub record IsOverfull (plan : PlanValue) (ts : List (EndedSession S)) : Type 0 where
+  -- or these records are too large, in this row, and sessions tell this of great counters
+  pub record IsOverfull (plan : PlanValue) (ts : List (EndedSession S)) (failure : CollectFailure) : Type 0 where
     pub parts : Parts S
     pub records : List DataRecord
     pub came : CameOver ts parts records
     pub large : IsTooLarge plan records
+    pub row_is : NamesLarge plan records parts.sessions.items failure.row
+    pub failure_is : failure ≡ large_failure failure.row parts.sessions.items

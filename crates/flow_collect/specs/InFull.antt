@@ -18,7 +18,7 @@ use Rattle.flow_table.specs.SameTables.{IsSameTable}
 use Rattle.flow_table.specs.declared.table.Table.{Table}
 use Rattle.flow_filter.specs.Sinks.{counted}
 use Rattle.flow_filter.specs.declared.filter.Filter.{Filter}
-use Rattle.flow_collect.specs.Contexts.{all_in_context, counted_in, known_in, left_out_in, limits_in, noted_in, times_in}
+use Rattle.flow_collect.specs.Contexts.{all_in_context, counted_in, great_in, known_in, left_out_in, limits_in, noted_in, times_in}
 use Rattle.flow_collect.specs.Rated.{Tells}
 use Rattle.flow_collect.specs.Headline.{Answer, HeadlineWith, IsAddedUp, SerialHeadlineWith}
 use Rattle.flow_collect.specs.Places.{Each4}
@@ -64,7 +64,7 @@ module _ {S : Type 0} (seen : S → SourceView) where
 
   -- and with context: of the records that the source gave, each with what its session knows after its own fields, these are
   -- the ones that the session's filter counts, each once and in order; and the report tells how many others there were, and
-  -- at which rates those are sampled that count, and of their times
+  -- at which rates those are sampled that count, and of their times, and whether one has a great counter
   pub record IsGivenInContext (before : InContext S) (after : S) (told : FilteredReport) (records : List DataRecord) : Type 0 where
     pub own : List DataRecord
     pub given : IsGivenInFull before after told.full own
@@ -72,6 +72,7 @@ module _ {S : Type 0} (seen : S → SourceView) where
     pub filtered_is : told.filtered ≡ left_out_in before own
     pub sampling_is : Tells (known_in before own) (noted_in before own) told.sampling
     pub times_is : told.times ≡ times_in before own
+    pub great_is : told.is_great ≡ great_in before own
 
   -- the headline, if a worker gets these records
   abbrev pub FullHeadline : List (InContext S) → PlanValue → Pool → FullAnswer S → Type 0

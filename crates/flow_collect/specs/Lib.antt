@@ -2,11 +2,13 @@
 pub mod Places
 pub mod Rated
 pub mod Timed
+pub mod Great
 pub mod Contexts
 pub mod Headline
 pub mod InFull
 pub mod Texts
 pub mod Refusals
+pub mod Failures
 pub mod Faults
 pub mod Sends
 -- What only inner functions and proofs need.

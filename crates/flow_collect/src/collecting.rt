@@ -19,18 +19,20 @@
 //!              makes of Parts and the table what `collect_flat` answers, Collected.
 //! ```
 
-ghost use Rattle.std.specs.Prelude.{◌≡◌, None, IfOk, IfNone, MatchOption};
+ghost use Rattle.std.specs.Prelude.{◌≡◌, None, IfOk, IfErr, IfNone, MatchResult};
 ghost use Rattle.flow_table.specs.Fitting.{FitsPlan};
 ghost use Rattle.flow_collect.specs.Dealt.{IsCapacity};
+ghost use Rattle.flow_collect.specs.Failures.{fault_in, IsLargeRun, TellsLarge};
 ghost use Rattle.flow_collect.specs.InFull.{FullHeadline};
 ghost use Rattle.flow_collect.specs.Rated.{refuse_sampled, sampling_fault};
-ghost use Rattle.flow_collect.specs.Refusals.{fault_of_arguments, AreTooLargeInContext, HasFaultsInContext};
+ghost use Rattle.flow_collect.specs.Refusals.{fault_of_arguments, HasFaultsInContext};
 
 use crate::collected::{Collected, FilteredReport, MAX_SESSIONS, MAX_WORKERS, Pool};
 use crate::dealing::deal;
+use crate::failure::CollectFailure;
 use crate::fault::CollectFault;
 use crate::gate::Gate;
-use crate::judging::{refuse_sampled, sampling_fault};
+use crate::judging::{refuse_sampled, sampling_failure, sampling_fault};
 use crate::session_context::InContext;
 use crate::settling::finish_all;
 use crate::shortage::Shortage;
@@ -53,7 +55,7 @@ pub fn collect_flat<S: Source + Send + Drop, G: Gate + Sync, R: Threads + Wait +
     plan: &Plan,
     pool: Pool,
     gate: &G,
-) -> Result<Collected<S, FilteredReport, FlatTable>, CollectFault>
+) -> Result<Collected<S, FilteredReport, FlatTable>, CollectFailure>
     // The headline, with each session's context and filter, and each report in full.
     ensures ok { IfOk result (FullHeadline S.seen sources.entry.items plan.now pool) }
     // The table fits the plan, as an export asks.
@@ -62,20 +64,22 @@ pub fn collect_flat<S: Source + Send + Drop, G: Gate + Sync, R: Threads + Wait +
     ensures sampling { IfOk result (λ c. sampling_fault
         (refuse_sampled sources.entry.items) c.sessions.items ≡ None) }
     // Exactly the first fault of the arguments, if they have one; `SumTooLarge` and `Sampled` only if they are due.
-    ensures faults { HasFaultsInContext S.seen sources.entry plan.now pool result }
+    ensures faults { HasFaultsInContext S.seen sources.entry plan.now pool (fault_in result) }
+    // Where a sum is too large: in which row of the records that sessions gave, and which session tells of a great counter.
+    ensures large { IfErr result (TellsLarge S.seen plan.now sources.entry.items) }
 {
     if let Some(fault) = judge(pool, sources.len()) {
-        return Err(fault);
+        return Err(CollectFailure::only(fault));
     }
     let refuses = refuse_sampled(&sources);
     match collect_judged(rt, alloc, sources, plan, pool, gate) {
-        Ok(Some(collected)) => match sampling_fault(refuses, &collected.sessions) {
-            Some(fault) => Err(fault),
+        Ok(Ok(collected)) => match sampling_fault(refuses, &collected.sessions) {
+            Some(fault) => Err(sampling_failure(fault, &collected.sessions)),
             None => Ok(collected),
         },
-        Ok(None) => Err(CollectFault::SumTooLarge),
-        Err(Shortage::NoThread) => Err(CollectFault::NoThread),
-        Err(Shortage::OutOfMemory) => Err(CollectFault::OutOfMemory),
+        Ok(Err(failure)) => Err(failure),
+        Err(Shortage::NoThread) => Err(CollectFailure::only(CollectFault::NoThread)),
+        Err(Shortage::OutOfMemory) => Err(CollectFailure::only(CollectFault::OutOfMemory)),
     }
 }
 
@@ -104,7 +108,7 @@ fn judge(pool: Pool, sessions: usize) -> Option<CollectFault>
     None
 }
 
-// The same for arguments without a fault. `None` if a sum is too large.
+// The same for arguments without a fault.
 fn collect_judged<S: Source + Send + Drop, G: Gate + Sync, R: Threads + Wait + Sync>(
     rt: &R,
     alloc: Global,
@@ -112,10 +116,11 @@ fn collect_judged<S: Source + Send + Drop, G: Gate + Sync, R: Threads + Wait + S
     plan: &Plan,
     pool: Pool,
     gate: &G,
-) -> Result<Option<Collected<S, FilteredReport, FlatTable>>, Shortage>
+) -> Result<Result<Collected<S, FilteredReport, FlatTable>, CollectFailure>, Shortage>
     requires { IsCapacity pool.capacity }
-    ensures { IfOk result (λ answer. MatchOption answer (AreTooLargeInContext S.seen plan.now sources.entry.items)
-        (λ c. FullHeadline S.seen sources.entry.items plan.now pool c × FitsPlan plan.now c.table)) }
+    ensures { IfOk result (λ answer. MatchResult answer
+        (λ c. FullHeadline S.seen sources.entry.items plan.now pool c × FitsPlan plan.now c.table)
+        (IsLargeRun S.seen plan.now sources.entry.items)) }
 {
     let (starts, shares) = deal(alloc, sources, plan, pool)?;
     let (ended, worked) = in_threads(rt, alloc, gate, starts, shares)?;

@@ -67,10 +67,10 @@ impl<'a> ContextFields<'a> {
         ensures err { OnErr result (item.new ≡ item.old) }
     {
         if self.domain == item.domain {
-            return item.fields.extend_shared(&self.fields);
+            return item.fields.extend_shared(&mut self.fields);
         }
         self.fields = self.context.fields(self.alloc, item.domain)?.to_shared()?;
         self.domain = item.domain;
-        item.fields.extend_shared(&self.fields)
+        item.fields.extend_shared(&mut self.fields)
     }
 }

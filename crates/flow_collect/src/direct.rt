@@ -1,14 +1,16 @@
 //! Collecting without links.
 
-ghost use Rattle.std.specs.Prelude.{◌≡◌, None, IfOk, IsErrOf, MatchOption};
+ghost use Rattle.std.specs.Prelude.{◌≡◌, None, IfOk, IfErr, IsErrOf, MatchResult};
 ghost use Rattle.flow_table.specs.Fitting.{FitsPlan};
+ghost use Rattle.flow_collect.specs.Failures.{fault_in, IsLargeRun, TellsLarge};
 ghost use Rattle.flow_collect.specs.InFull.{FullSerialHeadline};
 ghost use Rattle.flow_collect.specs.Rated.{refuse_sampled, sampling_fault};
-ghost use Rattle.flow_collect.specs.Refusals.{fault_of_lots, AreTooLargeInContext, HasFaultsInLots};
+ghost use Rattle.flow_collect.specs.Refusals.{fault_of_lots, HasFaultsInLots};
 
 use crate::collected::{FilteredReport, MAX_WORKERS, Serial};
+use crate::failure::CollectFailure;
 use crate::fault::CollectFault;
-use crate::judging::{refuse_sampled, sampling_fault};
+use crate::judging::{refuse_sampled, sampling_failure, sampling_fault};
 use crate::lots::{Lot, drive_lots};
 use crate::session_context::InContext;
 use flow_table::{FlatTable, Plan, TableFault};
@@ -34,7 +36,7 @@ pub fn collect_direct<S: Source + Send + Drop, R: Threads + Sync>(
     sources: Vec<InContext<S>>,
     plan: &Plan,
     lots: usize,
-) -> Result<Serial<S, FilteredReport, FlatTable>, CollectFault>
+) -> Result<Serial<S, FilteredReport, FlatTable>, CollectFailure>
     // The headline, without links, with each session's context, and each report in full.
     ensures ok { IfOk result (FullSerialHeadline S.seen sources.entry.items plan.now) }
     // The table fits the plan, as an export asks.
@@ -43,21 +45,23 @@ pub fn collect_direct<S: Source + Send + Drop, R: Threads + Sync>(
     ensures sampling { IfOk result (λ s. sampling_fault
         (refuse_sampled sources.entry.items) s.sessions.items ≡ None) }
     // Exactly the first fault of the arguments, if they have one; `SumTooLarge` and `Sampled` only if they are due.
-    ensures faults { HasFaultsInLots S.seen sources.entry plan.now lots result }
+    ensures faults { HasFaultsInLots S.seen sources.entry plan.now lots (fault_in result) }
+    // Where a sum is too large, as `collect_flat` tells it.
+    ensures large { IfErr result (TellsLarge S.seen plan.now sources.entry.items) }
     // There is always a thread: this one.
-    ensures has_thread { IsErrOf result CollectFault.NoThread → ⊥ }
+    ensures has_thread { IsErrOf (fault_in result) CollectFault.NoThread → ⊥ }
 {
     if let Some(fault) = direct_refusal(lots, sources.len()) {
-        return Err(fault);
+        return Err(CollectFailure::only(fault));
     }
     let refuses = refuse_sampled(&sources);
     match collect_lots(rt, alloc, sources, plan, lots) {
-        Ok(Some(serial)) => match sampling_fault(refuses, &serial.sessions) {
-            Some(fault) => Err(fault),
+        Ok(Ok(serial)) => match sampling_fault(refuses, &serial.sessions) {
+            Some(fault) => Err(sampling_failure(fault, &serial.sessions)),
             None => Ok(serial),
         },
-        Ok(None) => Err(CollectFault::SumTooLarge),
-        Err(AllocError) => Err(CollectFault::OutOfMemory),
+        Ok(Err(failure)) => Err(failure),
+        Err(AllocError) => Err(CollectFailure::only(CollectFault::OutOfMemory)),
     }
 }
 
@@ -75,16 +79,17 @@ pub fn direct_refusal(lots: usize, sessions: usize) -> Option<CollectFault>
     None
 }
 
-// The same for arguments without a fault. `None` if a sum is too large.
+// The same for arguments without a fault.
 fn collect_lots<S: Source + Send + Drop, R: Threads + Sync>(
     rt: &R,
     alloc: Global,
     sources: Vec<InContext<S>>,
     plan: &Plan,
     lots: usize,
-) -> Result<Option<Serial<S, FilteredReport, FlatTable>>, AllocError>
-    ensures { IfOk result (λ answer. MatchOption answer (AreTooLargeInContext S.seen plan.now sources.entry.items)
-        (λ s. FullSerialHeadline S.seen sources.entry.items plan.now s × FitsPlan plan.now s.table)) }
+) -> Result<Result<Serial<S, FilteredReport, FlatTable>, CollectFailure>, AllocError>
+    ensures { IfOk result (λ answer. MatchResult answer
+        (λ s. FullSerialHeadline S.seen sources.entry.items plan.now s × FitsPlan plan.now s.table)
+        (IsLargeRun S.seen plan.now sources.entry.items)) }
 {
     // A lot has at least one source.
     let lots = lots.min(sources.len());
@@ -94,12 +99,13 @@ fn collect_lots<S: Source + Send + Drop, R: Threads + Sync>(
         sessions,
         partial,
     } = lot;
+    let row = partial.large_row()?;
     let table = match partial.finish_flat() {
         Ok(table) => table,
-        Err(TableFault::SumTooLarge) => return Ok(None),
+        Err(TableFault::SumTooLarge) => return Ok(Err(CollectFailure::large(row, &sessions))),
         Err(TableFault::OutOfMemory) => return Err(AllocError),
     };
-    Ok(Some(Serial {
+    Ok(Ok(Serial {
         sessions,
         sources,
         table,

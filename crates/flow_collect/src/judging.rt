@@ -1,9 +1,11 @@
 //! What sessions tell of sampling, and whether it makes that nothing is collected.
 
 ghost use Rattle.std.specs.Prelude.{◌≡◌};
+ghost use Rattle.flow_collect.specs.Failures as failures;
 ghost use Rattle.flow_collect.specs.Rated as rated;
 
 use crate::collected::FilteredReport;
+use crate::failure::CollectFailure;
 use crate::fault::CollectFault;
 use crate::session_context::InContext;
 
@@ -25,6 +27,16 @@ pub fn sampling_fault(refuses: bool, reports: &[FilteredReport]) -> Option<Colle
         Some(CollectFault::Sampled)
     } else {
         None
+    }
+}
+
+/// A fault of what sessions tell of sampling, and which session tells of a great counter, if it is a sum that is too large.
+pub fn sampling_failure(fault: CollectFault, reports: &[FilteredReport]) -> CollectFailure
+    ensures { result ≡ failures.sampling_failure fault reports.now }
+{
+    match fault {
+        CollectFault::SumTooLarge => CollectFailure::large(None, reports),
+        _ => CollectFailure::only(fault),
     }
 }
 

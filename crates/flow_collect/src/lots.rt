@@ -9,9 +9,10 @@ ghost use Rattle.flow_collect.specs.Serials.{LotRan, MergesLots, RunsOne};
 use crate::collected::FilteredReport;
 use crate::context_fields::ContextFields;
 use crate::context_sink::ContextSink;
+use crate::great_note::GreatNote;
+use crate::note_sink::NoteSink;
 use crate::rate_sink::{RateSink, first_notes};
 use crate::session_context::InContext;
-use crate::time_sink::TimeSink;
 use exporter_options::ToldFields;
 use flow_filter::FilterSink;
 use flow_table::{Partial, Plan, TableFault};
@@ -135,8 +136,9 @@ fn drive_one<S: Source + Drop>(
         mut sessions,
         partial,
     } = lot;
-    let times = TimeSink {
+    let times = NoteSink {
         notes: TimeNotes::new(context.times),
+        great: GreatNote::new(context.great_counters),
         sink: TableSink { partial },
     };
     let fields = ContextFields::new(alloc, context)?;
@@ -155,13 +157,14 @@ fn drive_one<S: Source + Drop>(
     let ContextSink { told, sink, .. } = sink;
     let FilterSink { filtered, sink, .. } = sink;
     let (sampling, times) = sink.finish(alloc, &told);
-    let TimeSink { notes, sink } = times;
+    let NoteSink { notes, great, sink } = times;
     sources.push(source)?;
     sessions.push(FilteredReport {
         full,
         filtered,
         sampling,
         times: notes.report(),
+        is_great: great.is_great,
     })?;
     let TableSink { partial } = sink;
     Ok(Lot {

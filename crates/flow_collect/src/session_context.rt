@@ -59,6 +59,8 @@ pub struct SessionContext<'a> {
     pub refuses_sampled: bool,
     /// What is noted of the times of the records that count.
     pub times: TimeNoting,
+    /// The counters of which it is told whether a record that counts has one above 2^63, if that is told.
+    pub great_counters: Option<&'a [ElementId]>,
     /// What the templates of the session may count, if they have a limit: 8 each and its field specifiers, and 16 each
     /// domain. A message after which they would count more ends the session.
     pub templates: Option<u64>,
@@ -84,6 +86,7 @@ pub fn no_context<'a>() -> SessionContext<'a>
         estimates: None,
         refuses_sampled: false,
         times: TimeNoting::Nothing,
+        great_counters: None,
         templates: None,
     }
 }

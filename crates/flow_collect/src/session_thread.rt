@@ -7,11 +7,12 @@ use crate::collected::FilteredReport;
 use crate::context_fields::ContextFields;
 use crate::context_sink::ContextSink;
 use crate::gate::Gate;
+use crate::great_note::GreatNote;
 use crate::link_sink::LinkSink;
+use crate::note_sink::NoteSink;
 use crate::rate_sink::{RateSink, first_notes};
 use crate::session_context::SessionContext;
 use crate::shortage::Shortage;
-use crate::time_sink::TimeSink;
 use exporter_options::ToldFields;
 use flow_filter::{Filter, FilterSink};
 use flow_link::Sender;
@@ -66,8 +67,9 @@ pub fn run_session<'x, S: Source + Drop, G: Gate, R: Wait>(
     let fields = ContextFields::new(alloc, context)?;
     let told = ToldFields::new(alloc, context.options)?;
     let notes = first_notes(alloc, context.options.sampling)?;
-    let times = TimeSink {
+    let times = NoteSink {
         notes: TimeNotes::new(context.times),
+        great: GreatNote::new(context.great_counters),
         sink: link,
     };
     let rates = RateSink::new(context.estimates, notes, times);
@@ -93,6 +95,7 @@ pub fn run_session<'x, S: Source + Drop, G: Gate, R: Wait>(
             filtered,
             sampling,
             times: times.notes.report(),
+            is_great: times.great.is_great,
         },
         source,
         sender: times.sink.sender,

@@ -50,7 +50,7 @@ pub fn collect<S: Source + Send + Drop, G: Gate + Sync, R: Threads + Wait + Sync
     let sources = in_no_context(alloc, sources)?;
     let collected = match collect_flat(rt, alloc, sources, plan, pool, gate) {
         Ok(collected) => collected,
-        Err(fault) => return Err(fault),
+        Err(failure) => return Err(failure.fault),
     };
     let short = without_rest(alloc, collected)?;
     Ok(short)

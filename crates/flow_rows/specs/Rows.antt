@@ -42,9 +42,6 @@ Small total = (q : List ℕ) (i : ℕ) → total q i < 2 ^ 64
 abbrev pub SomeTooLarge : (ℕ → ℕ) → Type 0
 SomeTooLarge f = (i : ℕ) × (2 ^ 64 ≤ f i)
 
-abbrev pub SomeTotalTooLarge : (List ℕ → ℕ → ℕ) → Type 0
-SomeTotalTooLarge total = (q : List ℕ) × SomeTooLarge (total q)
-
 -- a key is below those of all rows
 abbrev pub Above : List ℕ → List Row → Type 0
 Above k [] = Unit {0}

@@ -39,11 +39,21 @@ fn join(high: u64, low: u64) -> u128
     (high as u128) * 18_446_744_073_709_551_616 + (low as u128)
 }
 
-/// How two words compare with two others, with no branch.
-pub fn order_two(a: &[u64], b: &[u64]) -> Ordering
-    requires a_length { length a.now ≡ 2 }
-    requires b_length { length b.now ≡ 2 }
+/// How two keys compare, two words at a time and with no branch that hangs on a word: a sort asks it
+/// of keys whose order no processor foretells.
+#[inline(always)]
+pub fn order_words(a: &[u64], b: &[u64]) -> Ordering
+    requires { length a.now ≡ length b.now }
     ensures { result ≡ words_cmp a.now b.now }
 {
-    join(a[0], a[1]).cmp(&join(b[0], b[1]))
+    let mut order = Ordering::Equal;
+    for i in 0..a.len() / 2 {
+        let at = 2 * i;
+        order = order.then(join(a[at], a[at + 1]).cmp(&join(b[at], b[at + 1])));
+    }
+    if a.len() % 2 == 1 {
+        let last = a.len() - 1;
+        order = order.then(a[last].cmp(&b[last]));
+    }
+    order
 }

@@ -3,7 +3,7 @@
 ghost use Rattle.std.specs.Prelude.{◌≡◌, ℕ, ◌+◌, ◌^◌, ◌<◌, ◌≤◌, MatchOption, length, slice_index_or};
 ghost use Rattle.flow_rows.specs.Rows.{SomeTooLarge, added, row, row_sum, words_cmp};
 
-use crate::numbers::{greatest, greatest_sum, order_two};
+use crate::numbers::{greatest, greatest_sum, order_words};
 use std::cmp::Ordering;
 use std::marker::Model;
 
@@ -50,11 +50,7 @@ impl<const K: usize, const C: usize> Piece<K, C> {
     pub fn order(&self, other: &Piece<K, C>) -> Ordering
         ensures { result ≡ words_cmp self.now.key other.now.key }
     {
-        if K == 2 {
-            order_two(&self.key, &other.key)
-        } else {
-            self.key.cmp(&other.key)
-        }
+        order_words(&self.key, &other.key)
     }
 
     /// Its greatest number.

@@ -1,7 +1,7 @@
 //! Rows by key: a pile of rows, and runs of rows with a very great number that lie apart.
 
 ghost use Rattle.std.specs.Prelude.{◌≡◌, ℕ, ◌+◌, ◌*◌, ◌^◌, ◌<◌, ◌≤◌, List, IfOk, IsErrOf, OnOk, OnErr, slice_index_or};
-ghost use Rattle.flow_rows.specs.Rows.{IsRun, Small, SomeTooLarge, SomeTotalTooLarge, part, total_at};
+ghost use Rattle.flow_rows.specs.Rows.{IsRun, Small, SomeTooLarge, part, total_at};
 ghost use Rattle.flow_rows.specs.declared.table.AddError.TheVariants.{SumTooLarge};
 
 use crate::adding::add_row;
@@ -18,6 +18,17 @@ pub enum AddError {
     /// A sum would reach 2^64.
     SumTooLarge,
     OutOfMemory,
+}
+
+// The fault of a key of which a sum is too large, whose words are left in `key`.
+fn too_large(words: &[u64], key: &mut Vec<u64>) -> AddError
+    ensures { result ≡ SumTooLarge → key.new.items ≡ words.now }
+{
+    key.clear();
+    match key.extend_from_slice(words) {
+        Ok(()) => AddError::SumTooLarge,
+        Err(_) => AddError::OutOfMemory,
+    }
 }
 
 /// Rows by key: what is added to one key is added up.
@@ -90,14 +101,18 @@ impl<const K: usize, const C: usize> FlatRows<K, C> {
         merge_two(rows, great)
     }
 
-    /// The rows of both tables.
-    pub fn merge(self, other: FlatRows<K, C>) -> Result<FlatRows<K, C>, AddError>
+    /// The rows of both tables. After `SumTooLarge` a sum of the key whose words are left in `key` would reach 2^64.
+    pub fn merge(
+        self,
+        other: FlatRows<K, C>,
+        key: &mut Vec<u64>,
+    ) -> Result<FlatRows<K, C>, AddError>
         requires fits { 8 * K + 8 * C < 2 ^ 63 }
         ensures total { IfOk result (λ both. (q : List ℕ) (i : ℕ)
             → total_at both q i ≡ total_at self.entry q i + total_at other.entry q i) }
         ensures small { IfOk result (λ both. Small (total_at both)) }
-        ensures too_large { IsErrOf result SumTooLarge
-            → SomeTotalTooLarge (λ q i. total_at self.entry q i + total_at other.entry q i) }
+        ensures too_large { IsErrOf result SumTooLarge → SomeTooLarge (λ i.
+            total_at self.entry key.new.items i + total_at other.entry key.new.items i) }
     {
         let alloc = self.alloc;
         let (bound, other_bound) = (self.bound(), other.bound());
@@ -107,8 +122,9 @@ impl<const K: usize, const C: usize> FlatRows<K, C> {
         let Ok(other_rows) = other.finish() else {
             return Err(AddError::OutOfMemory);
         };
-        let Some(both_bound) = merged_bound(&rows, &other_rows, bound, other_bound) else {
-            return Err(AddError::SumTooLarge);
+        let both_bound = match merged_bound(&rows, &other_rows, bound, other_bound) {
+            Ok(both_bound) => both_bound,
+            Err(large) => return Err(too_large(&large, key)),
         };
         let Ok(both) = merge_two(rows, other_rows) else {
             return Err(AddError::OutOfMemory);

@@ -1,5 +1,5 @@
 -- Sums and numbers of flows over lists of records, in whatever order.
-use Rattle.std.proofs.Common.{◌≡◌, ℕ, ◌+◌, ◌≤◌, inl, inr, Bool, true, false, cond, List, [], ◌∷◌, ◌++◌, length, length-append, map, sum_by, filter, refl, sym, ap, ◌∙◌, arith}
+use Rattle.std.proofs.Common.{◌≡◌, ℕ, ◌+◌, ◌^◌, ◌≤◌, inl, inr, Bool, true, false, cond, List, [], ◌∷◌, ◌++◌, length, length-append, map, sum_by, filter, refl, sym, ap, ◌∙◌, arith}
 use Rattle.std.specs.List.{range_with_len}
 use Rattle.std.proofs.lemmas.List.Sums.{sum_by-append, sum_by-cons, length-filter}
 use Rattle.std.proofs.lemmas.List.Elements.{filter-append, All-weaker}
@@ -17,7 +17,7 @@ use Rattle.flow_table.specs.Missing.{how_many, lacks_start, lacks_end, lacks_key
 use Rattle.flow_table.specs.declared.plan.TheConstants.{MAX_KEYS, MAX_COUNTERS}
 use Rattle.flow_table.specs.Plans.{PlanValue}
 use Rattle.flow_table.specs.Reading.{is_class, class_of}
-use Rattle.flow_table.specs.Tables.{count_of, tally_of, contributes, share_of, sum_at, flows_at, IsTooLarge, IsRow, IsTable}
+use Rattle.flow_table.specs.Tables.{count_of, tally_of, contributes, share_of, sum_at, flows_at, AreTooMany, IsTooLarge, IsTooLargeAt, IsRow, IsTable}
 use Rattle.flow_table.proofs.Lacking.{same_missing}
 use Rattle.flow_table.proofs.Sums.{same_map}
 
@@ -115,6 +115,17 @@ too_large_bag plan rs qs h =
     (λ k key c. ≤-same _ _ (sum_at-bag plan rs qs h k key c))
     (λ k key. ≤-same _ _ (flows_at-bag plan rs qs h k key))
     (λ class. ≤-same _ _ (count_of-bag plan rs qs h class))
+
+pub large_place-bag : (plan : PlanValue) (rs qs : List DataRecord) → IsSameBag rs qs → (k : ℕ) (key : List Cell) → IsTooLargeAt plan rs k key → IsTooLargeAt plan qs k key
+large_place-bag plan rs qs h k key (inl large) =
+    let big : 2 ^ 64 ≤ sum_at plan rs k key large.0 = large.2 in
+    inl (large.0, large.1, omega (arith, sum_at-bag plan rs qs h k key large.0))
+large_place-bag plan rs qs h k key (inr large) = inr (omega (arith, flows_at-bag plan rs qs h k key))
+
+pub too_many-bag : (plan : PlanValue) (rs qs : List DataRecord) → IsSameBag rs qs → AreTooMany plan rs → AreTooMany plan qs
+too_many-bag plan rs qs h many =
+    let big : 2 ^ 64 ≤ count_of plan rs many.0 = many.1 in
+    (many.0, omega (arith, count_of-bag plan rs qs h many.0))
 
 pub too_large_more : (plan : PlanValue) (rs qs : List DataRecord) → IsTooLarge plan rs → IsTooLarge plan (rs ++ qs)
 too_large_more plan rs qs = too_large-grows plan rs (rs ++ qs) (sum_at-more plan rs qs) (flows_at-more plan rs qs) (count_of-more plan rs qs)

@@ -13,17 +13,19 @@ use Rattle.flow_table.specs.declared.table_fault.TableFault.{TableFault}
 use Rattle.flow_table.specs.declared.table_fault.TableFault.TheVariants.{OutOfMemory, SumTooLarge}
 use Rattle.flow_table.specs.declared.reading.Reading.TheVariants.{Left}
 use Rattle.flow_table.specs.Fitting.{KeysFit}
-use Rattle.flow_table.specs.Flows.{flow_part}
+use Rattle.flow_table.specs.Flows.{AtLast, flow_part}
 use Rattle.flow_table.specs.LeftOut.{class_in, IsLeftOut}
 use Rattle.flow_table.specs.Missing.{missing_of, missing_sum, IsSmall}
 use Rattle.flow_table.specs.Plans.{PlanValue}
 use Rattle.flow_table.specs.Reading.{class_of, counter_of, IsUsed}
-use Rattle.flow_rows.specs.Rows.{Small, SomeTotalTooLarge}
+use Rattle.flow_rows.specs.Rows.{Small, SomeTooLarge}
 use Rattle.flow_table.specs.Rows.{AreAlike, AreRowsOf, kept_at, number_at, width_of}
+use Rattle.flow_table.specs.Words.{key_from}
+use Rattle.flow_table.specs.declared.adding.Room.{Room}
 use Rattle.flow_table.specs.declared.rows.Rows.{Rows}
 use Rattle.ipfix_message.specs.Outcome.{unless}
-use Rattle.flow_table.specs.Partials.{totals_at, HoldsTable, NotesMore, StandsBy, tally_sum, one_of, count_in, tally}
-use Rattle.flow_table.specs.Tables.{count_of, flows_at, tally_of, IsTooLarge}
+use Rattle.flow_table.specs.Partials.{totals_at, HoldsTable, LargeWith, NotesMore, StandsBy, tally_sum, one_of, count_in, tally}
+use Rattle.flow_table.specs.Tables.{count_of, flows_at, tally_of, AreTooMany, IsTooLarge}
 use Rattle.flow_table.specs.Totals.{Total, joined, IsLargeAt}
 use Rattle.flow_table.proofs.Fits.{no_keys_fit, read_keys_fit, both_keys_fit}
 use Rattle.flow_table.proofs.Bags.{turned, too_large_bag, too_large_more as too_large_stay}
@@ -81,11 +83,11 @@ too_large_sum plan old before rs qs holds large =
     (subst IsLargeAt (ap (λ (o : Option Total). joined o (totals_at plan qs k q)) (holds.totals_are k q) ∙ sym (totals_at-append plan rs qs k q)) large.2)
 
 pub count_too_large : (plan : PlanValue) (old : Rows) (before more : Tally) (rs qs : List DataRecord) → HoldsTable plan old before rs → more ≡ tally_of plan qs
-    → (class : Class) × (2 ^ 64 ≤ count_in before class + count_in more class) → IsTooLarge plan (rs ++ qs)
+    → (class : Class) × (2 ^ 64 ≤ count_in before class + count_in more class) → AreTooMany plan (rs ++ qs)
 count_too_large plan old before more rs qs holds is large =
     let class = large.0 in
     let big : 2 ^ 64 ≤ count_in before class + count_in more class = large.1 in
-    inr (inr (class, omega (arith, big, ap (λ (t : Tally). count_in t class) holds.tally_is, ap (λ (t : Tally). count_in t class) is, count_in-tally plan rs class, count_in-tally plan qs class, count_of-append plan rs qs class)))
+    (class, omega (arith, big, ap (λ (t : Tally). count_in t class) holds.tally_is, ap (λ (t : Tally). count_in t class) is, count_in-tally plan rs class, count_in-tally plan qs class, count_of-append plan rs qs class))
 
 -- ---- one record
 
@@ -152,14 +154,15 @@ pub flow_ok : (plan : PlanValue) (r : DataRecord) (s e : ℕ) (key : List Cell) 
 flow_ok plan r s e key counters old new (Ok x) used c_is step = λ k q. step k q ∙ ap (λ (o : Option Total). joined (old k q) o) (flow_words plan r s e key counters used c_is k q)
 flow_ok plan r s e key counters old new (Err x) used c_is step = tt
 
-pub flow_large : (plan : PlanValue) (r : DataRecord) (s e : ℕ) (key : List Cell) (counters : List ℕ) (old : ℕ → List Cell → Option Total) (a : Result (Unit {0}) TableFault)
-    → IsUsed plan r s e key → counters ≡ map (λ c. counter_of c r) plan.counters
-    → IfErr a (λ f. f ≡ SumTooLarge → (k : ℕ) × (q : List Cell) × IsLargeAt (joined (old k q) (flow_part plan s e key counters k q)))
-    → IfErr a (λ f. f ≡ SumTooLarge → (k : ℕ) × (q : List Cell) × IsLargeAt (joined (old k q) (totals_at plan (r ∷ []) k q)))
-flow_large plan r s e key counters old (Ok x) used c_is large = tt
-flow_large plan r s e key counters old (Err x) used c_is large = λ same.
+pub flow_large : (plan : PlanValue) (r : DataRecord) (s e : ℕ) (key : List Cell) (counters : List ℕ) (old : Rows) (room : Room) (a : Result (Unit {0}) TableFault)
+    → IsUsed plan r s e key → counters ≡ map (λ c. counter_of c r) plan.counters → key_from plan.kinds room.words.items ≡ key
+    → IfErr a (λ f. f ≡ SumTooLarge → AtLast room (λ k. IsLargeAt (joined (kept_at plan old k key) (flow_part plan s e key counters k key))))
+    → IfErr a (λ f. f ≡ SumTooLarge → LargeWith plan old (totals_at plan (r ∷ [])) room)
+flow_large plan r s e key counters old room (Ok x) used c_is key_is large = tt
+flow_large plan r s e key counters old room (Err x) used c_is key_is large = λ same.
     let at = large same in
-    (at.0, at.1, subst (λ (o : Option Total). IsLargeAt (joined (old at.0 at.1) o)) (flow_words plan r s e key counters used c_is at.0 at.1) at.2)
+    let here = subst (λ (o : Option Total). IsLargeAt (joined (kept_at plan old at.0 key) o)) (flow_words plan r s e key counters used c_is at.0 key) at.2 in
+    (at.0, at.1, subst (λ (q : List Cell). IsLargeAt (joined (kept_at plan old at.0 q) (totals_at plan (r ∷ []) at.0 q))) (sym key_is) here)
 
 -- ---- one record taken
 
@@ -186,7 +189,7 @@ counts_itself TooLong = refl
 counts_itself Used = refl
 
 pub one_too_many : (plan : PlanValue) (rows : Rows) (before : Tally) (rs : List DataRecord) (r : DataRecord) (class : Class) → class_of plan r ≡ class → HoldsTable plan rows before rs
-    → 2 ^ 64 ≤ count_in before class + 1 → IsTooLarge plan (rs ++ r ∷ [])
+    → 2 ^ 64 ≤ count_in before class + 1 → AreTooMany plan (rs ++ r ∷ [])
 one_too_many plan rows before rs r class is holds big =
     count_too_large plan rows before (one_of class) rs (r ∷ []) holds (one_is_tally plan r class is) (class, subst (λ n. 2 ^ 64 ≤ count_in before class + n) (counts_itself class) big)
 
@@ -201,11 +204,18 @@ merged_holds plan old others new before more after rs qs a b same sum counts ali
     (λ k q fits. kept_small plan new k q small)
     (sum ∙ ap (λ (t : Tally). tally_sum before t) b.tally_is) counts
 
-pub merged_large : (plan : PlanValue) (old others : Rows) (before more : Tally) (rs qs : List DataRecord) → HoldsTable plan old before rs → HoldsTable plan others more qs → width_of old ≡ width_of others
-    → SomeTotalTooLarge (λ q i. number_at old q i + number_at others q i) → IsTooLarge plan (rs ++ qs)
-merged_large plan old others before more rs qs a b same large =
-    let at = merge_large plan old others a.of_plan b.of_plan same large in
-    too_large_sum plan old before rs qs a (at.0, at.1, subst (λ (o : Option Total). IsLargeAt (joined (kept_at plan old at.0 at.1) o)) (b.totals_are at.0 at.1) at.2)
+pub merged_large : (plan : PlanValue) (old others : Rows) (before more : Tally) (rs qs : List DataRecord) (room : Room) → HoldsTable plan old before rs → HoldsTable plan others more qs → width_of old ≡ width_of others
+    → (words : List ℕ) → ((k : ℕ) (later : List ℕ) → words ≡ k ∷ later → (room.last ≡ Some k) × (room.words.items ≡ later))
+    → SomeTooLarge (λ i. number_at old words i + number_at others words i) → LargeWith plan old (totals_at plan qs) room
+merged_large plan old others before more rs qs room a b same words split large =
+    let at = merge_large plan old others a.of_plan b.of_plan same words large in
+    let halves = split at.interval at.others at.are in
+    let key = key_from plan.kinds at.others in
+    let both = subst (λ (o : Option Total). IsLargeAt (joined (kept_at plan old at.interval key) o)) (b.totals_are at.interval key) at.large in (
+      at.interval,
+      halves.0,
+      subst (λ (ws : List ℕ). IsLargeAt (joined (kept_at plan old at.interval (key_from plan.kinds ws)) (totals_at plan qs at.interval (key_from plan.kinds ws)))) (sym halves.1) both,
+    )
 
 -- more records before those that are too many
 too_large_behind : (plan : PlanValue) (rs qs : List DataRecord) → IsTooLarge plan qs → IsTooLarge plan (rs ++ qs)

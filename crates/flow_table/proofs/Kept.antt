@@ -6,7 +6,7 @@ use Rattle.std.specs.declared.cmp.Ordering.TheVariants.{Less, Equal, Greater}
 use Rattle.std.proofs.lemmas.Bool.{cases_lt}
 use Rattle.std.proofs.lemmas.Bool.Decides.{eqb_tells}
 use Rattle.std.proofs.lemmas.Cmp.{nat_list_cmp_total, tied_itself}
-use Rattle.flow_rows.specs.Rows.{Row as FlatRow, Small, SomeTooLarge, SomeTotalTooLarge, part, words_cmp}
+use Rattle.flow_rows.specs.Rows.{Row as FlatRow, Small, SomeTooLarge, part, words_cmp}
 use Rattle.flow_rows.proofs.Additive.{keys_same}
 use Rattle.flow_rows.proofs.Found.{part_other}
 use Rattle.flow_rows.proofs.Within.{part_own}
@@ -309,6 +309,13 @@ module _ (plan : PlanValue) (old new : Rows) (k0 : ℕ) (q0 : List Cell) (ws : L
 
 -- ---- the rows of others
 
+-- the words are those of an interval and a key, whose totals in both are too large together
+pub record IsLargePlace (plan : PlanValue) (a b : Rows) (words : List ℕ) : Type 0 where
+  pub interval : ℕ
+  pub others : List ℕ
+  pub are : words ≡ interval ∷ others
+  pub large : IsLargeAt (joined (kept_at plan a interval (key_from plan.kinds others)) (kept_at plan b interval (key_from plan.kinds others)))
+
 module _ (plan : PlanValue) (a b : Rows) (of : AreRowsOf plan a) (others : AreRowsOf plan b) (same : width_of a ≡ width_of b) where
   pub merge_keeps : (both : Rows) → AreAlike both a → ((q : List ℕ) (i : ℕ) → number_at both q i ≡ number_at a q i + number_at b q i) → AreRowsOf plan both
   merge_keeps both alike sum =
@@ -356,15 +363,25 @@ module _ (plan : PlanValue) (a b : Rows) (of : AreRowsOf plan a) (others : AreRo
     | inr g ↦ g
   ]
 
-  pub merge_large : SomeTotalTooLarge (λ q i. number_at a q i + number_at b q i) → (k : ℕ) × (q : List Cell) × IsLargeAt (joined (kept_at plan a k q) (kept_at plan b k q))
+  -- where a number is too large, the words are those of an interval and a key whose totals are
+  pub merge_large : (q : List ℕ) → SomeTooLarge (λ i. number_at a q i + number_at b q i) → IsLargePlace plan a b q
   unfolding kept_at
-  merge_large large =
-      let q = large.0 in
-      let i = large.1.0 in
-      let big : 2 ^ 64 ≤ number_at a q i + number_at b q i = large.1.1 in
+  merge_large q large =
+      let i = large.0 in
+      let big : 2 ^ 64 ≤ number_at a q i + number_at b q i = large.1 in
       let some = some_counted q i (omega arith) in
       let p = place_in q some in
       let f : List ℕ → ℕ → ℕ = λ r j. number_at a r j + number_at b r j in
       let there : IsLargeAt (total_of_numbers (length plan.counters) (f (padded (width_of a) p.words))) =
       subst (λ (r : List ℕ). IsLargeAt (total_of_numbers (length plan.counters) (f r))) p.padded_are (numbers_large (length plan.counters) (f q) i some (few q i (omega arith)) big) in
-      (p.interval, p.key, subst (λ (o : Option (List ℕ)). IsLargeAt (joined (kept_by plan a o) (kept_by plan b o))) (sym p.are) (subst IsLargeAt (sums_by f (λ r j. refl) p.words) there))
+      let here : IsLargeAt (joined (kept_by plan a (place_words plan p.interval p.key)) (kept_by plan b (place_words plan p.interval p.key))) =
+      subst (λ (o : Option (List ℕ)). IsLargeAt (joined (kept_by plan a o) (kept_by plan b o))) (sym p.are) (subst IsLargeAt (sums_by f (λ r j. refl) p.words) there) in
+      let split = spread_out plan (width_of a) p.interval p.key p.words of.wide p.are in
+      let zeros = padded (width_of a - suc (word_count plan.kinds)) [] in
+      record {
+        interval = p.interval;
+        others = split.0 ++ zeros;
+        are = p.padded_are ∙ split.2;
+        large = subst (λ (cells : List Cell). IsLargeAt (joined (kept_by plan a (place_words plan p.interval cells)) (kept_by plan b (place_words plan p.interval cells))))
+            (sym (key_back plan.kinds p.key split.0 zeros split.1)) here;
+      }

@@ -31,6 +31,7 @@ pub mod RowsHeld
 pub mod FlatTables
 pub mod RowsAdded
 pub mod Holding
+pub mod Named
 pub mod TablesAdded
 pub mod Counting
 pub mod CounterKinds

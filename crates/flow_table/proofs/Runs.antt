@@ -67,14 +67,14 @@ run_none init f first key k q =
 -- a place without room
 pub run_large : (init old : ℕ → List Cell → Option Total) (f : ℕ → Total) (first end i : ℕ) (key : List Cell) → first ≤ i → i < end
     → ((k : ℕ) (q : List Cell) → old k q ≡ joined (init k q) (run_part first i key f k q))
-    → IsLargeAt (joined (old i key) (Some (f i))) → (k : ℕ) × (q : List Cell) × IsLargeAt (joined (init k q) (run_part first end key f k q))
+    → IsLargeAt (joined (old i key) (Some (f i))) → IsLargeAt (joined (init i key) (run_part first end key f i key))
 run_large init old f first end i key low high before big =
     let not_yet : is_in_run first i i ≡ false = above_run first i i (omega arith) in
     let in_it : is_in_run first end i ≡ true = in_run first end i low high in
     let was : old i key ≡ init i key = before i key ∙ ap (λ (b : Bool). joined (init i key) (cond b (part_at key (f i) key) None)) not_yet in
     let at : joined (init i key) (run_part first end key f i key) ≡ joined (init i key) (Some (f i)) =
     ap (λ (b : Bool). joined (init i key) (cond b (part_at key (f i) key) None)) in_it ∙ ap (λ (b : Bool). joined (init i key) (cond b (Some (f i)) None)) (itself is_same_key keys_tell key) in
-    (i, key, subst IsLargeAt (ap (λ (o : Option Total). joined o (Some (f i))) was ∙ sym at) big)
+    subst IsLargeAt (ap (λ (o : Option Total). joined o (Some (f i))) was ∙ sym at) big
 
 -- the intervals of a run
 pub in_range : (a n k : ℕ) → list_any (nat_eq k) (range_with_len a n) ≡ is_in_run a (a + n) k
@@ -103,11 +103,11 @@ flow_is plan s e key counters first n k q is =
     sym (ap (λ (ks : List ℕ). cond (list_any (nat_eq k) ks) (part_at key (flow_total plan s e counters k) q) None) is
     ∙ ap (λ (b : Bool). cond b (part_at key (flow_total plan s e counters k) q) None) (in_range first n k))
 
-pub run_whole : (plan : PlanValue) (s e : ℕ) (key : List Cell) (counters : List ℕ) (init : ℕ → List Cell → Option Total) (first n : ℕ) → covers plan s e ≡ range_with_len first n
-    → (k : ℕ) × (q : List Cell) × IsLargeAt (joined (init k q) (run_part first (first + n) key (flow_total plan s e counters) k q))
-    → (k : ℕ) × (q : List Cell) × IsLargeAt (joined (init k q) (flow_part plan s e key counters k q))
-run_whole plan s e key counters init first n is large =
-    (large.0, large.1, subst (λ (o : Option Total). IsLargeAt (joined (init large.0 large.1) o)) (flow_is plan s e key counters first n large.0 large.1 is) large.2)
+pub run_whole : (plan : PlanValue) (s e : ℕ) (key : List Cell) (counters : List ℕ) (init : ℕ → List Cell → Option Total) (first n k : ℕ) → covers plan s e ≡ range_with_len first n
+    → IsLargeAt (joined (init k key) (run_part first (first + n) key (flow_total plan s e counters) k key))
+    → IsLargeAt (joined (init k key) (flow_part plan s e key counters k key))
+run_whole plan s e key counters init first n k is large =
+    subst (λ (o : Option Total). IsLargeAt (joined (init k key) o)) (flow_is plan s e key counters first n k key is) large
 
 pub run_done : (plan : PlanValue) (s e : ℕ) (key : List Cell) (counters : List ℕ) (init new : ℕ → List Cell → Option Total) (first n i : ℕ) → covers plan s e ≡ range_with_len first n → i ≡ first + n
     → ((k : ℕ) (q : List Cell) → new k q ≡ joined (init k q) (run_part first i key (flow_total plan s e counters) k q))

@@ -16,12 +16,12 @@ use Rattle.flow_table.specs.Reading.{class_of, is_class, counter_of, IsUsed}
 use Rattle.flow_table.specs.Rows.{is_same_key}
 use Rattle.flow_table.specs.Flows.{shares_of, flow_total, flow_part}
 use Rattle.flow_table.specs.Partials.{totals_at, tally, tally_sum, one_of}
-use Rattle.flow_table.specs.Tables.{count_of, tally_of, begin_of, finish_of, contributes, share_of, sum_at, flows_at, IsTooLarge}
+use Rattle.flow_table.specs.Tables.{count_of, tally_of, begin_of, finish_of, contributes, share_of, sum_at, flows_at, IsTooLarge, IsTooLargeAt}
 use Rattle.flow_table.specs.Totals.{Total, total, added, joined, HasLarge, IsLarge, IsLargeAt}
 
 -- ---- one list after the other
 
-sum_at-append : (plan : PlanValue) (rs qs : List DataRecord) (k : ℕ) (key : List Cell) (c : ElementId) → sum_at plan (rs ++ qs) k key c ≡ sum_at plan rs k key c + sum_at plan qs k key c
+pub sum_at-append : (plan : PlanValue) (rs qs : List DataRecord) (k : ℕ) (key : List Cell) (c : ElementId) → sum_at plan (rs ++ qs) k key c ≡ sum_at plan rs k key c + sum_at plan qs k key c
 unfolding sum_at
 sum_at-append plan rs qs k key c =
     ap (λ (ps : List DataRecord). sum_by (share_of plan k c) ps) (filter-append (contributes plan k key) rs qs)
@@ -120,17 +120,24 @@ large_at f (d ∷ cs) c (suc i) lt is big = inr (large_at f cs c i (omega arith)
 abbrev WithTotals : PlanValue → List DataRecord → ℕ → List Cell → Bool → Type 0
 WithTotals plan rs k key b = IsLargeAt (cond b None (Some (total (map (sum_at plan rs k key) plan.counters) (flows_at plan rs k key))))
 
-from_large : (plan : PlanValue) (rs : List DataRecord) (k : ℕ) (key : List Cell) → IsLarge (total (map (sum_at plan rs k key) plan.counters) (flows_at plan rs k key)) → HasTooLargeRow plan rs
-from_large plan rs k key (inl l) = let at = large_in (sum_at plan rs k key) plan.counters l in inl (k, key, at.0, at.1, at.2)
-from_large plan rs k key (inr l) = inr (k, key, l)
+from_large : (plan : PlanValue) (rs : List DataRecord) (k : ℕ) (key : List Cell) → IsLarge (total (map (sum_at plan rs k key) plan.counters) (flows_at plan rs k key)) → IsTooLargeAt plan rs k key
+from_large plan rs k key (inl l) = inl (large_in (sum_at plan rs k key) plan.counters l)
+from_large plan rs k key (inr l) = inr l
 
-pub too_large_row_at : (plan : PlanValue) (rs : List DataRecord) (k : ℕ) (key : List Cell) → IsLargeAt (totals_at plan rs k key) → HasTooLargeRow plan rs
+pub large_place : (plan : PlanValue) (rs : List DataRecord) (k : ℕ) (key : List Cell) → IsLargeAt (totals_at plan rs k key) → IsTooLargeAt plan rs k key
 unfolding totals_at
-too_large_row_at plan rs k key big =
+large_place plan rs k key big =
     elim (eqb_tells (flows_at plan rs k key) 0) [
       | inl y ↦ absurd (subst (WithTotals plan rs k key) y.0 big)
       | inr n ↦ from_large plan rs k key (subst (WithTotals plan rs k key) n.0 big)
     ]
+
+row_of_place : (plan : PlanValue) (rs : List DataRecord) (k : ℕ) (key : List Cell) → IsTooLargeAt plan rs k key → HasTooLargeRow plan rs
+row_of_place plan rs k key (inl large) = inl (k, key, large.0, large.1, large.2)
+row_of_place plan rs k key (inr large) = inr (k, key, large)
+
+pub too_large_row_at : (plan : PlanValue) (rs : List DataRecord) (k : ℕ) (key : List Cell) → IsLargeAt (totals_at plan rs k key) → HasTooLargeRow plan rs
+too_large_row_at plan rs k key big = row_of_place plan rs k key (large_place plan rs k key big)
 
 pub too_large_of_row : (plan : PlanValue) (rs : List DataRecord) → HasTooLargeRow plan rs → IsTooLarge plan rs
 too_large_of_row plan rs (inl large) = inl large

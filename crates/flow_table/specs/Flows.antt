@@ -48,6 +48,10 @@ read_total plan flow room k = flow_total plan flow.span.start flow.span.end room
 abbrev pub read_part : PlanValue → Flow → Room → List Cell → ℕ → List Cell → Option Total
 read_part plan flow room key k q = flow_part plan flow.span.start flow.span.end key room.counters.items k q
 
+-- there is an interval that was added to last, and of it this holds
+abbrev pub AtLast : Room → (ℕ → Type 0) → Type 0
+AtLast room P = (k : ℕ) × (room.last ≡ Some k) × P k
+
 -- with the key whose words were read, and rows of the plan
 abbrev pub WithKey : PlanValue → Rows → Room → (List Cell → Type 0) → Type 0
 WithKey plan rows room P = (key : List Cell) → key_words plan.kinds key ≡ Some room.words.items → AreRowsOf plan rows → P key

@@ -7,16 +7,19 @@ use Rattle.flow_table.specs.declared.class.Class.TheVariants.{Options, Untimed, 
 use Rattle.flow_table.specs.declared.table_fault.TableFault.{TableFault}
 use Rattle.flow_table.specs.declared.table_fault.TableFault.TheVariants.{OutOfMemory, SumTooLarge}
 use Rattle.flow_table.specs.declared.tally.Tally.{Tally}
+use Rattle.flow_table.specs.declared.adding.Room.{Room}
 use Rattle.flow_table.specs.declared.missing.Missing.{Missing}
 use Rattle.flow_table.specs.declared.partial.Partial.{Partial}
 use Rattle.flow_table.specs.Fitting.{KeysFit}
+use Rattle.flow_table.specs.Flows.{AtLast}
 use Rattle.flow_table.specs.Missing.{missing_of, AreAdded}
 use Rattle.flow_table.specs.Plans.{PlanValue}
 use Rattle.flow_table.specs.Rows.{AreRowsOf, kept_at}
 use Rattle.flow_table.specs.declared.rows.Rows.{Rows}
 use Rattle.flow_table.specs.TableFaults.{OnSumTooLarge}
-use Rattle.flow_table.specs.Tables.{flows_at, sum_at, tally_of, IsTooLarge}
-use Rattle.flow_table.specs.Totals.{Total, total}
+use Rattle.flow_table.specs.Tables.{flows_at, sum_at, tally_of, AreTooMany, IsTooLarge, IsTooLargeAt}
+use Rattle.flow_table.specs.Totals.{IsLargeAt, Total, joined, total}
+use Rattle.flow_table.specs.Words.{key_from}
 
 -- the totals of the row of an interval and a key, if there is one
 unfoldable pub totals_at : PlanValue → List DataRecord → ℕ → List Cell → Option Total
@@ -52,9 +55,22 @@ plan_of p = p.plan
 unfoldable pub fault_of : Partial → Option TableFault
 fault_of p = p.fault
 
+-- the totals of a key that was read have no place in 64 bits at an interval, with those of more
+abbrev pub LargeWith : PlanValue → Rows → (ℕ → List Cell → Option Total) → Room → Type 0
+LargeWith plan rows more room = AtLast room (λ k. IsLargeAt (joined (kept_at plan rows k (key_from plan.kinds room.words.items)) (more k (key_from plan.kinds room.words.items))))
+
+-- which row of the list is too large, by its interval and the words of its key; without an interval records are too many
+abbrev pub IsNamed : PlanValue → Option ℕ → List ℕ → List DataRecord → Type 0
+IsNamed plan None words rs = AreTooMany plan rs
+IsNamed plan (Some k) words rs = IsTooLargeAt plan rs k (key_from plan.kinds words)
+
+-- after SumTooLarge a row is named
+abbrev pub NamesRow : Option TableFault → PlanValue → Room → List DataRecord → Type 0
+NamesRow fault plan room rs = fault ≡ Some SumTooLarge → IsNamed plan room.last room.words.items rs
+
 -- a partial table stands for a list of records
 unfoldable pub StandsFor : Partial → List DataRecord → Type 0
-StandsFor p rs = StandsBy p.fault p.plan p.rows p.tally rs × CountsMissing p.fault p.plan p.missing rs
+StandsFor p rs = StandsBy p.fault p.plan p.rows p.tally rs × CountsMissing p.fault p.plan p.missing rs × NamesRow p.fault p.plan p.room rs
 
 -- for each list of records that it stands for; and for each two lists of two partial tables, one after the other
 abbrev pub ForRecords : Partial → (List DataRecord → Type 0) → Type 0

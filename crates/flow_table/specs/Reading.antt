@@ -40,6 +40,10 @@ number_of element r = number_as (Unsigned Eight) element r
 abbrev pub counter_of : ElementId → DataRecord → ℕ
 counter_of element r = unwrap_or (number_of element r) 0
 
+-- a counter of a record is above 2^63: two such ones are too large a sum
+abbrev pub is_great : DataRecord → ElementId → Bool
+is_great r element = nat_lt (2 ^ 63) (counter_of element r)
+
 -- ---- times
 
 -- a time of 2^50 ms or more counts as absent

@@ -118,10 +118,6 @@ pub record AreRowsOf (plan : PlanValue) (rows : Rows) : Type 0 where
 abbrev pub AddsTotals : PlanValue → Rows → (ℕ → List Cell → Option Total) → Rows → Type 0
 AddsTotals plan old more new = (k : ℕ) (q : List Cell) → kept_at plan new k q ≡ joined (kept_at plan old k q) (more k q)
 
--- some total has no place in 64 bits with those of more
-abbrev pub IsTooLargeWith : PlanValue → Rows → (ℕ → List Cell → Option Total) → Type 0
-IsTooLargeWith plan rows more = (k : ℕ) × (q : List Cell) × IsLargeAt (joined (kept_at plan rows k q) (more k q))
-
 -- totals that had a place in 64 bits have one still
 abbrev pub StaySmall : PlanValue → Rows → Rows → Type 0
 StaySmall plan old new = (k : ℕ) (q : List Cell) → (IsLargeAt (kept_at plan old k q) → ⊥) → IsLargeAt (kept_at plan new k q) → ⊥

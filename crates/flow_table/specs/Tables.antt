@@ -12,6 +12,7 @@ use Rattle.ipfix_message.specs.declared.record.DataRecord.{DataRecord}
 use Rattle.flow_table.specs.declared.class.Class.{Class}
 use Rattle.flow_table.specs.declared.class.Class.TheVariants.{Options, Untimed, Backward, Unkeyed, TooLong, Used}
 use Rattle.flow_table.specs.declared.table.Row.{Row}
+use Rattle.flow_table.specs.declared.table.RowPlace.{RowPlace}
 use Rattle.flow_table.specs.declared.table.Table.{Table}
 use Rattle.flow_table.specs.declared.tally.Tally.{Tally}
 use Rattle.flow_table.specs.Intervals.{covers, share}
@@ -76,6 +77,19 @@ IsTooLarge plan rs =
     ((k : ℕ) × (key : List Cell) × (c : ElementId) × Contains plan.counters c × (2 ^ 64 ≤ sum_at plan rs k key c))
     ⊎ ((k : ℕ) × (key : List Cell) × (2 ^ 64 ≤ flows_at plan rs k key))
     ⊎ ((class : Class) × (2 ^ 64 ≤ count_of plan rs class))
+
+-- some sum or the number of flows of the row of an interval and a key has no place in 64 bits
+abbrev pub IsTooLargeAt : PlanValue → List DataRecord → ℕ → List Cell → Type 0
+IsTooLargeAt plan rs k key =
+    ((c : ElementId) × Contains plan.counters c × (2 ^ 64 ≤ sum_at plan rs k key c))
+    ⊎ (2 ^ 64 ≤ flows_at plan rs k key)
+
+abbrev pub IsLargeRow : PlanValue → List DataRecord → RowPlace → Type 0
+IsLargeRow plan rs row = IsTooLargeAt plan rs row.interval row.key.items
+
+-- there are too many records of some class to be counted
+abbrev pub AreTooMany : PlanValue → List DataRecord → Type 0
+AreTooMany plan rs = (class : Class) × (2 ^ 64 ≤ count_of plan rs class)
 
 -- where a row stands: by interval, and then by key
 abbrev pub place_of : Row → ℕ × List Cell

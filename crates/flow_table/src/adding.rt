@@ -1,11 +1,11 @@
 //! Adding a flow to the totals of its intervals.
 
-ghost use Rattle.std.specs.Prelude.{◌≡◌, ◌≤◌, ◌<◌, ◌+◌, ℕ, List, Some, OnOk, length, if◌then◌else◌};
+ghost use Rattle.std.specs.Prelude.{◌≡◌, ◌≤◌, ◌<◌, ◌+◌, ◌∷◌, ℕ, List, Some, OnOk, length, if◌then◌else◌};
 ghost use Rattle.ipfix_elements.specs.declared.cell.Cell.{Cell as CellValue};
-ghost use Rattle.flow_table.specs.Flows.{HasIntervals, WithKey, read_part, read_total};
+ghost use Rattle.flow_table.specs.Flows.{HasIntervals, AtLast, WithKey, read_part, read_total};
 ghost use Rattle.flow_table.specs.Plans.{IsPlan};
 ghost use Rattle.flow_table.specs.Totals.{IsLargeAt, joined};
-ghost use Rattle.flow_table.specs.Rows.{AddsTotals, AreRowsOf, IsTooLargeWith, StaySmall, kept_at, place_part};
+ghost use Rattle.flow_table.specs.Rows.{AddsTotals, AreRowsOf, StaySmall, kept_at, place_part};
 ghost use Rattle.flow_table.specs.TableFaults.{OnSumTooLarge};
 
 use crate::flow::Flow;
@@ -23,6 +23,21 @@ pub struct Room {
     pub shares: Vec<u64>,
     /// The first interval of the flow before.
     pub interval: u64,
+    /// The interval that was added to last, if there was one in the record or the merge at hand. After `SumTooLarge`
+    /// it is that of a row that is too large, whose key has the words.
+    pub last: Option<u64>,
+}
+
+impl Room {
+    /// Takes the first of the words, if there is one, as the interval that was added to last.
+    pub fn take_interval(&mut self)
+        ensures { (k : ℕ) (others : List ℕ) → self.old.words.items ≡ k ∷ others
+            → (self.new.last ≡ Some k) × (self.new.words.items ≡ others) }
+    {
+        if !self.words.is_empty() {
+            self.last = Some(self.words.remove(0));
+        }
+    }
 }
 
 // One of two slices.
@@ -54,10 +69,12 @@ fn add_at(
     ensures large { WithKey plan.now rows.old room.old (λ key. OnSumTooLarge result
         (IsLargeAt (joined (kept_at plan.now rows.old interval key)
         (Some (read_total plan.now flow room.old interval))))) }
+    ensures at { room.new.last ≡ Some interval }
     // What was read of the flow stays.
     ensures words { room.new.words.items ≡ room.old.words.items }
     ensures counters { room.new.counters.items ≡ room.old.counters.items }
 {
+    room.last = Some(interval);
     read_shares(plan, flow, &room.counters, interval, &mut room.shares)?;
     let sums = pick(flow.count == 1, &room.counters, &room.shares);
     rows.add(interval, &room.words, 1, sums)
@@ -74,7 +91,9 @@ pub fn add_flow(plan: &Plan, rows: &mut Rows, flow: Flow, room: &mut Room) -> Re
         (AddsTotals plan.now rows.old (read_part plan.now flow room.old key) rows.new)) }
     ensures fits { OnOk result (StaySmall plan.now rows.old rows.new) }
     ensures large { WithKey plan.now rows.old room.old (λ key. OnSumTooLarge result
-        (IsTooLargeWith plan.now rows.old (read_part plan.now flow room.old key))) }
+        (AtLast room.new (λ k. IsLargeAt (joined (kept_at plan.now rows.old k key)
+        (read_part plan.now flow room.old key k key))))) }
+    ensures words { room.new.words.items ≡ room.old.words.items }
 {
     room.interval = flow.first;
     for interval in flow.first..flow.first + flow.count {

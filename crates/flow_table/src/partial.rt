@@ -1,13 +1,13 @@
 //! Partial tables, which records are added to and which are merged into one.
 
-ghost use Rattle.std.specs.Prelude.{◌≡◌, ◌∷◌, [], None, Err, IfOk, IfErr, OnOk, IfSome, IsSome};
+ghost use Rattle.std.specs.Prelude.{◌≡◌, ◌∷◌, [], None, Some, Err, IfOk, IfErr, OnOk, IfSome, IsSome};
 ghost use Rattle.flow_table.specs.Fitting.{FitsPlan};
 ghost use Rattle.ipfix_message.specs.Outcome.{unless};
 ghost use Rattle.flow_table.specs.Partials.{StandsFor, ForRecords, ForBoth, Adds, IsSmallIfOk, IsLargeIfSumTooLarge, fault_of, plan_of};
 ghost use Rattle.flow_table.specs.Reading.{class_of};
 ghost use Rattle.flow_table.specs.TableFaults.{OnSumTooLarge};
-ghost use Rattle.flow_table.specs.Tables.{IsTable, IsTooLarge};
-ghost use Rattle.flow_table.specs.declared.table_fault.TableFault.TheVariants.{OutOfMemory};
+ghost use Rattle.flow_table.specs.Tables.{AreTooMany, IsLargeRow, IsTable, IsTooLarge};
+ghost use Rattle.flow_table.specs.declared.table_fault.TableFault.TheVariants.{OutOfMemory, SumTooLarge};
 
 use crate::adding::Room;
 use crate::class::Class;
@@ -17,12 +17,13 @@ use crate::merging::join;
 use crate::missing::{Missing, missing_together};
 use crate::plan::Plan;
 use crate::rows::Rows;
-use crate::table::Table;
+use crate::table::{RowPlace, Table};
 use crate::table_fault::TableFault;
 use crate::taking::take;
 use crate::tally::Tally;
+use crate::words::write_cells;
 use ipfix_message::DataRecord;
-use std::alloc::Global;
+use std::alloc::{AllocError, Global};
 
 /// The table of some data records under a plan, to which more are added, and which is merged with
 /// that of others. It stands for the list of all these records.
@@ -61,6 +62,7 @@ impl Partial {
                 counters: Vec::new(alloc),
                 shares: Vec::new(alloc),
                 interval: 0,
+                last: None,
             },
         })
     }
@@ -117,6 +119,7 @@ impl Partial {
             tally,
             missing,
             fault,
+            room,
             ..
         } = other;
         if let Some(fault) = self.fault {
@@ -124,6 +127,7 @@ impl Partial {
         }
         if let Some(fault) = fault {
             self.fault = Some(fault);
+            self.room = room;
             return Err(fault);
         }
         let result = join(
@@ -133,6 +137,7 @@ impl Partial {
             &mut self.tally,
             rows,
             &tally,
+            &mut self.room,
         );
         self.missing = missing_together(&self.missing, &missing);
         self.fault = result.err();
@@ -144,6 +149,27 @@ impl Partial {
         ensures { result ≡ fault_of self.now }
     {
         self.fault
+    }
+
+    /// After `SumTooLarge` a row of which a sum or the number of flows would be 2^64 or more, if it isn't a count of
+    /// the tally that would be.
+    ///
+    /// The error is an allocation that was refused.
+    pub fn large_row(&self) -> Result<Option<RowPlace>, AllocError>
+        ensures row { ForRecords self.now
+            (λ rs. IfOk result (λ row. IfSome row (IsLargeRow (plan_of self.now) rs))) }
+        ensures none { ForRecords self.now (λ rs. IfOk result (λ row. row ≡ None
+            → fault_of self.now ≡ Some SumTooLarge → AreTooMany (plan_of self.now) rs)) }
+    {
+        if self.fault != Some(TableFault::SumTooLarge) {
+            return Ok(None);
+        }
+        let Some(interval) = self.room.last else {
+            return Ok(None);
+        };
+        let mut key = Vec::new(self.alloc);
+        write_cells(self.plan.kinds(), &self.room.words, &mut key)?;
+        Ok(Some(RowPlace { interval, key }))
     }
 
     /// The table of all records, whose rows are made as they are asked for.

@@ -1,7 +1,8 @@
 //! Data records read under a plan (RFC 7015, section 5).
 
 ghost use Rattle.std.specs.Prelude.{◌≡◌, ◌≤◌, OnOk, IfOk, length, map};
-ghost use Rattle.flow_table.specs.Reading.{counter_of, number_of};
+ghost use Rattle.std.specs.List.{list_any};
+ghost use Rattle.flow_table.specs.Reading.{counter_of, is_great, number_of};
 ghost use Rattle.flow_table.specs.Readings.{Notes, ReadsAs};
 
 use crate::flow::Flow;
@@ -18,6 +19,9 @@ use std::alloc::AllocError;
 
 /// The kind of all counters, whatever files say: numbers of up to 8 octets (RFC 7011, section 6.2).
 const COUNTER_KIND: Kind = Kind::Unsigned(Width::Eight);
+
+/// Two counters above it are too large a sum.
+const GREAT: u64 = 1 << 63;
 
 /// A data record as a plan sees it.
 #[derive(Clone, Copy)]
@@ -68,6 +72,13 @@ fn counter(data_record: &DataRecord, element: ElementId) -> Option<u64>
 {
     let octets = data_record.fields.find(element)?;
     read_number(COUNTER_KIND, octets)
+}
+
+/// Whether one of these counters of a record is above 2^63.
+pub fn has_great_counter(elements: &[ElementId], data_record: &DataRecord) -> bool
+    ensures { result ≡ list_any (is_great data_record.now) elements.now }
+{
+    elements.iter().any(|element| counter(data_record, *element).unwrap_or(0) > GREAT)
 }
 
 /// Leaves the counters of a record in `counters`, and counts those that it lacks in `missing`, where

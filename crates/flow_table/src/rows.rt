@@ -1,7 +1,7 @@
 //! Rows of the totals under a plan, with no block of memory for each.
 
 ghost use Rattle.std.specs.Prelude.{◌≡◌, ◌+◌, ◌*◌, ◌^◌, ◌<◌, ◌∷◌, ℕ, List, IfOk, OnOk, OnErr};
-ghost use Rattle.flow_rows.specs.Rows.{IsRun, Small, SomeTotalTooLarge, part, total_at};
+ghost use Rattle.flow_rows.specs.Rows.{IsRun, Small, SomeTooLarge, part, total_at};
 ghost use Rattle.flow_table.specs.FlatTables.{run_in};
 ghost use Rattle.flow_table.specs.Rows.{AddsRow, AreAlike, AreRowsOf, IsTooLargeWithRow, SameNumbers, both, number_at, padded_row, padded_to, width_of};
 ghost use Rattle.flow_table.specs.TableFaults.{OnSumTooLarge};
@@ -55,19 +55,20 @@ fn add_row<const K: usize, const C: usize>(
     }
 }
 
-/// The rows of both.
+/// The rows of both. After `SumTooLarge` a number is too large at the words that are left in `words`.
 fn merge_rows<const K: usize, const C: usize>(
     rows: FlatRows<K, C>,
     others: FlatRows<K, C>,
+    words: &mut Vec<u64>,
 ) -> Result<FlatRows<K, C>, TableFault>
     requires fits { 8 * K + 8 * C < 2 ^ 63 }
     ensures ok { IfOk result (λ merged.
         SameNumbers (total_at merged) (both (total_at rows.entry) (total_at others.entry))) }
     ensures small { IfOk result (λ merged. Small (total_at merged)) }
     ensures large { OnSumTooLarge result
-        (SomeTotalTooLarge (both (total_at rows.entry) (total_at others.entry))) }
+        (SomeTooLarge (both (total_at rows.entry) (total_at others.entry) words.new.items)) }
 {
-    match rows.merge(others) {
+    match rows.merge(others, words) {
         Ok(both) => Ok(both),
         Err(AddError::SumTooLarge) => Err(TableFault::SumTooLarge),
         Err(AddError::OutOfMemory) => Err(TableFault::OutOfMemory),
@@ -122,22 +123,28 @@ impl Rows {
     }
 
     /// The rows of both, which are to be of one form: where they are not, the fault is `OutOfMemory`. Those
-    /// of one plan are.
-    pub fn merge(self, others: Rows) -> Result<Rows, TableFault>
+    /// of one plan are. After `SumTooLarge` a number is too large at the words that are left in `words`.
+    pub fn merge(self, others: Rows, words: &mut Vec<u64>) -> Result<Rows, TableFault>
         ensures ok { IfOk result (λ merged.
             SameNumbers (number_at merged) (both (number_at self) (number_at others))) }
         ensures small { IfOk result (λ merged. Small (number_at merged)) }
         ensures alike { IfOk result
             (λ merged. AreAlike merged self × (width_of self ≡ width_of others)) }
         ensures large { OnSumTooLarge result ((width_of self ≡ width_of others)
-            × SomeTotalTooLarge (both (number_at self) (number_at others))) }
+            × SomeTooLarge (both (number_at self) (number_at others) words.new.items)) }
     {
         match (self, others) {
-            (Rows::Two(rows), Rows::Two(others)) => Ok(Rows::Two(merge_rows(rows, others)?)),
-            (Rows::Four(rows), Rows::Four(others)) => Ok(Rows::Four(merge_rows(rows, others)?)),
-            (Rows::Six(rows), Rows::Six(others)) => Ok(Rows::Six(merge_rows(rows, others)?)),
-            (Rows::Nine(rows), Rows::Nine(others)) => Ok(Rows::Nine(merge_rows(rows, others)?)),
-            (Rows::Most(rows), Rows::Most(others)) => Ok(Rows::Most(merge_rows(rows, others)?)),
+            (Rows::Two(rows), Rows::Two(others)) => Ok(Rows::Two(merge_rows(rows, others, words)?)),
+            (Rows::Four(rows), Rows::Four(others)) => Ok(Rows::Four(merge_rows(
+                rows, others, words,
+            )?)),
+            (Rows::Six(rows), Rows::Six(others)) => Ok(Rows::Six(merge_rows(rows, others, words)?)),
+            (Rows::Nine(rows), Rows::Nine(others)) => Ok(Rows::Nine(merge_rows(
+                rows, others, words,
+            )?)),
+            (Rows::Most(rows), Rows::Most(others)) => Ok(Rows::Most(merge_rows(
+                rows, others, words,
+            )?)),
             _ => Err(TableFault::OutOfMemory),
         }
     }

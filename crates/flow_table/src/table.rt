@@ -38,6 +38,15 @@ impl Row {
     }
 }
 
+/// Which row of a table.
+#[derive(Debug, Drop)]
+pub struct RowPlace {
+    /// The interval, counted from that of 1970-01-01 UTC.
+    pub interval: u64,
+    /// A cell for each key, in the order of the plan.
+    pub key: Vec<Cell>,
+}
+
 /// The rows ascend by interval, and then by the cells of the key in the order of the plan.
 #[derive(Debug, Drop)]
 pub struct Table {

@@ -3,10 +3,10 @@
 ghost use Rattle.std.specs.Prelude.{◌≡◌, ◌++◌, ◌∷◌, [], List, OnOk, IfOk};
 ghost use Rattle.std.specs.Result.{result_err};
 ghost use Rattle.ipfix_message.specs.declared.record.DataRecord.{DataRecord};
-ghost use Rattle.flow_table.specs.Partials.{HoldsTable, NotesMore, StandsBy, totals_at};
+ghost use Rattle.flow_table.specs.Partials.{HoldsTable, LargeWith, NamesRow, NotesMore, StandsBy, totals_at};
 ghost use Rattle.flow_table.specs.Reading.{class_of};
 ghost use Rattle.flow_table.specs.Readings.{IsUsedBy};
-ghost use Rattle.flow_table.specs.Rows.{AddsTotals, AreRowsOf, IsTooLargeWith, StaySmall};
+ghost use Rattle.flow_table.specs.Rows.{AddsTotals, AreRowsOf, StaySmall};
 ghost use Rattle.flow_table.specs.TableFaults.{OnSumTooLarge};
 
 use crate::adding::{Room, add_flow};
@@ -35,7 +35,7 @@ fn take_flow(
         (AddsTotals plan.now rows.old (totals_at plan.now (data_record.now ∷ [])) rows.new) }
     ensures fits { OnOk result (StaySmall plan.now rows.old rows.new) }
     ensures large { AreRowsOf plan.now rows.old → OnSumTooLarge result
-        (IsTooLargeWith plan.now rows.old (totals_at plan.now (data_record.now ∷ []))) }
+        (LargeWith plan.now rows.old (totals_at plan.now (data_record.now ∷ [])) room.new) }
     ensures missing { OnOk result
         (NotesMore plan.now missing.old (data_record.now ∷ []) missing.new) }
 {
@@ -60,9 +60,12 @@ pub fn take(
     ensures class { IfOk result (λ class. class ≡ class_of plan.now data_record.now) }
     ensures stands { (rs : List DataRecord) → HoldsTable plan.now rows.old tally.old rs
         → StandsBy (result_err result) plan.now rows.new tally.new (rs ++ data_record.now ∷ []) }
+    ensures names { (rs : List DataRecord) → HoldsTable plan.now rows.old tally.old rs
+        → NamesRow (result_err result) plan.now room.new (rs ++ data_record.now ∷ []) }
     ensures missing { OnOk result
         (NotesMore plan.now missing.old (data_record.now ∷ []) missing.new) }
 {
+    room.last = None;
     match read(plan, data_record, room.interval, &mut room.words)? {
         Reading::Left(left_out) => {
             let class = left_out.class();

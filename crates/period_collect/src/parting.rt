@@ -153,8 +153,10 @@ pub(crate) fn own_table<
             let sources = sources.into_sources();
             match collect_job(threads, alloc, sources, &origins, &job) {
                 Ok(gathered) => Ok(Some(gathered.run.table)),
-                Err(CollectFault::SumTooLarge) => Ok(None),
-                Err(_) => Err(Status::Failed),
+                Err(failure) => match failure.fault {
+                    CollectFault::SumTooLarge => Ok(None),
+                    _ => Err(Status::Failed),
+                },
             }
         }
         Err(NotOpened { path, reason }) => {

@@ -109,6 +109,7 @@ fn collect_job<'a>(by: &'a MadeBy, said: &TableReceipt) -> CollectJob<'a>
         estimates: loaded.estimates.as_ref(),
         refuses_sampled: refuses_sampled(&loaded.read),
         times: TimeNoting::Nothing,
+        great_counters: None,
         templates: None,
         filter: loaded.read.conditions(),
         exporters: by.exporters.as_slice(),

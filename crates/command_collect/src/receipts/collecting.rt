@@ -1,18 +1,18 @@
 //! Collecting from sources that are hashed as they are read.
 
-ghost use Rattle.std.specs.Prelude.{◌≡◌, None, IfOk, length, map, vec_len};
+ghost use Rattle.std.specs.Prelude.{◌≡◌, None, IfErr, IfOk, length, map, vec_len};
 ghost use Rattle.flow_table.specs.Fitting.{FitsPlan};
-ghost use Rattle.flow_collect.specs.InFull.{IsGivenInContext};
-ghost use Rattle.command_collect.specs.Engines.{due_fault, HasFaultsBy};
-ghost use Rattle.command_collect.specs.Exporters.{in_context, in_noting_context};
-ghost use Rattle.command_collect.specs.Gathered.{GathersBy};
-ghost use Rattle.command_collect.specs.Digests.{AreDigestsOf, AreOfSessions, StartAt};
+ghost use Rattle.command_collect.specs.Engines.{due_fault};
+ghost use Rattle.command_collect.specs.Exporters.{noting};
+ghost use Rattle.command_collect.specs.Jobs.{GathersJob, HasJobFaults, TellsJobLarge};
+ghost use Rattle.command_collect.specs.Digests.{AreOfSessions, StartAt};
+ghost use Rattle.command_collect.specs.HashedRuns.{HasDigestsOf};
 
 use crate::gathered::Gathered;
 use crate::job::CollectJob;
 use crate::receipts::hashing::{FinishedSources, finish_each, hash_each};
 use crate::table::collect_job;
-use flow_collect::{CollectFault, Serial};
+use flow_collect::{CollectFailure, CollectFault, Serial};
 use input_digests::{HashedSource, Start};
 use ipfix_session::Source;
 use report_writing::Origin;
@@ -35,17 +35,17 @@ pub fn collect_hashed<S: Source + Send + Drop, R: Threads + Wait + Sync>(
     sources: Vec<S>,
     origins: &[Origin],
     job: &CollectJob,
-) -> Result<HashedRun<S>, CollectFault>
-    ensures ok { IfOk result (λ h. GathersBy job.now.engine (IsGivenInContext S.seen)
-        (in_noting_context job.now sources.items origins.now) job.now.plan.now h.gathered) }
-    ensures digests { IfOk result (λ h. AreDigestsOf S.seen sources.items
-        h.gathered.run.sessions.items h.digests.items) }
+) -> Result<HashedRun<S>, CollectFailure>
+    ensures ok { IfOk result (λ h.
+        GathersJob S.seen (noting job.now) sources.items origins.now h.gathered) }
+    ensures digests { IfOk result (HasDigestsOf S.seen sources.items) }
     ensures fits { IfOk result (λ h. FitsPlan job.now.plan.now h.gathered.run.table) }
-    ensures faults { HasFaultsBy S.seen job.now.engine (in_noting_context job.now sources.items origins.now)
-        job.now.plan.now (vec_len sources) result }
+    ensures faults { HasJobFaults S.seen (noting job.now) sources origins.now result }
+    ensures large { IfErr result
+        (TellsJobLarge S.seen (noting job.now) sources.items origins.now) }
 {
     if let Some(fault) = job.engine.refusal(sources.len()) {
-        return Err(fault);
+        return Err(CollectFailure::only(fault));
     }
     let noting = job.noting_rates();
     collect_from::<S, R, Brand>(rt, alloc, sources, origins, &noting)
@@ -58,27 +58,26 @@ fn collect_from<S: Source + Send + Drop, R: Threads + Wait + Sync, T: Start + Se
     sources: Vec<S>,
     origins: &[Origin],
     job: &CollectJob,
-) -> Result<HashedRun<S>, CollectFault>
+) -> Result<HashedRun<S>, CollectFailure>
     requires start { StartAt S.seen T.texts 0 sources.items }
     requires fits { due_fault job.now.engine (vec_len sources) ≡ None }
-    ensures ok { IfOk result (λ h. GathersBy job.now.engine (IsGivenInContext S.seen)
-        (in_context job.now sources.items origins.now) job.now.plan.now h.gathered) }
-    ensures digests { IfOk result (λ h. AreDigestsOf S.seen sources.items
-        h.gathered.run.sessions.items h.digests.items) }
+    ensures ok { IfOk result (λ h.
+        GathersJob S.seen job.now sources.items origins.now h.gathered) }
+    ensures digests { IfOk result (HasDigestsOf S.seen sources.items) }
     ensures fits { IfOk result (λ h. FitsPlan job.now.plan.now h.gathered.run.table) }
-    ensures faults { HasFaultsBy S.seen job.now.engine (in_context job.now sources.items origins.now)
-        job.now.plan.now (vec_len sources) result }
+    ensures faults { HasJobFaults S.seen job.now sources origins.now result }
+    ensures large { IfErr result (TellsJobLarge S.seen job.now sources.items origins.now) }
 {
     let Ok(hashed) = hash_each::<S, T>(alloc, sources) else {
-        return Err(CollectFault::OutOfMemory);
+        return Err(CollectFailure::only(CollectFault::OutOfMemory));
     };
     let gathered = match collect_job(rt, alloc, hashed, origins, job) {
         Ok(gathered) => gathered,
-        Err(fault) => return Err(fault),
+        Err(failure) => return Err(failure),
     };
     match finish_run(alloc, gathered) {
         Ok(run) => Ok(run),
-        Err(AllocError) => Err(CollectFault::OutOfMemory),
+        Err(AllocError) => Err(CollectFailure::only(CollectFault::OutOfMemory)),
     }
 }
 

@@ -2,10 +2,10 @@
 
 ghost use Rattle.std.specs.Prelude.{◌≡◌, Err, IfErr, IfOk, OnOk, map};
 ghost use Rattle.flow_table.specs.Fitting.{FitsPlan};
-ghost use Rattle.output_tables.specs.TableTexts.{Writes};
 ghost use Rattle.table_receipts.specs.Values.{input_value, receipt_value};
 ghost use Rattle.command_collect.specs.Made.{IsReceiptOf};
-ghost use Rattle.command_collect.specs.ReceiptedRuns.{IsMade, IsNotPut, IsOfReceipt};
+ghost use Rattle.command_collect.specs.HashedRuns.{HasNoReceipt, IsReceiptOfRun, WritesRun};
+ghost use Rattle.command_collect.specs.ReceiptedRuns.{IsOfReceipt};
 
 use crate::gathered::Gathered;
 use crate::job::CollectJob;
@@ -38,14 +38,11 @@ pub fn make_run<S: Drop, W: Write + Drop>(
     made: MadeWith,
 ) -> MadeRun<W>
     requires { FitsPlan job.now.plan.now run.now.gathered.run.table }
-    ensures writes { OnOk result.answer (Writes job.now.elements.now job.now.plan.now job.now.output
-        (W.contents out) (W.contents result.out) run.now.gathered.run.table) }
-    ensures made { IfOk result.answer (λ r. IsMade made job.now origins.now
-        run.now.gathered.run.sessions.items run.now.gathered.sampling.items run.now.digests.items
-        (W.contents out) run.now.gathered.run.table (receipt_value r)) }
-    ensures not_made { IfErr result.answer (IsNotPut job.now origins.now
-        run.now.gathered.run.sessions.items run.now.digests.items run.now.gathered.run.table
-        (result.out ≡ out)) }
+    ensures writes { OnOk result.answer (WritesRun job.now W.contents out result.out run.now) }
+    ensures made { IfOk result.answer
+        (IsReceiptOfRun job.now made origins.now run.now (W.contents out)) }
+    ensures not_made { IfErr result.answer
+        (HasNoReceipt job.now origins.now run.now (result.out ≡ out)) }
 {
     let collected = &run.gathered.run;
     let inputs = match inputs_of(alloc, job, origins, &collected.sessions, &run.digests) {

@@ -2,10 +2,9 @@
 
 ghost use Rattle.std.specs.Prelude.{◌≡◌, IfErr, IfOk, [], Some};
 ghost use Rattle.flow_table.specs.Fitting.{FitsPlan};
-ghost use Rattle.output_tables.specs.TableTexts.{export_text};
-ghost use Rattle.table_receipts.specs.Values.{receipt_value};
 ghost use Rattle.command_collect.specs.Remade.{IsNotRemade, IsRemade};
-ghost use Rattle.command_collect.specs.ReceiptedRuns.{IsMade, IsNotPut};
+ghost use Rattle.command_collect.specs.HashedRuns.{HasNoReceipt, IsReceiptOfRun};
+ghost use Rattle.command_collect.specs.Jobs.{job_text};
 
 use crate::job::CollectJob;
 use crate::receipts::collecting::{HashedRun, collect_hashed};
@@ -51,7 +50,7 @@ pub fn remake<S: Source + Send + Drop, R: Threads + Wait + Sync>(
 {
     let run = match collect_hashed(rt, alloc, sources, origins, job) {
         Ok(run) => run,
-        Err(fault) => return Err(RemakeFault::Collect(fault)),
+        Err(failure) => return Err(RemakeFault::Collect(failure.fault)),
     };
     match remake_run(alloc, job, origins, &run, made) {
         Ok(remade) => Ok(remade),
@@ -68,13 +67,11 @@ fn remake_run<S: Drop>(
     made: MadeWith,
 ) -> Result<Remade, RunFault>
     requires { FitsPlan job.now.plan.now run.now.gathered.run.table }
-    ensures text { IfOk result (λ m. m.text.items ≡ export_text job.now.elements.now job.now.output
-        job.now.plan.now run.now.gathered.run.table) }
-    ensures made { IfOk result (λ m. IsMade made job.now origins.now run.now.gathered.run.sessions.items
-        run.now.gathered.sampling.items run.now.digests.items (Some []) run.now.gathered.run.table
-        (receipt_value m.receipt)) }
-    ensures not_made { IfErr result (IsNotPut job.now origins.now run.now.gathered.run.sessions.items
-        run.now.digests.items run.now.gathered.run.table (Unit {0})) }
+    ensures text { IfOk result (λ m.
+        m.text.items ≡ job_text job.now run.now.gathered.run.table) }
+    ensures made { IfOk result (λ m.
+        IsReceiptOfRun job.now made origins.now run.now (Some []) m.receipt) }
+    ensures not_made { IfErr result (HasNoReceipt job.now origins.now run.now (Unit {0})) }
 {
     let MadeRun { out, answer } = make_run(alloc, job, origins, run, Vec::new(alloc), made);
     match answer {

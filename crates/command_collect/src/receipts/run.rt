@@ -2,15 +2,15 @@
 
 ghost use Rattle.std.specs.Prelude.{◌≡◌, IfErr, IfSome, OnOk};
 ghost use Rattle.flow_table.specs.Fitting.{FitsPlan};
-ghost use Rattle.output_tables.specs.TableTexts.{Writes};
 ghost use Rattle.report_writing.specs.Told.{AreToldTo};
 ghost use Rattle.table_receipts.specs.Texts.{receipt_text};
 ghost use Rattle.table_receipts.specs.Values.{receipt_value};
-ghost use Rattle.command_collect.specs.ReceiptedRuns.{Hinders, IsNotPut, IsOfReceipt, IsPut, RunsReceipted, hindrance_in, hindrance_of};
+ghost use Rattle.command_collect.specs.HashedRuns.{HasNoReceipt, WritesRun};
+ghost use Rattle.command_collect.specs.ReceiptedRuns.{Hinders, IsOfReceipt, IsPut, RunsReceipted, hindrance_in, hindrance_of};
 
-use crate::collect_fault::write_collect_fault;
 use crate::ending::{status_of, tell};
 use crate::job::CollectJob;
+use crate::large::write_failure;
 use crate::receipts::collecting::{HashedRun, collect_hashed};
 use crate::receipts::fault::{ReceiptFault, RunFault, write_run_fault};
 use crate::receipts::made_run::{MadeRun, make_run};
@@ -78,12 +78,12 @@ pub fn run_receipted<
 {
     let run = match collect_hashed(rt, alloc, sources, origins, job) {
         Ok(run) => run,
-        Err(fault) => {
-            let _ = write_collect_fault(fault, err);
+        Err(failure) => {
+            let _ = write_failure(job.verbosity, job.plan, origins, &failure, err);
             let Receipted { out, place, .. } = to;
             return Ended {
                 status: Status::Failed,
-                hindrance: hindrance_in(fault),
+                hindrance: hindrance_in(failure.fault),
                 out,
                 place,
             };
@@ -148,14 +148,12 @@ fn write_run<S: Drop, W: Write + Drop, P: ReceiptPlace + Drop>(
     to: Receipted<W, P>,
 ) -> WrittenRun<W, P>
     requires { FitsPlan job.now.plan.now run.now.gathered.run.table }
-    ensures writes { OnOk result.answer (Writes job.now.elements.now job.now.plan.now job.now.output
-        (W.contents to.out) (W.contents result.out) run.now.gathered.run.table) }
+    ensures writes { OnOk result.answer (WritesRun job.now W.contents to.out result.out run.now) }
     ensures put { OnOk result.answer (IsPut (P.holds result.place) to.made job.now origins.now
         run.now.gathered.run.sessions.items run.now.gathered.sampling.items run.now.digests.items
         (W.contents to.out) run.now.gathered.run.table) }
-    ensures not_put { IfErr result.answer (IsNotPut job.now origins.now
-        run.now.gathered.run.sessions.items run.now.digests.items run.now.gathered.run.table
-        (result.out ≡ to.out)) }
+    ensures not_put { IfErr result.answer
+        (HasNoReceipt job.now origins.now run.now (result.out ≡ to.out)) }
 {
     let Receipted {
         out,

@@ -1,6 +1,6 @@
 //! The answer of a run.
 
-ghost use Rattle.std.specs.Prelude.{◌≡◌, All, IfOk, MatchOption, map};
+ghost use Rattle.std.specs.Prelude.{◌≡◌, All, IfOk, MatchResult, map};
 ghost use Rattle.flow_table.specs.Plans.{PlanValue};
 ghost use Rattle.flow_collect.specs.Dealt.{IsPaired};
 ghost use Rattle.flow_collect.specs.Finished.{HasTaken, ended_link, link_ends_of, FinishedAs, IsOverfull};
@@ -9,6 +9,7 @@ use super::Parts;
 use super::gathering::gather;
 use super::pairing::settle_all;
 use crate::collected::{Collected, FilteredReport};
+use crate::failure::CollectFailure;
 use crate::session_thread::EndedSession;
 use crate::shortage::Shortage;
 use crate::worker::WorkerShare;
@@ -17,18 +18,18 @@ use std::alloc::Global;
 use std::collections::VecDeque;
 use std::thread::Threads;
 
-/// Settles the links and merges the tables. `None` if a sum is too large.
+/// Settles the links and merges the tables, unless a sum is too large.
 pub fn finish_all<S: Drop, R: Threads + Sync>(
     rt: &R,
     alloc: Global,
     ended: VecDeque<EndedSession<S>>,
     worked: VecDeque<WorkerShare>,
-) -> Result<Option<Collected<S, FilteredReport, FlatTable>>, Shortage>
+) -> Result<Result<Collected<S, FilteredReport, FlatTable>, CollectFailure>, Shortage>
     requires taken { (plan : PlanValue) × All (HasTaken plan) worked.items }
     requires paired { All (IsPaired (map ended_link ended.items)) (link_ends_of worked.items) }
     ensures { (plan : PlanValue) → All (HasTaken plan) worked.items
-        → IfOk result (λ answer. MatchOption answer
-        (IsOverfull plan ended.items) (λ c. FinishedAs plan ended.items c)) }
+        → IfOk result (λ answer. MatchResult answer
+        (λ c. FinishedAs plan ended.items c) (IsOverfull plan ended.items)) }
 {
     let all = gather(rt, worked)?;
     let WorkerShare {
@@ -37,9 +38,12 @@ pub fn finish_all<S: Drop, R: Threads + Sync>(
         ..
     } = all;
     let parts = settle_all(alloc, ended, VecDeque::from_vec(link_ends))?;
+    let row = partial.large_row()?;
     let table = match partial.finish_flat() {
         Ok(table) => table,
-        Err(TableFault::SumTooLarge) => return Ok(None),
+        Err(TableFault::SumTooLarge) => {
+            return Ok(Err(CollectFailure::large(row, &parts.sessions)));
+        }
         Err(TableFault::OutOfMemory) => return Err(Shortage::OutOfMemory),
     };
     let Parts {
@@ -47,7 +51,7 @@ pub fn finish_all<S: Drop, R: Threads + Sync>(
         links,
         sources,
     } = parts;
-    Ok(Some(Collected {
+    Ok(Ok(Collected {
         sessions,
         links,
         sources,

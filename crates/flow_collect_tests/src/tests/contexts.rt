@@ -3,8 +3,8 @@
 use super::texts::*;
 use element_registry::Elements;
 use flow_collect::{
-    ContextFields, Exporter, InContext, OpenGate, Pool, SessionContext, collect_direct,
-    collect_flat, no_context,
+    CollectFailure, CollectFault, ContextFields, Exporter, InContext, OpenGate, Pool,
+    SessionContext, collect_direct, collect_flat, no_context,
 };
 use flow_table::{
     Choices, Context, EXPORTER, EXPORTER_IPV4_ADDRESS, EXPORTER_IPV6_ADDRESS, Key, Method,
@@ -20,6 +20,7 @@ use std::sync::Wait;
 use std::test::*;
 use std::thread::Threads;
 use worked_examples::flows::*;
+use worked_examples::text_of;
 
 /// 192.0.2.1, and the same mapped into IPv6 (RFC 4291, section 2.5.5.2).
 const IPV4: [u8; 4] = [192, 0, 2, 1];
@@ -203,6 +204,63 @@ fn exporters_are_keys(rt: HostRuntime) -> Result<(), Fail> {
         let plan = plan_of(rt.alloc(), element)?;
         assert!(rt; has_rows(&over_links(&rt, rt.alloc(), &plan)?, keys, unkeyed));
         assert!(rt; has_rows(&in_lots(&rt, rt.alloc(), &plan)?, keys, unkeyed));
+    }
+    Ok(())
+}
+
+// Three sessions of flows of one row, of which the second alone has a counter above 2^63.
+fn one_too_large(
+    alloc: Global,
+    counters: Option<&[ElementId]>,
+) -> Result<Vec<InContext<'_, ScriptSource>>, AllocError> {
+    let texts: [&[&[u8]]; 3] = [&[ONE_OCTET_FLOW], &[LARGEST_FLOW], &[ONE_OCTET_FLOW]];
+    let mut sources = Vec::new(alloc);
+    for messages in texts {
+        let text = text_of(alloc, messages)?;
+        sources.push(InContext {
+            source: ScriptSource::new(text, 16, None, None),
+            context: SessionContext {
+                great_counters: counters,
+                ..no_context()
+            },
+            filter: None,
+        })?;
+    }
+    Ok(sources)
+}
+
+// What a failure tells: its fault, the interval and the key of its row, and its session.
+fn told_of(failure: &CollectFailure) -> (CollectFault, Option<(u64, Option<Cell>)>, Option<usize>) {
+    let row = match &failure.row {
+        Some(row) => Some((row.interval, row.key.first().copied())),
+        None => None,
+    };
+    (failure.fault, row, failure.session)
+}
+
+// The sum of a row of three sessions is too large, added up by one worker, by two whose tables are merged, and in lots.
+#[test]
+fn a_sum_too_large_has_its_row(rt: HostRuntime) -> Result<(), Fail> {
+    let alloc = rt.alloc();
+    let plan = by_source(alloc)?;
+    let row = Some((0, Some(Cell::Ipv4([192, 0, 2, 1]))));
+    let cases = [
+        (Some(plan.counters()), Some(1), 1),
+        (Some(plan.counters()), Some(1), 2),
+        (None, None, 2),
+    ];
+    for (counters, session, workers) in cases {
+        let want = (CollectFault::SumTooLarge, row, session);
+        let pool = Pool {
+            workers,
+            capacity: 4,
+        };
+        let sources = one_too_large(alloc, counters)?;
+        let linked = collect_flat(&rt, alloc, sources, &plan, pool, &OpenGate).err();
+        assert_eq!(rt; told_of(&linked.expect(&rt, "a failure")), want);
+        let sources = one_too_large(alloc, counters)?;
+        let direct = collect_direct(&rt, alloc, sources, &plan, workers).err();
+        assert_eq!(rt; told_of(&direct.expect(&rt, "a failure")), want);
     }
     Ok(())
 }

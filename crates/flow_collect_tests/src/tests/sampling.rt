@@ -4,8 +4,8 @@ use super::texts::*;
 use element_registry::{ElementKind, Elements, ElementsFault, Entry};
 use exporter_options::{Rate, Wanted};
 use flow_collect::{
-    CollectFault, FilteredReport, InContext, OpenGate, Pool, Serial, SessionContext,
-    collect_direct, collect_flat, no_context,
+    CollectFailure, CollectFault, FilteredReport, InContext, OpenGate, Pool, Serial,
+    SessionContext, collect_direct, collect_flat, no_context,
 };
 use flow_estimates::{Estimate, Estimates, RateCount};
 use flow_table::{Choices, FlatTable, Key, Method, Plan, Table};
@@ -148,11 +148,11 @@ fn counters_are_scaled(rt: HostRuntime) -> Result<(), Fail> {
 
 // The fault of a run, if it has one.
 fn fault_of(
-    run: Result<Serial<ScriptSource, FilteredReport, FlatTable>, CollectFault>,
+    run: Result<Serial<ScriptSource, FilteredReport, FlatTable>, CollectFailure>,
 ) -> Option<CollectFault> {
     match run {
         Ok(_) => None,
-        Err(fault) => Some(fault),
+        Err(failure) => Some(failure.fault),
     }
 }
 

@@ -10,7 +10,7 @@ ghost use Rattle.flow_export.specs.Written.{interval_texts, next_cell, next_numb
 use crate::address_text::append_ipv4;
 use crate::intervals::Intervals;
 use crate::row_lines::RowLines;
-use crate::shown_cell::shown_cell;
+use crate::shown_cells::shown_cell;
 use flow_table::{Key, Plan, Row};
 use ipfix_elements::{Cell, write_cell};
 use itoa::Buffer;

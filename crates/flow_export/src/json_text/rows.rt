@@ -11,7 +11,7 @@ ghost use Rattle.ipfix_elements.specs.Texts.{ipv4_text};
 use crate::address_text::append_ipv4;
 use crate::json_text::labels::{MemberLabel, RowLabels};
 use crate::row_lines::RowLines;
-use crate::shown_cell::shown_cell;
+use crate::shown_cells::shown_cell;
 use flow_table::{Key, Plan, Row};
 use ipfix_elements::{Cell, append_json_cell, append_json_number};
 use std::alloc::AllocError;

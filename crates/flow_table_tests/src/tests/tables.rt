@@ -8,7 +8,10 @@ ghost use Rattle.flow_table.specs.declared.table.Row.{Row as RowRecord};
 use super::records::{by_source, flow, push_row, text_of};
 use flow_table::{
     FlatTable, Method, Missing, Partial, Plan, Row, RowTotals, Table, TableFault, Tally,
+    has_great_counter,
 };
+use ipfix_elements::Cell;
+use ipfix_wire::ElementId;
 use std::alloc::{AllocError, Global};
 use std::process::Abort;
 use std::test::Fail;
@@ -123,5 +126,49 @@ fn fault_of_largest(alloc: Global) -> Result<Option<u8>, Fail> {
 #[test]
 fn a_partial_keeps_its_fault(rt: HostRuntime) -> Result<(), Fail> {
     assert_eq!(rt; fault_of_largest(rt.alloc())?, Some(2));
+    Ok(())
+}
+
+// The interval and the key of the row of which a partial table says that it is too large.
+fn large_row(partial: &Partial) -> Result<Option<(u64, Option<Cell>)>, Fail> {
+    match partial.large_row()? {
+        Some(row) => Ok(Some((row.interval, row.key.first().copied()))),
+        None => Ok(None),
+    }
+}
+
+// The row that is too large, of a flow over three minutes of which the second has no room, and of two tables that are
+// merged.
+#[test]
+fn a_row_too_large_is_named(rt: HostRuntime) -> Result<(), Fail> {
+    let alloc = rt.alloc();
+    let plan = by_source(alloc, Method::Uniform)?;
+    let second = Some((1, Some(Cell::Ipv4([192, 0, 2, 1]))));
+    let mut partial = Partial::new(alloc, &plan)?;
+    partial.add(&flow(alloc, 61_000, 62_000, u64::MAX)?)?;
+    assert_eq!(rt; large_row(&partial)?, None);
+    assert!(rt; partial.add(&flow(alloc, 0, 179_999, 3)?).is_err());
+    assert_eq!(rt; large_row(&partial)?, second);
+    let mut first = Partial::new(alloc, &plan)?;
+    first.add(&flow(alloc, 1000, 1000, 7)?)?;
+    first.add(&flow(alloc, 61_000, 62_000, u64::MAX)?)?;
+    let mut other = Partial::new(alloc, &plan)?;
+    other.add(&flow(alloc, 1000, 1000, 7)?)?;
+    other.add(&flow(alloc, 61_000, 61_000, 1)?)?;
+    assert!(rt; first.merge(other).is_err());
+    assert_eq!(rt; large_row(&first)?, second);
+    let mut last = Partial::new(alloc, &plan)?;
+    assert!(rt; last.merge(partial).is_err());
+    assert_eq!(rt; large_row(&last)?, second);
+    Ok(())
+}
+
+#[test]
+fn a_great_counter_is_above_half(rt: HostRuntime) -> Result<(), Fail> {
+    for (octets, is_great) in [(1 << 63, false), ((1 << 63) + 1, true)] {
+        let record = flow(rt.alloc(), 1000, 1000, octets)?;
+        assert_eq!(rt; has_great_counter(&[ElementId::iana(1)], &record), is_great);
+        assert!(rt; !has_great_counter(&[ElementId::iana(2)], &record));
+    }
     Ok(())
 }

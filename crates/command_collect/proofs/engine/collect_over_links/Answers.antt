@@ -14,4 +14,4 @@ pub returns-in-Ok-clause-faults : goal.returns-in-Ok-clause-faults
 returns-in-Ok-clause-faults g c = faults_if_had _ _ _ c.in-Ok.collected _ c.in-Ok.ensures.faults
 
 pub returns-in-Err-clause-faults : goal.returns-in-Err-clause-faults
-returns-in-Err-clause-faults g c = faults_if_not_had _ _ _ c.in-Err.fault c.in-Err.ensures.faults
+returns-in-Err-clause-faults g c = faults_if_not_had _ _ _ c.in-Err.failure.fault c.in-Err.ensures.faults

@@ -1,7 +1,7 @@
 use Rattle.std.proofs.Common.{ap, ◌∙◌}
 use Rattle.ipfix_session.specs.Given.{Given, records_in}
 use Rattle.flow_collect.specs.Contexts.{limits_in}
-use Rattle.flow_collect.proofs.Limited.{given_all_within}
+use Rattle.ipfix_session.proofs.Unlimited.{given_all_within}
 use Rattle.flow_collect.proofs.laws.limits_leave_nothing_out.Goals as goal
 
 pub returns : goal.returns

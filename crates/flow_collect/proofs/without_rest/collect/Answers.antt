@@ -11,7 +11,7 @@ pub returns-in-Err-clause-faults : goal.returns-in-Err-clause-faults
 returns-in-Err-clause-faults g c =
     let are = c.in_ok-sources.ensures in
     let same : vec_len c.in_ok-sources.sources ≡ vec_len c.args.sources = c.in_ok-sources.sources.ok.0 ∙ ap length are ∙ length-map c.args.sources.items alone ∙ sym c.args.sources.ok.0 in
-    faults_alone g.S.Source.seen c.args.plan.now c.args.pool c.args.sources c.in_ok-sources.sources c.in-Err.fault same are c.in-Err.ensures.faults
+    faults_alone g.S.Source.seen c.args.plan.now c.args.pool c.args.sources c.in_ok-sources.sources c.in-Err.failure.fault same are c.in-Err.ensures.faults
 
 pub returns-clause-ok : goal.returns-clause-ok
 returns-clause-ok g c =

@@ -1,5 +1,5 @@
-use Rattle.std.proofs.Common.{arith}
-use Rattle.flow_rows.specs.Rows.{total_at}
+use Rattle.std.proofs.Common.{ℕ, ◌+◌, List, arith, subst, sym}
+use Rattle.flow_rows.specs.Rows.{SomeTooLarge, total_at}
 use Rattle.flow_rows.proofs.Counting.{run_ascends}
 use Rattle.flow_rows.proofs.Totals.{below_next, both_within}
 use Rattle.flow_rows.proofs.Within.{within}
@@ -9,7 +9,8 @@ pub returns-in_default : goal.returns-in_default
 returns-in_default g c =
     let x = c.index-a-i.result in
     let h = c.in_default.ensures in
-    (x.key, (h.0, omega (arith, h.1, within c.args.a.now c.loop-i.i x h.0 c.index-a-i.is c.loop-i-test.true)))
+    subst (λ (q : List ℕ). SomeTooLarge (λ i. total_at c.args.a.now q i + total_at c.args.b.now q i)) (sym c.key.ensures)
+    (h.0, omega (arith, h.1, within c.args.a.now c.loop-i.i x h.0 c.index-a-i.is c.loop-i-test.true))
 
 pub loop-i-preserved : goal.loop-i-preserved
 loop-i-preserved g c = record {

@@ -38,11 +38,15 @@ returns-in_err-add_at-clause-large c = λ key are of.
     let p = err_from_is_err_and c.from_residual.result c.from_residual.ensures.1 in
     let f = flow_total c.args.plan.now c.args.flow.span.start c.args.flow.span.end c.args.room.now.counters.items in
     let kept = ap (λ (ws : List ℕ). Some ws) (sym c.loop-interval.invariant.words) in
-    rw (p.1, p.2) (λ same. run_whole c.args.plan.now c.args.flow.span.start c.args.flow.span.end key c.args.room.now.counters.items (kept_at c.args.plan.now c.args.rows.now) c.args.flow.first c.args.flow.count c.requires.intervals.covers
-    (run_large (kept_at c.args.plan.now c.args.rows.now) (kept_at c.args.plan.now c.loop-interval.rows) f c.args.flow.first (c.args.flow.first + c.args.flow.count) c.loop-interval.interval key (omega arith) (omega arith)
-    (c.loop-interval.invariant.totals key are of)
-    (large_words (kept_at c.args.plan.now c.loop-interval.rows) c.args.plan.now c.args.flow.span.start c.args.flow.span.end c.loop-interval.interval key c.loop-interval.room.counters.items c.args.room.now.counters.items
-    c.loop-interval.invariant.counters (c.in_err-add_at.ensures.large key (are ∙ kept) (c.loop-interval.invariant.of_plan key are of) same))))
+    rw (p.1, p.2) (λ same. (
+      c.loop-interval.interval,
+      c.add_at.ensures.at,
+      run_whole c.args.plan.now c.args.flow.span.start c.args.flow.span.end key c.args.room.now.counters.items (kept_at c.args.plan.now c.args.rows.now) c.args.flow.first c.args.flow.count c.loop-interval.interval c.requires.intervals.covers
+          (run_large (kept_at c.args.plan.now c.args.rows.now) (kept_at c.args.plan.now c.loop-interval.rows) f c.args.flow.first (c.args.flow.first + c.args.flow.count) c.loop-interval.interval key (omega arith) (omega arith)
+          (c.loop-interval.invariant.totals key are of)
+          (large_words (kept_at c.args.plan.now c.loop-interval.rows) c.args.plan.now c.args.flow.span.start c.args.flow.span.end c.loop-interval.interval key c.loop-interval.room.counters.items c.args.room.now.counters.items
+          c.loop-interval.invariant.counters (c.in_err-add_at.ensures.large key (are ∙ kept) (c.loop-interval.invariant.of_plan key are of) same))),
+    ))
 
 pub returns-clause-ok : goal.returns-clause-ok
 returns-clause-ok c = λ key are of.

@@ -1,30 +1,49 @@
-use Rattle.std.proofs.Common.{◌++◌, ◌∙◌, Err, ap, subst, sym}
+use Rattle.std.proofs.Common.{None, ◌≡◌, ◌++◌, ◌∙◌, List, Err, ap, subst, sym, inr}
 use Rattle.std.proofs.lemmas.Result.{err_from_is_err_and}
-use Rattle.flow_table.specs.Partials.{HoldsTable}
+use Rattle.ipfix_message.specs.declared.record.DataRecord.{DataRecord}
+use Rattle.flow_table.specs.Partials.{totals_at, HoldsTable, LargeWith}
 use Rattle.flow_table.specs.declared.rows.Rows.{Rows}
 use Rattle.flow_table.specs.declared.table_fault.TableFault.{TableFault}
-use Rattle.flow_table.proofs.Holding.{count_too_large, merged_holds, merged_large, stands_err}
+use Rattle.flow_table.specs.declared.table_fault.TableFault.TheVariants.{SumTooLarge}
+use Rattle.flow_table.proofs.Holding.{count_too_large, merged_holds, merged_large, stands_err, stands_fault}
+use Rattle.flow_table.proofs.Named.{large_named, large_there, names_err}
+use Rattle.flow_table.proofs.merging.join.Goals.{After-take_interval}
 use Rattle.flow_table.proofs.merging.join.Goals as goal
 
-pub returns-in_err-tally : goal.returns-in_err-tally
-returns-in_err-tally c =
+pub returns-in_err-tally-clause-stands : goal.returns-in_err-tally-clause-stands
+returns-in_err-tally-clause-stands c =
     let p = err_from_is_err_and c.from_residual.result c.from_residual.ensures.1 in
     λ rs qs a b. stands_err c.args.plan.now c.args.rows.now c.args.tally.now (rs ++ qs) c.from_residual.result p.0 p.1
+    (λ same. inr (inr (count_too_large c.args.plan.now c.args.rows.now c.args.tally.now c.args.more.now rs qs a b.tally_is c.in_err-tally.ensures.large.1)))
+
+pub returns-in_err-tally-clause-names : goal.returns-in_err-tally-clause-names
+returns-in_err-tally-clause-names c =
+    let p = err_from_is_err_and c.from_residual.result c.from_residual.ensures.1 in
+    λ rs qs a b. names_err c.args.plan.now (record c.args.room.now { last = None }) (rs ++ qs) c.from_residual.result p.0 p.1
     (λ same. count_too_large c.args.plan.now c.args.rows.now c.args.tally.now c.args.more.now rs qs a b.tally_is c.in_err-tally.ensures.large.1)
 
-pub returns-in_err-rows : goal.returns-in_err-rows
-returns-in_err-rows c =
-    let p = err_from_is_err_and c.from_residual-in_err-rows.result c.from_residual-in_err-rows.ensures.1 in
-    λ rs qs a b. stands_err c.args.plan.now c.replace-own.new.dest c.in_ok-tally.field-0 (rs ++ qs) c.from_residual-in_err-rows.result c.in_err-rows.field-0.0 (p.1 ∙ ap (λ (e : TableFault). Err e) p.2)
-    (λ same.
+-- the totals of the row that is named
+named : (c : After-take_interval) (rs qs : List DataRecord) → HoldsTable c.args.plan.now c.args.rows.now c.args.tally.now rs → HoldsTable c.args.plan.now c.args.others c.args.more.now qs → c.in-Err.fault ≡ SumTooLarge
+    → HoldsTable c.args.plan.now c.replace-own.result c.args.tally.now rs × LargeWith c.args.plan.now c.replace-own.result (totals_at c.args.plan.now qs) c.take_interval.new.self
+named c rs qs a b same =
     let own = subst (λ (x : Rows). HoldsTable c.args.plan.now x c.args.tally.now rs) (sym c.replace-own.ensures.value) a in
-    let large = c.in_err-rows.ensures.large same in
-    merged_large c.args.plan.now c.replace-own.result c.args.others c.args.tally.now c.args.more.now rs qs own b large.0 large.1)
+    let large = c.in-Err.ensures.large same in
+    (own, merged_large c.args.plan.now c.replace-own.result c.args.others c.args.tally.now c.args.more.now rs qs c.take_interval.new.self own b large.0 c.merge.new.words.items c.take_interval.ensures large.1)
 
-pub returns : goal.returns
-returns c =
+pub returns-in-Err-clause-stands : goal.returns-in-Err-clause-stands
+returns-in-Err-clause-stands c = λ rs qs a b. stands_fault c.args.plan.now c.replace-own.new.dest c.in_ok-tally.field-0 (rs ++ qs) c.in-Err.fault (λ same.
+    let m = named (goal.at.returns-in-Err-clause-stands c).After-take_interval rs qs a b same in
+    large_there c.args.plan.now c.replace-own.result c.args.tally.now c.take_interval.new.self rs qs m.0 m.1)
+
+pub returns-in-Err-clause-names : goal.returns-in-Err-clause-names
+returns-in-Err-clause-names c = λ rs qs a b large.
+    let m = named (goal.at.returns-in-Err-clause-names c).After-take_interval rs qs a b cc in
+    large_named c.args.plan.now c.replace-own.result c.args.tally.now c.take_interval.new.self rs qs m.0 m.1
+
+pub returns-in-Ok-clause-stands : goal.returns-in-Ok-clause-stands
+returns-in-Ok-clause-stands c =
     let counts = c.in_ok-tally.ensures.ok in
     λ rs qs a b.
     let own = subst (λ (x : Rows). HoldsTable c.args.plan.now x c.args.tally.now rs) (sym c.replace-own.ensures.value) a in
-    merged_holds c.args.plan.now c.replace-own.result c.args.others c.in_ok-rows.field-0 c.args.tally.now c.args.more.now c.in_ok-tally.field-0 rs qs own b c.in_ok-rows.ensures.alike.1 counts.0 counts.1
-    c.in_ok-rows.ensures.alike.0 c.in_ok-rows.ensures.ok c.in_ok-rows.ensures.small
+    merged_holds c.args.plan.now c.replace-own.result c.args.others c.in-Ok.both c.args.tally.now c.args.more.now c.in_ok-tally.field-0 rs qs own b c.in-Ok.ensures.alike.1 counts.0 counts.1
+    c.in-Ok.ensures.alike.0 c.in-Ok.ensures.ok c.in-Ok.ensures.small

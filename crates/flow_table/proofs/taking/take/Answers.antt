@@ -1,4 +1,4 @@
-use Rattle.std.proofs.Common.{◌∷◌, ◌++◌, [], Err, sym, ap, ◌∙◌, subst}
+use Rattle.std.proofs.Common.{None, ◌∷◌, ◌++◌, [], Err, sym, ap, ◌∙◌, subst, inr}
 use Rattle.std.proofs.lemmas.Result.{err_from_is_err_and}
 use Rattle.flow_table.specs.declared.reading.Reading.{Reading}
 use Rattle.flow_table.specs.declared.table_fault.TableFault.{TableFault}
@@ -9,7 +9,8 @@ use Rattle.flow_table.proofs.Fits.{read_keys_fit}
 use Rattle.flow_table.specs.LeftOut.{missing_in}
 use Rattle.flow_table.specs.Partials.{one_of, tally_sum}
 use Rattle.flow_table.specs.Readings.{ReadsAs}
-use Rattle.flow_table.proofs.Holding.{left_taken, merged_missing, used_taken, one_too_many, too_large_sum, stands_err}
+use Rattle.flow_table.proofs.Holding.{left_taken, merged_missing, used_taken, one_too_many, stands_err}
+use Rattle.flow_table.proofs.Named.{large_named, large_there, names_err}
 use Rattle.flow_table.proofs.Lacking.{left_missing}
 use Rattle.flow_table.proofs.taking.take.Goals as goal
 
@@ -19,6 +20,14 @@ returns-in_err-count-in-Left-clause-stands c =
     let r = c.args.data_record.now in
     let reads = subst (λ (x : Reading). ReadsAs c.args.plan.now r c.read.new.words.items x) c.in-Left.is c.in_ok-left_out.ensures in
     λ rs holds. stands_err c.args.plan.now c.args.rows.now _ (rs ++ r ∷ []) c.from_residual-in_err-count-in-Left.result p.0 p.1
+    (λ same. inr (inr (one_too_many c.args.plan.now c.args.rows.now c.args.tally.now rs r c.class-class.result (reads.class ∙ sym c.class-class.ensures) holds c.in_err-count-in-Left.ensures.large.1)))
+
+pub returns-in_err-count-in-Left-clause-names : goal.returns-in_err-count-in-Left-clause-names
+returns-in_err-count-in-Left-clause-names c =
+    let p = err_from_is_err_and c.from_residual-in_err-count-in-Left.result c.from_residual-in_err-count-in-Left.ensures.1 in
+    let r = c.args.data_record.now in
+    let reads = subst (λ (x : Reading). ReadsAs c.args.plan.now r c.read.new.words.items x) c.in-Left.is c.in_ok-left_out.ensures in
+    λ rs holds. names_err c.args.plan.now (record c.args.room.now { words = c.read.new.words; last = None }) (rs ++ r ∷ []) c.from_residual-in_err-count-in-Left.result p.0 p.1
     (λ same. one_too_many c.args.plan.now c.args.rows.now c.args.tally.now rs r c.class-class.result (reads.class ∙ sym c.class-class.ensures) holds c.in_err-count-in-Left.ensures.large.1)
 
 pub returns-in_err-count-in-Used-clause-stands : goal.returns-in_err-count-in-Used-clause-stands
@@ -27,6 +36,14 @@ returns-in_err-count-in-Used-clause-stands c =
     let r = c.args.data_record.now in
     let reads = subst (λ (x : Reading). ReadsAs c.args.plan.now r c.read.new.words.items x) c.in-Used.is c.in_ok-left_out.ensures in
     λ rs holds. stands_err c.args.plan.now c.args.rows.now _ (rs ++ r ∷ []) c.from_residual-in_err-count-in-Used.result p.0 p.1
+    (λ same. inr (inr (one_too_many c.args.plan.now c.args.rows.now c.args.tally.now rs r Used reads.is.used holds c.in_err-count-in-Used.ensures.large.1)))
+
+pub returns-in_err-count-in-Used-clause-names : goal.returns-in_err-count-in-Used-clause-names
+returns-in_err-count-in-Used-clause-names c =
+    let p = err_from_is_err_and c.from_residual-in_err-count-in-Used.result c.from_residual-in_err-count-in-Used.ensures.1 in
+    let r = c.args.data_record.now in
+    let reads = subst (λ (x : Reading). ReadsAs c.args.plan.now r c.read.new.words.items x) c.in-Used.is c.in_ok-left_out.ensures in
+    λ rs holds. names_err c.args.plan.now (record c.args.room.now { words = c.read.new.words; last = None }) (rs ++ r ∷ []) c.from_residual-in_err-count-in-Used.result p.0 p.1
     (λ same. one_too_many c.args.plan.now c.args.rows.now c.args.tally.now rs r Used reads.is.used holds c.in_err-count-in-Used.ensures.large.1)
 
 pub returns-in_err-take_flow-in-Used-clause-stands : goal.returns-in_err-take_flow-in-Used-clause-stands
@@ -34,7 +51,14 @@ returns-in_err-take_flow-in-Used-clause-stands c =
     let p = err_from_is_err_and c.from_residual-in_err-take_flow-in-Used.result c.from_residual-in_err-take_flow-in-Used.ensures.1 in
     let r = c.args.data_record.now in
     λ rs holds. stands_err c.args.plan.now c.take_flow.new.rows _ (rs ++ r ∷ []) c.from_residual-in_err-take_flow-in-Used.result c.in_err-take_flow-in-Used.field-0.0 (p.1 ∙ ap (λ (e : TableFault). Err e) p.2)
-    (λ same. too_large_sum c.args.plan.now c.args.rows.now c.args.tally.now rs (r ∷ []) holds (c.in_err-take_flow-in-Used.ensures.large holds.of_plan same))
+    (λ same. large_there c.args.plan.now c.args.rows.now c.args.tally.now c.take_flow.new.room rs (r ∷ []) holds (c.in_err-take_flow-in-Used.ensures.large holds.of_plan same))
+
+pub returns-in_err-take_flow-in-Used-clause-names : goal.returns-in_err-take_flow-in-Used-clause-names
+returns-in_err-take_flow-in-Used-clause-names c =
+    let p = err_from_is_err_and c.from_residual-in_err-take_flow-in-Used.result c.from_residual-in_err-take_flow-in-Used.ensures.1 in
+    let r = c.args.data_record.now in
+    λ rs holds. names_err c.args.plan.now c.take_flow.new.room (rs ++ r ∷ []) c.from_residual-in_err-take_flow-in-Used.result c.in_err-take_flow-in-Used.field-0.0 (p.1 ∙ ap (λ (e : TableFault). Err e) p.2)
+    (λ same. large_named c.args.plan.now c.args.rows.now c.args.tally.now c.take_flow.new.room rs (r ∷ []) holds (c.in_err-take_flow-in-Used.ensures.large holds.of_plan same))
 
 pub returns-in_ok-count-in-Left-clause-stands : goal.returns-in_ok-count-in-Left-clause-stands
 returns-in_ok-count-in-Left-clause-stands c =

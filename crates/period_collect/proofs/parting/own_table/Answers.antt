@@ -42,8 +42,8 @@ returns-in-Ok-collect_job-clause-own g c =
           (subst (IsTable job.plan.now rs) (sym by.gathered.table_is) by.collects.headline.added_up.table_is, c.in-Ok-collect_job.ensures.fits);
     }
 
-pub returns-in-Err-SumTooLarge-clause-own : goal.returns-in-Err-SumTooLarge-clause-own
-returns-in-Err-SumTooLarge-clause-own g c =
+pub returns-in-SumTooLarge-clause-own : goal.returns-in-SumTooLarge-clause-own
+returns-in-SumTooLarge-clause-own g c =
     let seen = g.S.Source.seen in
     let job = c.job_with-job.result in
     let had = c.in-Ok-open_all.field-0 in
@@ -60,7 +60,7 @@ returns-in-Err-SumTooLarge-clause-own g c =
         files = c.in-Ok-open_all.ensures.named;
         gave = subst (λ (os : List Origin). AreTooLargeInContext seen job.plan.now (in_context job had.sources os)) c.deref-in-Ok-open_all.ensures.value
             (subst (λ ss. AreTooLargeInContext seen job.plan.now (in_context job ss c.deref-in-Ok-open_all.result.now)) c.into_sources-sources.ensures.list
-            (c.in-Err-SumTooLarge.ensures.faults.too_large (ap Err c.in-Err-SumTooLarge.field-0-is)));
+            (c.in-Err-collect_job.ensures.faults.too_large (ap Err c.in-SumTooLarge.is)));
         told = subst (AreToldTo g.E.WriteLines.contents g.E.WriteLines.failed c.args.maker.now.err c.open_all.new.err) (nothing_opened had.origins.items) c.in-Ok-open_all.ensures.told;
         same = refl;
       };

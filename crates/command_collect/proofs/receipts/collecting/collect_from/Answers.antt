@@ -9,7 +9,7 @@ use Rattle.input_digests.specs.declared.hashed_source.HashedSource.{HashedSource
 use Rattle.command_collect.specs.Engines.{due_fault}
 use Rattle.command_collect.specs.Exporters.{in_context}
 use Rattle.command_collect.specs.Gathered.{GathersBy}
-use Rattle.command_collect.proofs.Parts.{gathers_parts, refused_parts, too_large_parts}
+use Rattle.command_collect.proofs.Parts.{gathers_parts, names_parts, refused_parts, too_large_parts}
 use Rattle.command_collect.proofs.Placed.{as_many_each, gathered_digests}
 use Rattle.command_collect.proofs.Refusals.{fault_of_part}
 use Rattle.command_collect.proofs.receipts.collecting.collect_from.Goals as goal
@@ -19,8 +19,14 @@ returns-in-Err-clause-faults g c =
     let part = λ (h : HashedSource g.row.S.Denot g.row.T.Denot g.S.Source g.T.Start). h.source in
     let job = c.args.job.now in
     let many : vec_len c.in-Ok.hashed ≡ vec_len c.args.sources = c.in-Ok.hashed.ok.0 ∙ sym (length-map c.in-Ok.hashed.items part) ∙ ap length c.in-Ok.ensures ∙ sym c.args.sources.ok.0 in
-    fault_of_part _ _ _ _ _ _ c.in-Err.fault (ap (due_fault job.engine) many) (too_large_parts part g.S.Source.seen job job.plan.now c.in-Ok.hashed.items c.args.sources.items c.args.origins.now c.in-Ok.ensures)
+    fault_of_part _ _ _ _ _ _ c.in-Err.failure.fault (ap (due_fault job.engine) many) (too_large_parts part g.S.Source.seen job job.plan.now c.in-Ok.hashed.items c.args.sources.items c.args.origins.now c.in-Ok.ensures)
     (refused_parts part g.S.Source.seen job c.in-Ok.hashed.items c.args.sources.items c.args.origins.now c.in-Ok.ensures) c.in-Err.ensures.faults
+
+pub returns-in-Err-clause-large : goal.returns-in-Err-clause-large
+returns-in-Err-clause-large g c =
+    let part = λ (h : HashedSource g.row.S.Denot g.row.T.Denot g.S.Source g.T.Start). h.source in
+    let job = c.args.job.now in
+    names_parts part g.S.Source.seen job job.plan.now c.in-Ok.hashed.items c.args.sources.items c.args.origins.now c.in-Err.failure c.in-Ok.ensures c.in-Err.ensures.large
 
 pub finish_run-requires : goal.finish_run-requires
 finish_run-requires g c =

@@ -14,7 +14,7 @@ use Rattle.command_collect.proofs.receipts.remaking.remake.Goals as goal
 pub returns-in-Err-clause-fault : goal.returns-in-Err-clause-fault
 returns-in-Err-clause-fault g c =
     let same : vec_len c.args.sources ≡ length c.args.sources.items = search rules in
-    job_fault _ _ _ _ c.args.job.now.engine c.in-Err.fault same c.in-Err.ensures.faults
+    job_fault _ _ _ _ c.args.job.now.engine c.in-Err.failure.fault same c.in-Err.ensures.faults
 
 pub returns-in-Ok-remake_run-clause-remade : goal.returns-in-Ok-remake_run-clause-remade
 returns-in-Ok-remake_run-clause-remade g c =

@@ -1,12 +1,14 @@
 use Rattle.std.proofs.Common.{◌≡◌, Err, ap, inl, inr, length, refl, rules}
 use Rattle.std.specs.Prelude.{◌↔◌, is_some, vec_len}
 use Rattle.report_writing.specs.Statuses.{number_of}
+use Rattle.report_writing.specs.Told.{AreToldTo}
 use Rattle.report_writing.proofs.Ended.{never_three, one_of_three, zero_if_well}
 use Rattle.report_writing.proofs.LinesTold.{is_told}
+use Rattle.command_collect.specs.Engines.{due_fault}
 use Rattle.command_collect.specs.Exporters.{in_noting_context}
 use Rattle.command_collect.specs.Runs.{WentWell}
 use Rattle.command_collect.proofs.Ran.{of_gathered, tells_gathered, writes_table}
-use Rattle.command_collect.proofs.Refused.{job_fault, not_refused, refusal_told}
+use Rattle.command_collect.proofs.Refused.{job_fault, not_refused, refusal_named}
 use Rattle.command_collect.specs.Digests.{AreDigestsOf}
 use Rattle.command_collect.proofs.ReceiptsCollected.{not_put_of, put_of}
 use Rattle.command_collect.proofs.Hindered.{hindered_in, hindered_of}
@@ -14,19 +16,22 @@ use Rattle.command_collect.proofs.receipts.run.run_receipted.Goals as goal
 
 pub returns-in-Err-clause-runs : goal.returns-in-Err-clause-runs
 returns-in-Err-clause-runs g c =
-    let told = is_told _ _ _ c.write_collect_fault.result _ c.write_collect_fault.ensures.told c.write_collect_fault.ensures.failed in
+    let job = c.args.job.now in
+    let told = is_told _ _ _ c.write_failure.result _ c.write_failure.ensures.told c.write_failure.ensures.failed in
     let same : vec_len c.args.sources ≡ length c.args.sources.items = search rules in
-    let fault = job_fault _ _ _ _ c.args.job.now.engine c.in-Err.fault same c.in-Err.ensures.faults in
+    let fault = job_fault _ _ _ _ job.engine c.in-Err.failure.fault same c.in-Err.ensures.faults in
+    let given = in_noting_context job c.args.sources.items c.args.origins.now in
     record {
       statuses = inr (inr refl);
       table = λ ran. absurd (ran refl);
-      failed = λ failed. inl (c.in-Err.fault, fault, refl, c.hindrance_in.ensures, told);
-      refused = refusal_told _ c.in-Err.fault _ _ _ fault.arguments refl refl told;
+      failed = λ failed. inl (c.in-Err.failure, record { fault_is = fault; names = c.in-Err.ensures.large }, refl, c.hindrance_in.ensures, told);
+      refused = refusal_named g.S.Source.seen job.plan.now given job.engine (length c.args.sources.items) c.in-Err.failure job.verbosity c.args.origins.now _ _
+          (AreToldTo g.E.WriteLines.contents g.E.WriteLines.failed c.args.err.now c.write_failure.new.out) (due_fault job.engine (length c.args.sources.items)) refl fault.arguments c.in-Err.ensures.large refl refl told;
     }
 
 pub returns-in-Err-clause-hindered : goal.returns-in-Err-clause-hindered
 returns-in-Err-clause-hindered g c =
-    hindered_in g.S.Source.seen c.args.sources.items c.args.job.now c.args.origins.now c.in-Err.fault c.hindrance_in.result c.hindrance_in.ensures (λ is. c.in-Err.ensures.faults.too_large (ap Err is))
+    hindered_in g.S.Source.seen c.args.sources.items c.args.job.now c.args.origins.now c.in-Err.failure.fault c.hindrance_in.result c.hindrance_in.ensures (λ is. c.in-Err.ensures.faults.too_large (ap Err is))
 
 pub returns-in-Err-answer-clause-runs : goal.returns-in-Err-answer-clause-runs
 returns-in-Err-answer-clause-runs g c =

@@ -3,10 +3,11 @@ use Rattle.std.specs.Result.{result_err}
 use Rattle.ipfix_message.specs.declared.record.DataRecord.{DataRecord}
 use Rattle.flow_table.specs.declared.table_fault.TableFault.{TableFault}
 use Rattle.ipfix_message.specs.Outcome.{unless}
-use Rattle.flow_table.specs.Partials.{plan_of, fault_of, StandsFor, StandsBy}
+use Rattle.flow_table.specs.Partials.{plan_of, fault_of, NamesRow, StandsFor, StandsBy}
 use Rattle.flow_table.specs.Reading.{class_of}
 use Rattle.flow_table.proofs.Bags.{too_large_more}
 use Rattle.flow_table.proofs.Holding.{missing_after, stands_on, answers, no_fault, one_fault, large_of, small_on_ok, large_if_err}
+use Rattle.flow_table.proofs.Named.{names_on}
 use Rattle.flow_table.proofs.partial.Partial.add.Goals.{After-take-result}
 use Rattle.flow_table.proofs.partial.Partial.add.Goals as goal
 
@@ -19,6 +20,7 @@ unfolding StandsFor
 returns-in-Some-clause-adds c = λ rs stands. (
   stands_on c.args.self.now.plan c.args.self.now.rows c.args.self.now.tally rs (c.args.data_record.now ∷ []) c.args.self.now.fault c.in-Some.fault c.in-Some.is stands.0,
   λ none. absurd (one_fault c.args.self.now.fault c.in-Some.fault c.in-Some.is none),
+  names_on c.args.self.now.fault c.args.self.now.plan c.args.self.now.room rs (c.args.data_record.now ∷ []) stands.2,
 )
 
 pub returns-in-Some-clause-large : goal.returns-in-Some-clause-large
@@ -52,6 +54,8 @@ returns-clause-adds c = λ rs stands.
       subst (λ (o : Option TableFault). StandsBy o c.args.self.now.plan c.take-result.new.rows c.take-result.new.tally (rs ++ c.args.data_record.now ∷ [])) (sym c.err-self.ensures.value) more,
       λ none. missing_after c.args.self.now.plan c.take-result.new.rows c.take-result.new.tally rs (c.args.data_record.now ∷ []) c.args.self.now.missing c.take-result.new.missing c.take-result.result
           (stands.1 c.in_default.is) c.take-result.ensures.missing (sym c.err-self.ensures.value ∙ none) more,
+      subst (λ (o : Option TableFault). NamesRow o c.args.self.now.plan c.take-result.new.room (rs ++ c.args.data_record.now ∷ [])) (sym c.err-self.ensures.value)
+          (c.take-result.ensures.names rs (subst (λ (o : Option TableFault). StandsBy o c.args.self.now.plan c.args.self.now.rows c.args.self.now.tally rs) c.in_default.is stands.0)),
     )
 
 pub returns-clause-small : goal.returns-clause-small

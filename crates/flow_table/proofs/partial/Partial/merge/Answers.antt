@@ -5,9 +5,10 @@ use Rattle.flow_table.specs.declared.table_fault.TableFault.{TableFault}
 use Rattle.ipfix_message.specs.Outcome.{unless}
 use Rattle.flow_table.specs.Missing.{missing_of}
 use Rattle.flow_table.specs.Plans.{PlanValue}
-use Rattle.flow_table.specs.Partials.{plan_of, fault_of, StandsFor, StandsBy}
+use Rattle.flow_table.specs.Partials.{plan_of, fault_of, NamesRow, StandsFor, StandsBy}
 use Rattle.flow_table.proofs.Bags.{too_large_more}
 use Rattle.flow_table.proofs.Holding.{merged_missing, missing_after, on_ok, large_of, small_on_ok, large_if_err, stands_on, stands_taken, holds_of, no_fault, one_fault, answers_unit}
+use Rattle.flow_table.proofs.Named.{names_on, names_taken}
 use Rattle.flow_table.proofs.partial.Partial.merge.Goals.{After-join-result}
 use Rattle.flow_table.proofs.partial.Partial.merge.Goals as goal
 
@@ -24,6 +25,7 @@ unfolding StandsFor
 returns-in-Some-clause-merges c = λ rs qs stands others. (
   stands_on c.args.self.now.plan c.args.self.now.rows c.args.self.now.tally rs qs c.args.self.now.fault c.in-Some.fault c.in-Some.is stands.0,
   λ none. absurd (one_fault c.args.self.now.fault c.in-Some.fault c.in-Some.is none),
+  names_on c.args.self.now.fault c.args.self.now.plan c.args.self.now.room rs qs stands.2,
 )
 
 pub returns-in-Some-clause-large : goal.returns-in-Some-clause-large
@@ -53,6 +55,7 @@ unfolding StandsFor plan_of
 returns-in-Some-fault-clause-merges c = λ rs qs stands others. (
   stands_taken c.args.self.now.plan c.args.other.plan c.args.self.now.rows c.args.other.rows c.args.self.now.tally c.args.other.tally rs qs c.args.other.fault c.in-Some-fault.fault c.requires c.in-Some-fault.is others.0,
   λ none. cc none,
+  names_taken c.args.self.now.plan c.args.other.plan c.args.other.room rs qs c.args.other.fault c.in-Some-fault.fault c.requires c.in-Some-fault.is others.2,
 )
 
 pub returns-in-Some-fault-clause-large : goal.returns-in-Some-fault-clause-large
@@ -82,7 +85,7 @@ joined : (c : After-join-result) (rs qs : List DataRecord) → StandsFor c.args.
     → StandsBy (result_err c.join-result.result) c.args.self.now.plan c.join-result.new.rows c.join-result.new.tally (rs ++ qs)
 unfolding StandsFor plan_of
 joined c rs qs stands others =
-    c.join-result.ensures rs qs
+    c.join-result.ensures.stands rs qs
     (subst (λ (o : Option TableFault). StandsBy o c.args.self.now.plan c.args.self.now.rows c.args.self.now.tally rs) c.in_default.is stands.0)
     (holds_of c.args.self.now.plan c.args.other.plan c.args.other.rows c.args.other.tally qs c.args.other.fault c.requires c.in_default-fault.is others.0)
 
@@ -94,6 +97,10 @@ returns-clause-merges c = λ rs qs stands others.
       subst (λ (o : Option TableFault). StandsBy o c.args.self.now.plan c.join-result.new.rows c.join-result.new.tally (rs ++ qs)) (sym c.err-self.ensures.value) both,
       λ none. missing_after c.args.self.now.plan c.join-result.new.rows c.join-result.new.tally rs qs c.args.self.now.missing c.missing_together-self.result c.join-result.result
           (stands.1 c.in_default.is) (on_ok c.join-result.result (merged_missing c.args.self.now.plan qs c.args.self.now.missing c.args.other.missing c.missing_together-self.result more c.missing_together-self.ensures)) (sym c.err-self.ensures.value ∙ none) both,
+      subst (λ (o : Option TableFault). NamesRow o c.args.self.now.plan c.join-result.new.room (rs ++ qs)) (sym c.err-self.ensures.value)
+          (c.join-result.ensures.names rs qs
+          (subst (λ (o : Option TableFault). StandsBy o c.args.self.now.plan c.args.self.now.rows c.args.self.now.tally rs) c.in_default.is stands.0)
+          (holds_of c.args.self.now.plan c.args.other.plan c.args.other.rows c.args.other.tally qs c.args.other.fault c.requires c.in_default-fault.is others.0)),
     )
 
 pub returns-clause-small : goal.returns-clause-small

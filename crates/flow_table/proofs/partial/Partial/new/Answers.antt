@@ -19,4 +19,4 @@ pub returns-clause-empty : goal.returns-clause-empty
 unfolding StandsFor
 returns-clause-empty c =
     let of_plan : AreRowsOf c.in_ok-copy.field-0 c.new.result = subst (λ (p : PlanValue). AreRowsOf p c.new.result) (sym c.in_ok-copy.ensures) c.new.ensures.rows in
-    (holds_none c.in_ok-copy.field-0 c.new.result of_plan (none_kept c.in_ok-copy.field-0 c.new.result c.new.ensures.none), λ none. sym (missing_of-none c.in_ok-copy.field-0))
+    (holds_none c.in_ok-copy.field-0 c.new.result of_plan (none_kept c.in_ok-copy.field-0 c.new.result c.new.ensures.none), λ none. sym (missing_of-none c.in_ok-copy.field-0), λ large. absurd cc)

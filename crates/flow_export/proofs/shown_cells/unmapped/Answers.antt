@@ -1,7 +1,7 @@
 use Rattle.std.proofs.Common.{◌≡◌, true, length, refl, rules}
 use Rattle.flow_export.specs.Shown.{is_mapped}
 use Rattle.flow_export.proofs.ShownKeys.{last_four}
-use Rattle.flow_export.proofs.shown_cell.unmapped.Goals as goal
+use Rattle.flow_export.proofs.shown_cells.unmapped.Goals as goal
 
 pub returns-then-starts_with : goal.returns-then-starts_with
 returns-then-starts_with c =

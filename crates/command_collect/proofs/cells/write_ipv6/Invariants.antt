@@ -1,0 +1,10 @@
+use Rattle.std.proofs.Common.{◌*◌, take}
+use Rattle.std.specs.Io.KnownBytes.{Appends}
+use Rattle.ipfix_elements.specs.Texts.{ipv6_text}
+use Rattle.command_collect.proofs.cells.write_ipv6.Given as goal
+
+abbrev pub invariant-loop-group : goal.invariant-loop-group
+invariant-loop-group g l = record {
+  told : Appends (g.W.WriteLines.contents l.fn.out) (g.W.WriteLines.contents l.out) (ipv6_text (take (2 * l.group) l.address));
+  kept : g.W.WriteLines.failed l.fn.out → g.W.WriteLines.failed l.out;
+}
