@@ -191,7 +191,7 @@ module _ {F P W : Type 0} (seen : F → FilesView) (finishes : F → FileReport 
       all_same seen peer limits own _ old.peers.kept.entries new.peers.kept.entries (λ p. sym (append-nil (own p))) (ap (λ (r : DatagramTaker F P W). r.peers.kept.entries) t.0) s
 
   -- those that are silent follow the others
-  began_all : (own : SocketAddr → List Happening) (now : ℕ) (old new : DatagramTaker F P W) (lines : List ℕ) → HasAll seen peer limits own old.peers.kept.entries → KeepsToSeconds seen finishes made_for asked now old new lines → (IsKept peer old → IsKept peer new)
+  began_all : (own : SocketAddr → List Happening) (now : ℕ) (old new : DatagramTaker F P W) (lines : List ℕ) → HasAll seen peer limits own old.peers.kept.entries → KeepsToSeconds seen finishes now old new lines → (IsKept peer old → IsKept peer new)
       → HasAll seen peer limits (own_then own (λ p. begun (nat_lt old.second now) now)) new.peers.kept.entries
   began_all own now old new lines s g stays = elim g [
     | inl same ↦ (

@@ -55,7 +55,7 @@ module _ {F P W : Type 0} (seen : F → FilesView) (finishes : F → FileReport 
   given_limits (Err Tick) now old new lines t = ap (λ (r : DatagramTaker F P W). r.peers.limits) t.0
   given_limits (Err Failed) now old new lines t = ap (λ (r : DatagramTaker F P W). r.peers.limits) t.0
 
-  second_limits : (now : ℕ) (old new : DatagramTaker F P W) (lines : List ℕ) → KeepsToSeconds seen finishes made_for asked now old new lines → new.peers.limits ≡ old.peers.limits
+  second_limits : (now : ℕ) (old new : DatagramTaker F P W) (lines : List ℕ) → KeepsToSeconds seen finishes now old new lines → new.peers.limits ≡ old.peers.limits
   second_limits now old new lines g = elim g [
     | inl same ↦ ap (λ (r : DatagramTaker F P W). r.peers.limits) same.1
     | inr ends ↦ ends.1.limits.limits
@@ -67,7 +67,7 @@ module _ {F P W : Type 0} (seen : F → FilesView) (finishes : F → FileReport 
   pub round_limits : (r : Round) (old new : DatagramTaker F P W) → IsRound seen finishes made_for asked r old new → new.peers.limits ≡ old.peers.limits
   round_limits r old new is = second_limits r.second is.taken new is.last_lines is.goes_on ∙ given_limits r.given r.second is.kept is.taken is.taken_lines is.takes ∙ is.keeps.limits.limits
 
-  second_now : (now : ℕ) (old new : DatagramTaker F P W) (lines : List ℕ) → old.second ≤ now → KeepsToSeconds seen finishes made_for asked now old new lines → new.second ≡ now
+  second_now : (now : ℕ) (old new : DatagramTaker F P W) (lines : List ℕ) → old.second ≤ now → KeepsToSeconds seen finishes now old new lines → new.second ≡ now
   second_now now old new lines forward g = elim g [
     | inl same ↦ (let early = same.0 in ap (λ (r : DatagramTaker F P W). r.second) same.1 ∙ omega arith)
     | inr ends ↦ ap (λ (r : DatagramTaker F P W). r.second) ends.1.others
@@ -101,7 +101,7 @@ module _ {F P W : Type 0} (seen : F → FilesView) (finishes : F → FileReport 
   taken_stand own (Err Failed) now old new lines e s t =
       same_stand seen limits own _ old.peers.kept.entries new.peers.kept.entries (λ p. sym (append-nil (own p))) (ap (λ (r : DatagramTaker F P W). r.peers.kept.entries) t.0) s
 
-  began_stand : (own : SocketAddr → List Happening) (now : ℕ) (old new : DatagramTaker F P W) (lines : List ℕ) → Stands seen limits own old.peers.kept.entries → KeepsToSeconds seen finishes made_for asked now old new lines
+  began_stand : (own : SocketAddr → List Happening) (now : ℕ) (old new : DatagramTaker F P W) (lines : List ℕ) → Stands seen limits own old.peers.kept.entries → KeepsToSeconds seen finishes now old new lines
       → Stands seen limits (own_then own (λ p. begun (nat_lt old.second now) now)) new.peers.kept.entries
   began_stand own now old new lines s g = elim g [
     | inl same ↦ (

@@ -122,7 +122,7 @@ module _ {F P W : Type 0} (seen : F → FilesView) (finishes : F → FileReport 
   takes_given (Err Tick) now old new lines o t = subst (λ (r : DatagramTaker F P W). IsInOrder now r.peers.kept.entries) (sym t.0) o
   takes_given (Err Failed) now old new lines o t = subst (λ (r : DatagramTaker F P W). IsInOrder now r.peers.kept.entries) (sym t.0) o
 
-  ends_in_order : (now : ℕ) (old new : DatagramTaker F P W) (lines : List ℕ) → IsInOrder now old.peers.kept.entries → TellsAndEnds seen finishes made_for asked now old new lines → IsInOrder now new.peers.kept.entries
+  ends_in_order : (now : ℕ) (old new : DatagramTaker F P W) (lines : List ℕ) → IsInOrder now old.peers.kept.entries → TellsAndEnds seen finishes now old new lines → IsInOrder now new.peers.kept.entries
   ends_in_order now old new lines o t =
       let turned = had_turns seen finishes now false now old.peers.kept.entries t.between t.told o t.turns in
       front now new.peers.kept.entries t.silent.gone (subst (λ (l : List (SocketAddr × PeerState F)). IsInOrder now l) t.silent.those turned)

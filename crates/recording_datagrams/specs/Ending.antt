@@ -46,11 +46,11 @@ abbrev pub counted_lines : SocketAddr → WindowView → List ℕ
 counted_lines peer window = order_lines peer (map counts_of window.numbers)
 
 -- a line for each domain that went on after an earlier run
-abbrev pub domain_resumed_line : SocketAddr → Resumption → List ℕ
-domain_resumed_line peer r = resumed_line peer r.domain r.templates
+abbrev pub resumption_line : SocketAddr → Resumption → List ℕ
+resumption_line peer r = resumed_line peer r.domain r.templates
 
 abbrev pub resumed_lines : SocketAddr → List Resumption → List ℕ
-resumed_lines peer resumed = flat_map (domain_resumed_line peer) resumed
+resumed_lines peer resumed = flat_map (resumption_line peer) resumed
 
 -- a line if it ends without a fault
 abbrev pub cause_lines : SocketAddr → Option EndCause → List ℕ
@@ -68,10 +68,17 @@ advance_lines peer advances = flat_map (domain_advance_line peer) (told_of advan
 abbrev pub told_lines : SocketAddr → PeerSession → FilesEnd → List ℕ
 told_lines peer session end = advance_lines peer session.advances ++ session_lines peer session.session end
 
--- what was refused, what was doubled and reordered, why it ends, and those
+-- why it ends, and those
+abbrev pub rest_lines : SocketAddr → Option EndCause → PeerSession → FilesEnd → List ℕ
+rest_lines peer cause session end = cause_lines peer cause ++ told_lines peer session end
+
+-- what was doubled and reordered, and that
+abbrev pub ordered_lines : SocketAddr → WindowView → Option EndCause → PeerSession → FilesEnd → List ℕ
+ordered_lines peer window cause session end = counted_lines peer window ++ rest_lines peer cause session end
+
+-- what was refused, and that
 abbrev pub ending_lines : SocketAddr → Option Refusals → WindowView → Option EndCause → PeerSession → FilesEnd → List ℕ
-ending_lines peer refused window cause session end =
-    refusal_lines peer refused ++ (counted_lines peer window ++ (cause_lines peer cause ++ told_lines peer session end))
+ending_lines peer refused window cause session end = refusal_lines peer refused ++ ordered_lines peer window cause session end
 
 module _ {F : Type 0} (seen : F → FilesView) where
   -- of a session that ends without a fault all that waits is recorded first; another stays as it is

@@ -5,4 +5,5 @@ pub mod Taking
 pub mod Turns
 pub mod Rounds
 pub mod Queues
+pub mod Names
 pub mod Standing

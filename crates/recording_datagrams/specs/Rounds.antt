@@ -13,6 +13,7 @@ use Rattle.recording_peers.specs.declared.datagram_source.NoDatagram.TheVariants
 use Rattle.recording_peers.specs.declared.peer_state.PeerState.{PeerState}
 use Rattle.recording_connections.specs.declared.shared_counts.SharedCounts.{SharedCounts}
 use Rattle.report_writing.specs.Writing.{Tells}
+use Rattle.recording_datagrams.specs.Ending.{TellsSome}
 use Rattle.recording_datagrams.specs.Taking.{Arrival, Arrives}
 use Rattle.recording_datagrams.specs.Turns.{HadTurns, EndsSilent, unserved_lines, none_unserved}
 use Rattle.recording_datagrams.specs.declared.datagram_taker.DatagramTaker.{DatagramTaker}
@@ -52,6 +53,28 @@ module _ {F : Type 0} (seen : F → FilesView) (finishes : F → FileReport → 
   HadTurnsIf true second es after lines = HadTurns seen finishes second true es after lines
   HadTurnsIf false second es after lines = (after ≡ es) × (lines ≡ [])
 
+-- a call of a taker does this with it, and tells the lines of that
+abbrev pub Does : {F P W A : Type 0} → (W → Option (List ℕ)) → (W → Type 0) → DatagramTaker F P W → DatagramTaker F P W → Result (Unit {0}) A
+    → (DatagramTaker F P W → DatagramTaker F P W → List ℕ → Type 0) → Type 0
+Does contents has_failed old new answer This = TellsSome contents has_failed old.out new.out answer (This old new)
+
+module _ {F P W : Type 0} (seen : F → FilesView) (finishes : F → FileReport → FilesEnd → Type 0) where
+  -- in a new second all peers have their turn, those that have been silent for longer than they may be go, and what had no
+  -- session is told
+  pub record TellsAndEnds (now : ℕ) (old new : DatagramTaker F P W) (lines : List ℕ) : Type 0 where
+    pub between : List (SocketAddr × PeerState F)
+    pub told : List ℕ
+    pub turns : HadTurns seen finishes now false old.peers.kept.entries between told
+    pub ended : List ℕ
+    pub silent : EndsSilent seen finishes (now - old.idle) between new.peers.kept.entries ended
+    pub lines_are : lines ≡ told ++ (ended ++ unserved_lines old.unserved)
+    pub limits : KeepsLimits old.peers new.peers
+    pub others : new ≡ record old { second = now; peers = new.peers; unserved = none_unserved old.unserved; out = new.out }
+
+  -- the second never goes back
+  abbrev pub KeepsToSeconds : ℕ → DatagramTaker F P W → DatagramTaker F P W → List ℕ → Type 0
+  KeepsToSeconds now old new lines = ((now ≤ old.second) × (new ≡ old) × (lines ≡ [])) ⊎ ((old.second < now) × TellsAndEnds now old new lines)
+
 module _ {F P W : Type 0} (seen : F → FilesView) (finishes : F → FileReport → FilesEnd → Type 0) (made_for : F → SocketAddr → Type 0)
     (asked : P → ClockView) where
   -- the clock of the place is asked once
@@ -72,22 +95,6 @@ module _ {F P W : Type 0} (seen : F → FilesView) (finishes : F → FileReport 
   TakesGiven (Err Tick) now old new lines = (new ≡ old) × (lines ≡ [])
   TakesGiven (Err Failed) now old new lines = (new ≡ record old { unserved = one_not_received old.unserved }) × (lines ≡ [])
 
-  -- in a new second all peers have their turn, those that have been silent for longer than they may be go, and what had no
-  -- session is told
-  pub record TellsAndEnds (now : ℕ) (old new : DatagramTaker F P W) (lines : List ℕ) : Type 0 where
-    pub between : List (SocketAddr × PeerState F)
-    pub told : List ℕ
-    pub turns : HadTurns seen finishes now false old.peers.kept.entries between told
-    pub ended : List ℕ
-    pub silent : EndsSilent seen finishes (now - old.idle) between new.peers.kept.entries ended
-    pub lines_are : lines ≡ told ++ (ended ++ unserved_lines old.unserved)
-    pub limits : KeepsLimits old.peers new.peers
-    pub others : new ≡ record old { second = now; peers = new.peers; unserved = none_unserved old.unserved; out = new.out }
-
-  -- the second never goes back
-  abbrev pub KeepsToSeconds : ℕ → DatagramTaker F P W → DatagramTaker F P W → List ℕ → Type 0
-  KeepsToSeconds now old new lines = ((now ≤ old.second) × (new ≡ old) × (lines ≡ [])) ⊎ ((old.second < now) × TellsAndEnds now old new lines)
-
   -- the periods are kept to, what the source gave is taken, and then the second may be a new one
   pub record IsRound (r : Round) (old new : DatagramTaker F P W) : Type 0 where
     pub forward : old.second ≤ r.second
@@ -98,7 +105,7 @@ module _ {F P W : Type 0} (seen : F → FilesView) (finishes : F → FileReport 
     pub taken_lines : List ℕ
     pub takes : TakesGiven r.given r.second kept taken taken_lines
     pub last_lines : List ℕ
-    pub goes_on : KeepsToSeconds r.second taken new last_lines
+    pub goes_on : KeepsToSeconds seen finishes r.second taken new last_lines
     pub lines_are : r.lines ≡ kept_lines ++ (taken_lines ++ last_lines)
 
   -- one after another

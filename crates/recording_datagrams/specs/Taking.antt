@@ -7,7 +7,7 @@ use Rattle.recording_files.specs.Files.{FilesView}
 use Rattle.recording_files.specs.declared.file_report.FileReport.{FileReport}
 use Rattle.recording_folder.specs.declared.session_files.FilesEnd.{FilesEnd}
 use Rattle.recording_files.specs.declared.record_fault.RecordFault.TheVariants as faults
-use Rattle.recording_peers.specs.Steps.{KeepsLimits, Records}
+use Rattle.recording_peers.specs.Steps.{KeepsLimits, PeersRecord}
 use Rattle.recording_peers.specs.declared.peer_state.PeerState.{PeerState}
 use Rattle.recording_peers.specs.declared.peers.Peers.{Peers}
 use Rattle.recording_peers.specs.declared.outcome.Became.{Became}
@@ -37,11 +37,15 @@ unserved_by (Ended kept) shared from = shared
 unserved_by NoPlace shared from = one_turned_away shared from
 unserved_by NoMemory shared from = shared
 
+-- there was no memory for a datagram of a peer
+abbrev pub no_memory_line : SocketAddr → List ℕ
+no_memory_line peer = fault_line peer (faults.Message OutOfMemory)
+
 module _ {F : Type 0} (seen : F → FilesView) (finishes : F → FileReport → FilesEnd → Type 0) where
   -- the session of a peer that went ends, with these lines
-  abbrev pub EvictedLines : Option (SocketAddr × PeerState F) → List ℕ → Type 0
-  EvictedLines None lines = lines ≡ []
-  EvictedLines (Some gone) lines = Ends seen finishes gone.0 gone.1 (Some LongestSilent) lines
+  abbrev pub GoneLines : Option (SocketAddr × PeerState F) → List ℕ → Type 0
+  GoneLines None lines = lines ≡ []
+  GoneLines (Some gone) lines = Ends seen finishes gone.0 gone.1 (Some LongestSilent) lines
 
   -- the lines of what became of a datagram: of one that was taken none; refused and doubled ones, and those that find no place, are
   -- told later
@@ -49,7 +53,7 @@ module _ {F : Type 0} (seen : F → FilesView) (finishes : F → FileReport → 
   OutcomeLines peer Taken lines = lines ≡ []
   OutcomeLines peer (Ended kept) lines = Ends seen finishes peer kept None lines
   OutcomeLines peer NoPlace lines = lines ≡ []
-  OutcomeLines peer NoMemory lines = lines ≡ fault_line peer (faults.Message OutOfMemory)
+  OutcomeLines peer NoMemory lines = lines ≡ no_memory_line peer
 
 module _ {F : Type 0} (seen : F → FilesView) (finishes : F → FileReport → FilesEnd → Type 0) (made_for : F → SocketAddr → Type 0)
     (before after : Peers F) where
@@ -58,11 +62,10 @@ module _ {F : Type 0} (seen : F → FilesView) (finishes : F → FileReport → 
     pub became : Became F
     pub counted : then ≡ unserved_by became shared from
     pub gone : Option (SocketAddr × PeerState F)
-    pub records : Records seen made_for before.limits before.kept.cap (record { peer = from; octets = m; second = now; became = became; gone = gone })
-        before.kept.entries after.kept.entries
+    pub records : PeersRecord seen made_for from m now (record { became = became; gone = gone }) before after
     pub limits : KeepsLimits before after
     pub gone_lines : List ℕ
-    pub goes : EvictedLines seen finishes gone gone_lines
+    pub goes : GoneLines seen finishes gone gone_lines
     pub own_lines : List ℕ
     pub becomes : OutcomeLines seen finishes from became own_lines
     pub lines_are : lines ≡ gone_lines ++ own_lines

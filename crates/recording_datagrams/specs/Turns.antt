@@ -1,12 +1,12 @@
 -- What is done with all peers now and then, and the lines that tell of it.
-use Rattle.std.specs.Prelude.{◌≡◌, ◌<◌, ◌≤◌, ℕ, zero, suc, Bool, List, [], ◌∷◌, ◌++◌, Option, Some, None, Result, IfSome}
+use Rattle.std.specs.Prelude.{◌≡◌, ◌<◌, ℕ, zero, suc, Bool, List, [], ◌∷◌, ◌++◌, Option, Some, None, Result}
 use Rattle.std.specs.declared.net.socket_addr.SocketAddr.{SocketAddr}
 use Rattle.lru.specs.LruCache.{last_entry}
 use Rattle.recording_files.specs.Files.{FilesView}
 use Rattle.recording_files.specs.declared.file_report.FileReport.{FileReport}
 use Rattle.recording_folder.specs.declared.session_files.FilesEnd.{FilesEnd}
 use Rattle.recording_peers.specs.Calls.{TakesTurn}
-use Rattle.recording_peers.specs.Steps.{GoesOn, ended_by, first_by}
+use Rattle.recording_peers.specs.Steps.{GoesOn, LastIsHeard, ended_by, first_by}
 use Rattle.recording_peers.specs.Table.{others_than_last}
 use Rattle.recording_peers.specs.declared.in_turn.InTurn.{InTurn}
 use Rattle.recording_peers.specs.declared.peer_state.PeerState.{PeerState}
@@ -82,7 +82,7 @@ module _ {F : Type 0} (seen : F → FilesView) (finishes : F → FileReport → 
   pub record EndsSilent (before after : List (SocketAddr × PeerState F)) (lines : List ℕ) : Type 0 where
     pub gone : List (SocketAddr × PeerState F)
     pub those : before ≡ after ++ gone
-    pub heard : IfSome (last_entry after) (λ e. since ≤ e.1.heard)
+    pub heard : LastIsHeard since after
     pub are_silent : AreSilent gone lines
 
 -- ---- datagrams that had no session

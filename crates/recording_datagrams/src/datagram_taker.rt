@@ -41,14 +41,13 @@ impl<
     ghost use Rattle.recording_peers.specs.Answers.{answer_of};
     ghost use Rattle.recording_peers.specs.declared.datagram_source.Datagram.{Datagram};
     ghost use Rattle.recording_peers.specs.declared.datagram_source.NoDatagram.{NoDatagram};
-    ghost use Rattle.recording_datagrams.specs.Ending.{TellsSome};
-    ghost use Rattle.recording_datagrams.specs.Rounds.{KeepsToSeconds, KeepsToPeriods, TakesArrival, TakesGiven, TellsAndEnds, answer_in};
+    ghost use Rattle.recording_datagrams.specs.Rounds.{Does, KeepsToSeconds, KeepsToPeriods, TakesArrival, TakesGiven, TellsAndEnds, answer_in};
     ghost use Rattle.recording_datagrams.specs.Taking.{Arrival};
 
     /// All peers have their turn, in which their files are finished, if the period of the place is over.
     pub fn keep_to_periods(&mut self, now: u64) -> io::Result<()>
-        ensures { (is_over : Bool) × TellsSome W.contents W.failed self.old.out self.new.out result
-            (KeepsToPeriods F.seen F.finishes P.made_for P.asked is_over now self.old self.new) }
+        ensures { (is_over : Bool) × Does W.contents W.failed self.old self.new result
+            (KeepsToPeriods F.seen F.finishes P.made_for P.asked is_over now) }
     {
         if self.place.is_over() {
             go_over(self.alloc, &mut self.peers, now, true, &mut self.out)
@@ -69,8 +68,8 @@ impl<
         requires { IfOk received (λ d. d.length ≤ length buffer.now) }
         ensures { (given : Result Arrival NoDatagram)
             × (answer_in given ≡ answer_of received buffer.now)
-            × TellsSome W.contents W.failed self.old.out self.new.out result
-            (TakesGiven F.seen F.finishes P.made_for P.asked given now self.old self.new) }
+            × Does W.contents W.failed self.old self.new result
+            (TakesGiven F.seen F.finishes P.made_for P.asked given now) }
     {
         match received {
             Ok(Datagram { length, peer }) => self.take_from(peer, &buffer[..length], now),
@@ -87,10 +86,9 @@ impl<
     // `Peers::record` does, and each session that ends at that is reported; without memory to begin a session that is
     // told as its fault.
     fn take_from(&mut self, from: SocketAddr, datagram: &[u8], now: u64) -> io::Result<()>
-        ensures { (may_send : Bool) × TellsSome W.contents W.failed self.old.out self.new.out result
+        ensures { (may_send : Bool) × Does W.contents W.failed self.old self.new result
             (TakesArrival F.seen F.finishes P.made_for P.asked
-            (record { peer = from; octets = datagram.now; may_send = may_send })
-            now self.old self.new) }
+            (record { peer = from; octets = datagram.now; may_send = may_send }) now) }
     {
         if !self.filter.lets_in(from.ip()) {
             self.unserved.refuse(from);
@@ -111,8 +109,8 @@ impl<
     /// Goes on to a second. If it is a new one, all peers have their turn, and the sessions of peers end that have
     /// been silent for longer than they may be.
     pub fn go_on_to(&mut self, now: u64) -> io::Result<()>
-        ensures { TellsSome W.contents W.failed self.old.out self.new.out result
-            (KeepsToSeconds F.seen F.finishes P.made_for P.asked now self.old self.new) }
+        ensures { Does W.contents W.failed self.old self.new result
+            (KeepsToSeconds F.seen F.finishes now) }
     {
         if now <= self.second {
             return Ok(());
@@ -122,8 +120,8 @@ impl<
 
     // All peers have their turn, and the sessions of those end that have been silent for too long.
     fn tell_and_end(&mut self, now: u64) -> io::Result<()>
-        ensures { TellsSome W.contents W.failed self.old.out self.new.out result
-            (TellsAndEnds F.seen F.finishes P.made_for P.asked now self.old self.new) }
+        ensures { Does W.contents W.failed self.old self.new result
+            (TellsAndEnds F.seen F.finishes now) }
     {
         self.second = now;
         let told = go_over(self.alloc, &mut self.peers, now, false, &mut self.out);

@@ -1,8 +1,8 @@
 //! The end of a peer's session: its last file is finished, and its lines are told.
 
-ghost use Rattle.std.specs.Prelude.{◌≡◌, ◌++◌};
+ghost use Rattle.std.specs.Prelude.{◌≡◌};
 ghost use Rattle.report_writing.specs.Writing.{Tells};
-ghost use Rattle.recording_datagrams.specs.Ending.{advance_lines, cause_lines, counted_lines, domain_order_lines, domain_resumed_line, ending_lines, Ends, IsReleasedFor, order_lines, refusal_lines, resumed_lines, TellsSome, text_of, told_lines};
+ghost use Rattle.recording_datagrams.specs.Ending.{advance_lines, cause_lines, counted_lines, domain_order_lines, resumption_line, ending_lines, Ends, IsReleasedFor, order_lines, ordered_lines, refusal_lines, rest_lines, resumed_lines, TellsSome, text_of, told_lines};
 
 use ipfix_datagrams::{DomainAdvance, SequenceAdvances};
 use recording_connections::{RecordingFiles, write_session};
@@ -89,7 +89,7 @@ fn tell_resumption<W: WriteLines>(
     out: &mut W,
 ) -> io::Result<()>
     ensures { Tells W.contents W.failed out.old out.new result
-        (domain_resumed_line peer resumption.now) }
+        (resumption_line peer resumption.now) }
 {
     write_resumed(peer, resumption.domain, resumption.templates, out)
 }
@@ -137,7 +137,7 @@ fn tell_ordered<W: WriteLines>(
     out: &mut W,
 ) -> io::Result<()>
     ensures { Tells W.contents W.failed out.old out.new result
-        (counted_lines peer window.now ++ (cause_lines peer cause ++ told_lines peer session.now end)) }
+        (ordered_lines peer window.now cause session.now end) }
 {
     tell_counted(peer, window, out)?;
     tell_rest(peer, cause, session, end, out)
@@ -198,7 +198,7 @@ fn tell_rest<W: WriteLines>(
     out: &mut W,
 ) -> io::Result<()>
     ensures { Tells W.contents W.failed out.old out.new result
-        (cause_lines peer cause ++ told_lines peer session.now end) }
+        (rest_lines peer cause session.now end) }
 {
     tell_cause(peer, cause, out)?;
     tell_counts(peer, session, end, out)

@@ -48,8 +48,7 @@ impl<'a, R: Files + Clock, W: Wait, E: Write + Copy + Drop> PeerFolder<'a, R, W,
     ghost use Rattle.std.specs.Prelude.{◌≡◌, IfOk};
     ghost use Rattle.std.specs.Arc.{arc_value};
     ghost use Rattle.recording_files.specs.Files.{IsEmpty};
-    ghost use Rattle.recording_folder.specs.FiledSessions.{IsNamed};
-    ghost use Rattle.recording_names.specs.declared.transport.Transport.TheVariants.{Datagrams};
+    ghost use Rattle.recording_datagrams.specs.Names.{NamesPeer};
 
     /// From now on each file is finished by the thread that it comes from.
     pub(crate) fn finish_at_once(&mut self) {
@@ -66,7 +65,7 @@ impl<'a, R: Files + Clock, W: Wait, E: Write + Copy + Drop> PeerFolder<'a, R, W,
         ensures empty { IfOk result (λ files.
             IsEmpty (⟦<PeerFiles<'a, R, W, E> as FileSeries>⟧.seen files).contents) }
         ensures named { IfOk result (λ files.
-            IsNamed (arc_value files.session) peer Datagrams number.now.number) }
+            NamesPeer (arc_value files.session) peer number.now.number) }
     {
         let finisher = QueueFinisher {
             at_once: self.place.finisher(alloc, WholeLines::new(self.err)),
@@ -110,11 +109,10 @@ impl<'a, R: Files + Clock, W: Wait, E: Write + Copy + Drop> PeerPlace<PeerFiles<
     for PeerFolder<'a, R, W, E> {
     ghost use Rattle.std.specs.Prelude.{ℕ};
     ghost use Rattle.std.specs.Arc.{arc_value};
-    ghost use Rattle.recording_folder.specs.FiledSessions.{IsNamed};
-    ghost use Rattle.recording_names.specs.declared.transport.Transport.TheVariants.{Datagrams};
+    ghost use Rattle.recording_datagrams.specs.Names.{NamesPeer};
 
     // Its files have the name of the peer, and the number of a session.
-    ghost made_for = { λ files peer. (number : ℕ) × IsNamed (arc_value files.session) peer Datagrams number };
+    ghost made_for = { λ files peer. (number : ℕ) × NamesPeer (arc_value files.session) peer number };
 
     fn files(
         &mut self,

@@ -1,10 +1,10 @@
 //! The thread that takes datagrams, beside those that finish the files of peers.
 
-ghost use Rattle.std.specs.Prelude.{◌≡◌, [], length, IfOk};
+ghost use Rattle.std.specs.Prelude.{◌≡◌, length, IfOk};
 ghost use Rattle.std.specs.Int.NonZero.{non_zero_u64_get, non_zero_usize_get};
-ghost use Rattle.lru.specs.LruCache.{lru_cache};
 ghost use Rattle.recording_connections.specs.Refusals.{none_unserved};
 ghost use Rattle.recording_folder.specs.FiledSessions.{BeginsWith};
+ghost use Rattle.recording_peers.specs.Steps.{KeepsNone};
 
 use crate::datagram_limits::DatagramLimits;
 use crate::datagram_taker::DatagramTaker;
@@ -116,11 +116,11 @@ fn taker_of<'x, E: Write + Copy + Drop, R: Wait>(
     ensures periods { IfOk result (λ taker.
         BeginsWith (non_zero_u64_get run.entry.order.now.every) taker.place.periods) }
     ensures most { IfOk result (λ taker.
-        taker.peers.kept ≡ lru_cache [] (non_zero_usize_get limits.most)) }
+        KeepsNone (non_zero_usize_get limits.most) taker.peers) }
     ensures idle { IfOk result (λ taker. taker.idle ≡ limits.idle) }
     ensures earlier { IfOk result (λ taker. taker.place.kept_for ≡ limits.idle) }
-    ensures session { IfOk result (λ taker. taker.peers.limits
-        ≡ record { reorder = limits.reorder; templates = limits.templates }) }
+    ensures reorder { IfOk result (λ taker. taker.peers.limits.reorder ≡ limits.reorder) }
+    ensures templates { IfOk result (λ taker. taker.peers.limits.templates ≡ limits.templates) }
     ensures second { IfOk result (λ taker. taker.second ≡ 0) }
     ensures unserved { IfOk result (λ taker. taker.unserved ≡ none_unserved) }
 {

@@ -1,6 +1,6 @@
 //! Datagrams that the system dropped.
 
-ghost use Rattle.std.specs.Prelude.{◌≡◌, ◌-◌};
+ghost use Rattle.std.specs.Prelude.{◌≡◌};
 ghost use Rattle.report_writing.specs.Writing.{Tells};
 ghost use Rattle.recording_datagrams.specs.Drops.{drop_lines};
 
@@ -25,7 +25,7 @@ impl SocketDrops {
     /// told though the line can't be written.
     pub fn tell<W: WriteLines>(&mut self, dropped: u64, out: &mut W) -> io::Result<()>
         ensures told { Tells W.contents W.failed out.old out.new result
-            (drop_lines self.old.address (dropped - self.old.dropped)) }
+            (drop_lines self.old dropped) }
         ensures counted { self.new ≡ record self.old { dropped = dropped } }
     {
         let more = dropped.saturating_sub(self.dropped);

@@ -2,11 +2,8 @@
 
 ghost use Rattle.std.specs.Prelude.{◌≡◌};
 ghost use Rattle.report_writing.specs.Writing.{Tells};
-ghost use Rattle.recording_connections.specs.Serving.{fault_line};
-ghost use Rattle.ipfix_message.specs.declared.fault.MessageFault.TheVariants.{OutOfMemory};
-ghost use Rattle.recording_files.specs.declared.record_fault.RecordFault.TheVariants as faults;
 ghost use Rattle.recording_datagrams.specs.Ending.{TellsSome};
-ghost use Rattle.recording_datagrams.specs.Taking.{OutcomeLines, EvictedLines, IsProcessed, unserved_by};
+ghost use Rattle.recording_datagrams.specs.Taking.{OutcomeLines, GoneLines, IsProcessed, no_memory_line, unserved_by};
 
 use crate::ending::{EndCause, end_peer};
 use ipfix_message::MessageFault;
@@ -58,7 +55,7 @@ fn tell_gone<F: RecordingFiles, W: WriteLines>(
     out: &mut W,
 ) -> io::Result<()>
     ensures { TellsSome W.contents W.failed out.old out.new result
-        (EvictedLines F.seen F.finishes gone) }
+        (GoneLines F.seen F.finishes gone) }
 {
     match gone {
         None => Ok(()),
@@ -86,7 +83,7 @@ fn tell_became<F: RecordingFiles, W: WriteLines>(
 
 fn tell_no_memory<W: WriteLines>(peer: SocketAddr, out: &mut W) -> io::Result<()>
     ensures { Tells W.contents W.failed out.old out.new result
-        (fault_line peer (faults.Message OutOfMemory)) }
+        (no_memory_line peer) }
 {
     let fault = RecordFault::Message(MessageFault::OutOfMemory);
     write_peer_fault(peer, fault.number(), fault.name(), out)

@@ -1,9 +1,8 @@
 //! What is done with all peers now and then: refused datagrams are told, files are finished, silent peers end.
 
-ghost use Rattle.std.specs.Prelude.{◌≡◌, ◌≤◌, ◌⊎◌, [], None, IfSome};
-ghost use Rattle.lru.specs.LruCache.{last_entry};
+ghost use Rattle.std.specs.Prelude.{◌≡◌, ◌⊎◌, [], None, IfSome};
 ghost use Rattle.report_writing.specs.Writing.{Tells};
-ghost use Rattle.recording_peers.specs.Steps.{KeepsLimits};
+ghost use Rattle.recording_peers.specs.Steps.{KeepsLimits, LastIsHeard};
 ghost use Rattle.recording_datagrams.specs.Ending.{TellsSome};
 ghost use Rattle.recording_datagrams.specs.Turns.{EndsSilent, EndedLines, HadTurns, EndsOneSilent, IsTurn, IsTurnTold, none_unserved, not_received_lines, turned_away_lines, unserved_lines};
 
@@ -124,8 +123,8 @@ fn end_one<F: RecordingFiles + Drop, W: WriteLines>(
     since: u64,
     out: &mut W,
 ) -> Option<io::Result<()>>
-    ensures none { result ≡ None → (peers.new ≡ peers.old) × (out.new ≡ out.old)
-        × IfSome (last_entry peers.old.kept.entries) (λ e. since ≤ e.1.heard) }
+    ensures none { result ≡ None → (peers.new ≡ peers.old) × (out.new ≡ out.old) }
+    ensures heard { result ≡ None → LastIsHeard since peers.old.kept.entries }
     ensures silent { IfSome result (λ answer. TellsSome W.contents W.failed out.old out.new answer
         (EndsOneSilent F.seen F.finishes since peers.old.kept.entries peers.new.kept.entries)) }
     ensures limits { KeepsLimits peers.old peers.new }
