@@ -9,6 +9,7 @@ mod held;
 mod lookup;
 mod merging;
 mod numbers;
+mod packing;
 mod piece;
 mod pile;
 mod shedding;
