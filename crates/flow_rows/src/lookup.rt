@@ -9,7 +9,7 @@ ghost use Rattle.flow_rows.specs.Rows.{IsRun, Row, total_at, words_cmp};
 use crate::piece::Piece;
 
 /// The place of a row that has the key of another row, or else where one would stand.
-fn search<const K: usize, const C: usize>(
+pub fn search<const K: usize, const C: usize>(
     run: &[Piece<K, C>],
     wanted: &Piece<K, C>,
 ) -> Result<usize, usize>

@@ -4,20 +4,43 @@ ghost use Rattle.std.specs.Prelude.{◌≡◌, ◌+◌, ◌++◌, ◌≤◌, ℕ
 ghost use Rattle.flow_rows.specs.Rows.{IsRun, Small, total_at};
 ghost use Rattle.flow_rows.specs.Stacks.{AreRuns, stack_total};
 
+use crate::lookup::search;
 use crate::piece::Piece;
 use std::alloc::{AllocError, Global};
 use std::cmp::Ordering;
 use std::ops::Range;
 
-/// Merges a newer run into an older one, the greatest key first, and adds up rows of one key. After the older
-/// run is room for the newer. The merged rows stand before and after the places of the answer, whose rows
-/// are left over.
+/// The place from which on the rows of a newer run are above all of an older one.
+fn place_above<const K: usize, const C: usize>(
+    rows: &[Piece<K, C>],
+    older: usize,
+    newer: &[Piece<K, C>],
+) -> usize
+    requires within { older ≤ length rows.now }
+    requires older { IsRun (take older rows.now) }
+    requires newer { IsRun newer.now }
+    ensures within { result ≤ length newer.now }
+    ensures run { IsRun (take older rows.now ++ drop result newer.now) }
+{
+    if older == 0 {
+        return 0;
+    }
+    match search(newer, &rows[older - 1]) {
+        Ok(place) => place + 1,
+        Err(place) => place,
+    }
+}
+
+/// Merges a newer run into an older one, the greatest key first, and adds up rows of one key. The newer stands
+/// after the older, and there those of its rows stay that are above all of the older. The merged rows stand
+/// before and after the places of the answer, whose rows are left over.
 fn merge_down<const K: usize, const C: usize>(
     rows: &mut [Piece<K, C>],
     older: usize,
     newer: &[Piece<K, C>],
 ) -> Range<usize>
     requires room { length rows.old ≡ older + length newer.now }
+    requires tail { drop older rows.old ≡ newer.now }
     requires small { Small (λ q i. total_at (take older rows.old) q i + total_at newer.now q i) }
     requires older { IsRun (take older rows.old) }
     requires newer { IsRun newer.now }
@@ -29,8 +52,8 @@ fn merge_down<const K: usize, const C: usize>(
     ensures run { IsRun (take result.start rows.new ++ drop result.end rows.new) }
 {
     let mut i = older;
-    let mut j = newer.len();
-    let mut place = rows.len();
+    let mut j = place_above(rows, older, newer);
+    let mut place = older + j;
     while i > 0 && j > 0 {
         place -= 1;
         match rows[i - 1].order(&newer[j - 1]) {

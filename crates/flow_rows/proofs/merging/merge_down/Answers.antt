@@ -1,9 +1,13 @@
 use Rattle.std.proofs.Common.{arith, inl, inr, rules}
 use Rattle.std.specs.declared.cmp.Ordering.TheVariants.{Less, Equal, Greater}
 use Rattle.flow_rows.proofs.Ascending.{turned}
+use Rattle.flow_rows.proofs.Beyond.{merging_from}
 use Rattle.flow_rows.proofs.Downwards.{all_down, all_laid, compared, newer_last, older_last, put_both, put_newer, put_older, small_both, total_down}
 use Rattle.flow_rows.proofs.merging.merge_down.Goals.{then-loop-i-test+else-j-gt0, else-loop-i-test}
 use Rattle.flow_rows.proofs.merging.merge_down.Goals as goal
+
+pub loop-i-init : goal.loop-i-init
+loop-i-init g c = merging_from c.args.rows.now c.args.newer.now c.args.older c.place_above-j.result c.requires.room c.requires.tail c.place_above-j.ensures.within c.requires.newer c.place_above-j.ensures.run
 
 pub loop-i-preserved-in-Less : goal.loop-i-preserved-in-Less
 loop-i-preserved-in-Less g c =
