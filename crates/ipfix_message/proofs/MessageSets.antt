@@ -1,5 +1,6 @@
 -- The sets of a message: what is read is what is spelled.
 use Rattle.std.proofs.Common.{◌≡◌, ℕ, ◌+◌, ◌-◌, ◌^◌, ◌<◌, ◌≤◌, false, eqb, List, [], ◌∷◌, ◌++◌, length, take, drop, Some, Result, Ok, Err, refl, sym, ap, subst, ◌∙◌, append_assoc, arith}
+use Rattle.std.specs.Prelude.{IfErr}
 use Rattle.std.proofs.lemmas.Bool.{le-ltb, lt-ltb}
 use Rattle.std.proofs.lemmas.List.{length-append, length-drop, length-take, take-append-drop, take_at, drop_at}
 use Rattle.byteorder.specs.Endian.{big_number}
@@ -98,6 +99,13 @@ next_set-fault w f some h = by_cases (set_at w) refl h
         (λ short same. rw (no, lt-ltb (length w) 4 short) (ap (λ (x : MessageFault). Some x) (ap fault_of (span_err_is wire.SetHeader e same) ∙ fault_is (fault_of e) f g)))
         (λ long same. rw (no, le-ltb (length w) 4 long) (ap (λ (x : MessageFault). Some x) (ap fault_of (span_err_is wire.SetLength e same) ∙ fault_is (fault_of e) f g)))
         (λ room size whole same. absurd (span_not_both (span (big_number 2 w) (number_at 2 2 w - 4)) e same))
+
+pub next_set-left : (w : List ℕ) → 0 < length w → IfErr (next_set w) (λ f. fault_after_sets w ≡ Some f)
+next_set-left w some = by_cases (next_set w) refl
+  where
+    by_cases : (read : Result (Set × List ℕ) MessageFault) → next_set w ≡ read → IfErr read (λ f. fault_after_sets w ≡ Some f)
+    by_cases (Ok x) here = tt
+    by_cases (Err f) here = next_set-fault w f some here
 
 -- nothing holds no set
 pub next_set-nil : (w : List ℕ) → length w ≡ 0 → (f : MessageFault) × (next_set w ≡ Err f)

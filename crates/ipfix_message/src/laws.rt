@@ -1,7 +1,7 @@
 //! Laws of the definitions. Each is a function that does nothing, and its contract is the theorem: a
 //! call brings that to the proof of its caller.
 
-ghost use Rattle.std.specs.Prelude.{◌≡◌, ◌<◌, ◌↔◌, ℕ, List, Some, None, Ok, Err, All, length};
+ghost use Rattle.std.specs.Prelude.{◌≡◌, ◌<◌, ◌↔◌, ℕ, List, Some, None, Ok, IfErr, All, length};
 ghost use Rattle.ipfix_wire.specs.Numbers.{IsOctets};
 ghost use Rattle.ipfix_wire.specs.declared.specifier.Spec.{Spec};
 ghost use Rattle.ipfix_message.specs.Alike.{SameMessage, IsPartOf, knows};
@@ -34,8 +34,8 @@ pub fn longest_sets()
     ensures found { (w : List ℕ) → IsOctets w → AreSetsOf (sets_of w) w }
     ensures only { (w : List ℕ) (sets : Parts Set) → IsOctets w
         → AreSetsOf sets w → sets_of w ≡ sets }
-    ensures left { (rest : List ℕ) (f : MessageFault) → 0 < length rest
-        → next_set rest ≡ Err f → fault_after_sets rest ≡ Some f }
+    ensures left { (w : List ℕ) → 0 < length w
+        → IfErr (next_set w) (λ f. fault_after_sets w ≡ Some f) }
 {}
 
 /// The template records in the body of a template set are the longest list of definitions and

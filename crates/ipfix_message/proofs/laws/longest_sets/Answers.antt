@@ -1,4 +1,4 @@
-use Rattle.ipfix_message.proofs.MessageSets.{sets_of-found, sets_of-only, next_set-fault}
+use Rattle.ipfix_message.proofs.MessageSets.{sets_of-found, sets_of-only, next_set-left}
 use Rattle.ipfix_message.proofs.laws.longest_sets.Goals as goal
 
 pub returns-clause-found : goal.returns-clause-found
@@ -8,4 +8,4 @@ pub returns-clause-only : goal.returns-clause-only
 returns-clause-only c = sets_of-only
 
 pub returns-clause-left : goal.returns-clause-left
-returns-clause-left c = next_set-fault
+returns-clause-left c = next_set-left
