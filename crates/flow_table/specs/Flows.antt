@@ -1,13 +1,14 @@
 -- What one flow adds to the totals.
-use Rattle.std.specs.Prelude.{◌≡◌, ℕ, ◌+◌, ◌^◌, ◌<◌, ◌&&◌, nat_eq, nat_le, nat_lt, Bool, if◌then◌else◌, List, map, Option, Some, None}
+use Rattle.std.specs.Prelude.{◌≡◌, ℕ, ◌+◌, ◌^◌, ◌<◌, ◌&&◌, nat_eq, nat_le, nat_lt, Bool, if◌then◌else◌, List, map, Option, Some, None, Result, OnOk}
 use Rattle.std.specs.List.{list_any, range_with_len}
 use Rattle.ipfix_elements.specs.declared.cell.Cell.{Cell}
 use Rattle.flow_table.specs.declared.adding.Room.{Room}
 use Rattle.flow_table.specs.declared.flow.Flow.{Flow}
 use Rattle.flow_table.specs.declared.rows.Rows.{Rows}
+use Rattle.flow_table.specs.declared.table_fault.TableFault.{TableFault}
 use Rattle.flow_table.specs.Intervals.{covers, share}
 use Rattle.flow_table.specs.Plans.{PlanValue}
-use Rattle.flow_table.specs.Rows.{AreRowsOf, part_at}
+use Rattle.flow_table.specs.Rows.{AddsTotals, AreRowsOf, part_at, place_part}
 use Rattle.flow_table.specs.Totals.{Total, total}
 use Rattle.flow_table.specs.Words.{key_words}
 
@@ -48,6 +49,10 @@ read_total plan flow room k = flow_total plan flow.span.start flow.span.end room
 abbrev pub read_part : PlanValue → Flow → Room → List Cell → ℕ → List Cell → Option Total
 read_part plan flow room key k q = flow_part plan flow.span.start flow.span.end key room.counters.items k q
 
+-- what it adds at one of its intervals alone
+abbrev pub read_at : ℕ → PlanValue → Flow → Room → List Cell → ℕ → List Cell → Option Total
+read_at interval plan flow room key k q = place_part interval key (read_total plan flow room interval) k q
+
 -- there is an interval that was added to last, and of it this holds
 abbrev pub AtLast : Room → (ℕ → Type 0) → Type 0
 AtLast room P = (k : ℕ) × (room.last ≡ Some k) × P k
@@ -55,3 +60,7 @@ AtLast room P = (k : ℕ) × (room.last ≡ Some k) × P k
 -- with the key whose words were read, and rows of the plan
 abbrev pub WithKey : PlanValue → Rows → Room → (List Cell → Type 0) → Type 0
 WithKey plan rows room P = (key : List Cell) → key_words plan.kinds key ≡ Some room.words.items → AreRowsOf plan rows → P key
+
+-- unless it fails, these parts of what was read are added
+abbrev pub AddsRead : {X : Type 0} → (PlanValue → Flow → Room → List Cell → ℕ → List Cell → Option Total) → Result X TableFault → PlanValue → Rows → Flow → Room → Rows → Type 0
+AddsRead parts result plan old flow room new = WithKey plan old room (λ key. OnOk result (AddsTotals plan old (parts plan flow room key) new))

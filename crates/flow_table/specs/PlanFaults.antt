@@ -1,7 +1,15 @@
--- The numbers and names that reports give for the faults of plans.
-use Rattle.std.specs.Prelude.{ℕ, List, codes}
+-- The faults of plans: when a result has one, and the numbers and names that reports give for each.
+use Rattle.std.specs.Prelude.{◌≡◌, ◌≢◌, ℕ, List, codes, Option, Some, Result, IfErr, IsErrOf}
 use Rattle.flow_table.specs.declared.plan_fault.PlanFault.{PlanFault}
 use Rattle.flow_table.specs.declared.plan_fault.PlanFault.TheVariants.{Length, Spread, KeyCount, KeyKind, Prefix, CounterCount, CounterKind, Repeated, OutOfMemory}
+
+-- a fault that isn't want of memory is the first one that fits
+abbrev pub FaultIsFirst : {X : Type 0} → Result X PlanFault → Option PlanFault → Type 0
+FaultIsFirst result first = IfErr result (λ fault. fault ≢ OutOfMemory → first ≡ Some fault)
+
+-- what holds if memory is wanting
+abbrev pub IfNoMemory : {X : Type 0} → Result X PlanFault → Type 0 → Type 0
+IfNoMemory result P = IsErrOf result OutOfMemory → P
 
 abbrev pub number_of : PlanFault → ℕ
 number_of Length = 1

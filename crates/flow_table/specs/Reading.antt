@@ -1,5 +1,5 @@
 -- Data records read under a plan: start and end, key, counters and class (RFC 7015, section 5).
-use Rattle.std.specs.Prelude.{◌≡◌, ℕ, ◌+◌, ◌-◌, ◌*◌, ◌/◌, ◌^◌, ◌<◌, ◌≤◌, ◌&&◌, Bool, true, false, nat_lt, nat_le, if◌then◌else◌, List, [], ◌∷◌, Option, Some, None, is_none, unwrap_or, option_map, option_and_then}
+use Rattle.std.specs.Prelude.{◌≡◌, ℕ, ◌+◌, ◌-◌, ◌*◌, ◌/◌, ◌^◌, ◌<◌, ◌≤◌, ◌&&◌, Bool, true, false, nat_lt, nat_le, if◌then◌else◌, List, [], ◌∷◌, map, Option, Some, None, is_none, unwrap_or, option_map, option_and_then}
 use Rattle.std.specs.Option.{option_or}
 use Rattle.ipfix_wire.specs.declared.specifier.ElementId.{ElementId}
 use Rattle.ipfix_elements.specs.declared.cell.Cell.{Cell}
@@ -39,6 +39,10 @@ number_of element r = number_as (Unsigned Eight) element r
 -- a counter that is missing or absent is 0
 abbrev pub counter_of : ElementId → DataRecord → ℕ
 counter_of element r = unwrap_or (number_of element r) 0
+
+-- the counters of a record, one for each element
+abbrev pub counters_of : List ElementId → DataRecord → List ℕ
+counters_of elements r = map (λ c. counter_of c r) elements
 
 -- a counter of a record is above 2^63: two such ones are too large a sum
 abbrev pub is_great : DataRecord → ElementId → Bool
@@ -188,6 +192,10 @@ start_of times.All r = option_or (basic_start r) (other_start r)
 unfoldable pub end_of : Times → DataRecord → Option ℕ
 end_of times.Basic r = basic_end r
 end_of times.All r = option_or (basic_end r) (other_end r)
+
+-- where the first of two ways to read times gives one, the second gives the same
+abbrev pub TimesStay : (DataRecord → Option ℕ) → (DataRecord → Option ℕ) → Type 0
+TimesStay first second = (r : DataRecord) (time : ℕ) → first r ≡ Some time → second r ≡ Some time
 
 -- ---- keys (RFC 7015, section 5.2)
 

@@ -62,12 +62,15 @@ padded_to width depth words numbers = row (padded width words) (padded depth num
 abbrev pub padded_row : Rows → List ℕ → List ℕ → Row
 padded_row rows words numbers = padded_to (width_of rows) (depth_of rows) words numbers
 
--- numbers by the words of a key and a place: those of two, and whether they are the same
+-- numbers by the words of a key and a place: those of two, whether they are the same, and whether they are those of two
 abbrev pub both : (List ℕ → ℕ → ℕ) → (List ℕ → ℕ → ℕ) → List ℕ → ℕ → ℕ
 both a b q i = a q i + b q i
 
 abbrev pub SameNumbers : (List ℕ → ℕ → ℕ) → (List ℕ → ℕ → ℕ) → Type 0
 SameNumbers a b = (q : List ℕ) (i : ℕ) → a q i ≡ b q i
+
+abbrev pub IsSum : (List ℕ → ℕ → ℕ) → (List ℕ → ℕ → ℕ) → (List ℕ → ℕ → ℕ) → Type 0
+IsSum a b sum = SameNumbers sum (both a b)
 
 -- some number has no place in 64 bits with a row more
 abbrev pub IsTooLargeWithRow : (List ℕ → ℕ → ℕ) → Row → Type 0
@@ -118,6 +121,10 @@ pub record AreRowsOf (plan : PlanValue) (rows : Rows) : Type 0 where
 abbrev pub AddsTotals : PlanValue → Rows → (ℕ → List Cell → Option Total) → Rows → Type 0
 AddsTotals plan old more new = (k : ℕ) (q : List Cell) → kept_at plan new k q ≡ joined (kept_at plan old k q) (more k q)
 
--- totals that had a place in 64 bits have one still
+-- all totals have a place in 64 bits
+abbrev pub AreSmall : PlanValue → Rows → Type 0
+AreSmall plan rows = (k : ℕ) (q : List Cell) → IsLargeAt (kept_at plan rows k q) → ⊥
+
+-- those that had one have one still
 abbrev pub StaySmall : PlanValue → Rows → Rows → Type 0
 StaySmall plan old new = (k : ℕ) (q : List Cell) → (IsLargeAt (kept_at plan old k q) → ⊥) → IsLargeAt (kept_at plan new k q) → ⊥

@@ -3,7 +3,7 @@
 ghost use Rattle.std.specs.Prelude.{◌≡◌, ◌+◌, ◌*◌, ◌^◌, ◌<◌, ◌∷◌, ℕ, List, IfOk, OnOk, OnErr};
 ghost use Rattle.flow_rows.specs.Rows.{IsRun, Small, SomeTooLarge, part, total_at};
 ghost use Rattle.flow_table.specs.FlatTables.{run_in};
-ghost use Rattle.flow_table.specs.Rows.{AddsRow, AreAlike, AreRowsOf, IsTooLargeWithRow, SameNumbers, both, number_at, padded_row, padded_to, width_of};
+ghost use Rattle.flow_table.specs.Rows.{AddsRow, AreAlike, AreRowsOf, IsSum, IsTooLargeWithRow, SameNumbers, both, number_at, padded_row, padded_to, width_of};
 ghost use Rattle.flow_table.specs.TableFaults.{OnSumTooLarge};
 
 use crate::plan::Plan;
@@ -63,7 +63,7 @@ fn merge_rows<const K: usize, const C: usize>(
 ) -> Result<FlatRows<K, C>, TableFault>
     requires fits { 8 * K + 8 * C < 2 ^ 63 }
     ensures ok { IfOk result (λ merged.
-        SameNumbers (total_at merged) (both (total_at rows.entry) (total_at others.entry))) }
+        IsSum (total_at rows.entry) (total_at others.entry) (total_at merged)) }
     ensures small { IfOk result (λ merged. Small (total_at merged)) }
     ensures large { OnSumTooLarge result
         (SomeTooLarge (both (total_at rows.entry) (total_at others.entry) words.new.items)) }
@@ -125,8 +125,8 @@ impl Rows {
     /// The rows of both, which are to be of one form: where they are not, the fault is `OutOfMemory`. Those
     /// of one plan are. After `SumTooLarge` a number is too large at the words that are left in `words`.
     pub fn merge(self, others: Rows, words: &mut Vec<u64>) -> Result<Rows, TableFault>
-        ensures ok { IfOk result (λ merged.
-            SameNumbers (number_at merged) (both (number_at self) (number_at others))) }
+        ensures ok { IfOk result
+            (λ merged. IsSum (number_at self) (number_at others) (number_at merged)) }
         ensures small { IfOk result (λ merged. Small (number_at merged)) }
         ensures alike { IfOk result
             (λ merged. AreAlike merged self × (width_of self ≡ width_of others)) }
