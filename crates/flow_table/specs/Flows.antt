@@ -8,8 +8,9 @@ use Rattle.flow_table.specs.declared.rows.Rows.{Rows}
 use Rattle.flow_table.specs.declared.table_fault.TableFault.{TableFault}
 use Rattle.flow_table.specs.Intervals.{covers, share}
 use Rattle.flow_table.specs.Plans.{PlanValue}
-use Rattle.flow_table.specs.Rows.{AddsTotals, AreRowsOf, part_at, place_part}
-use Rattle.flow_table.specs.Totals.{Total, total}
+use Rattle.flow_table.specs.Rows.{AddsTotals, AreRowsOf, kept_at, part_at, place_part}
+use Rattle.flow_table.specs.TableFaults.{OnSumTooLarge}
+use Rattle.flow_table.specs.Totals.{IsLargeAt, Total, joined, total}
 use Rattle.flow_table.specs.Words.{key_words}
 
 -- the intervals that a flow contributes to; one alone gets all of each counter
@@ -64,3 +65,8 @@ WithKey plan rows room P = (key : List Cell) → key_words plan.kinds key ≡ So
 -- unless it fails, these parts of what was read are added
 abbrev pub AddsRead : {X : Type 0} → (PlanValue → Flow → Room → List Cell → ℕ → List Cell → Option Total) → Result X TableFault → PlanValue → Rows → Flow → Room → Rows → Type 0
 AddsRead parts result plan old flow room new = WithKey plan old room (λ key. OnOk result (AddsTotals plan old (parts plan flow room key) new))
+
+-- a sum is too large only where the totals at the interval that was added to last have no place in 64 bits with these parts
+abbrev pub LargeAtLast : {X : Type 0} → (PlanValue → Flow → Room → List Cell → ℕ → List Cell → Option Total) → Result X TableFault → PlanValue → Rows → Flow → Room → Room → Type 0
+LargeAtLast parts result plan old flow before after =
+    WithKey plan old before (λ key. OnSumTooLarge result (AtLast after (λ k. IsLargeAt (joined (kept_at plan old k key) (parts plan flow before key k key)))))

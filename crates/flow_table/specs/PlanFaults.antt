@@ -3,9 +3,13 @@ use Rattle.std.specs.Prelude.{◌≡◌, ◌≢◌, ℕ, List, codes, Option, So
 use Rattle.flow_table.specs.declared.plan_fault.PlanFault.{PlanFault}
 use Rattle.flow_table.specs.declared.plan_fault.PlanFault.TheVariants.{Length, Spread, KeyCount, KeyKind, Prefix, CounterCount, CounterKind, Repeated, OutOfMemory}
 
--- a fault that isn't want of memory is the first one that fits
+-- unless it is want of memory, a fault is the first that fits
+abbrev pub IsFirstFault : Option PlanFault → PlanFault → Type 0
+IsFirstFault first fault = fault ≢ OutOfMemory → first ≡ Some fault
+
+-- the same of that of a result
 abbrev pub FaultIsFirst : {X : Type 0} → Result X PlanFault → Option PlanFault → Type 0
-FaultIsFirst result first = IfErr result (λ fault. fault ≢ OutOfMemory → first ≡ Some fault)
+FaultIsFirst result first = IfErr result (IsFirstFault first)
 
 -- what holds if memory is wanting
 abbrev pub IfNoMemory : {X : Type 0} → Result X PlanFault → Type 0 → Type 0

@@ -1,11 +1,9 @@
 //! Adding a flow to the totals of its intervals.
 
 ghost use Rattle.std.specs.Prelude.{◌≡◌, ◌≤◌, ◌<◌, ◌+◌, ◌∷◌, ℕ, List, Some, OnOk, length, if◌then◌else◌};
-ghost use Rattle.flow_table.specs.Flows.{AddsRead, AtLast, HasIntervals, WithKey, read_at, read_part, read_total};
+ghost use Rattle.flow_table.specs.Flows.{AddsRead, HasIntervals, LargeAtLast, WithKey, read_at, read_part};
 ghost use Rattle.flow_table.specs.Plans.{IsPlan};
-ghost use Rattle.flow_table.specs.Totals.{IsLargeAt, joined};
-ghost use Rattle.flow_table.specs.Rows.{AreRowsOf, AreSmall, StaySmall, kept_at};
-ghost use Rattle.flow_table.specs.TableFaults.{OnSumTooLarge};
+ghost use Rattle.flow_table.specs.Rows.{AreRowsOf, AreSmall, StaySmall};
 
 use crate::flow::Flow;
 use crate::plan::Plan;
@@ -64,9 +62,7 @@ fn add_at(
     ensures rows { WithKey plan.now rows.old room.old (λ key. AreRowsOf plan.now rows.new) }
     ensures ok { AddsRead (read_at interval) result plan.now rows.old flow room.old rows.new }
     ensures fits { OnOk result (AreSmall plan.now rows.new) }
-    ensures large { WithKey plan.now rows.old room.old (λ key. OnSumTooLarge result
-        (IsLargeAt (joined (kept_at plan.now rows.old interval key)
-        (Some (read_total plan.now flow room.old interval))))) }
+    ensures large { LargeAtLast (read_at interval) result plan.now rows.old flow room.old room.new }
     ensures at { room.new.last ≡ Some interval }
     // What was read of the flow stays.
     ensures words { room.new.words.items ≡ room.old.words.items }
@@ -87,9 +83,7 @@ pub fn add_flow(plan: &Plan, rows: &mut Rows, flow: Flow, room: &mut Room) -> Re
     ensures rows { WithKey plan.now rows.old room.old (λ key. AreRowsOf plan.now rows.new) }
     ensures ok { AddsRead read_part result plan.now rows.old flow room.old rows.new }
     ensures fits { OnOk result (StaySmall plan.now rows.old rows.new) }
-    ensures large { WithKey plan.now rows.old room.old (λ key. OnSumTooLarge result
-        (AtLast room.new (λ k. IsLargeAt (joined (kept_at plan.now rows.old k key)
-        (read_part plan.now flow room.old key k key))))) }
+    ensures large { LargeAtLast read_part result plan.now rows.old flow room.old room.new }
     ensures words { room.new.words.items ≡ room.old.words.items }
 {
     room.interval = flow.first;
