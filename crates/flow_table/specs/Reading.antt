@@ -167,6 +167,19 @@ uptime_start r = uptime_time uptime_at_start r
 abbrev pub uptime_end : DataRecord → Option ℕ
 uptime_end r = uptime_time uptime_at_end r
 
+-- a time by the uptime of an element is no guess: however often that began anew, up to a latest time, the time that follows is
+-- the one that is read, or none is
+abbrev pub IsSure : DataRecord → ElementId → ℕ → Type 0
+IsSure r element latest =
+    (first rounds time : ℕ) → first_time element r ≡ Some first → first + rounds * 2 ^ 32 ≤ latest → uptime_time element r ≡ Some time → time ≡ first + rounds * 2 ^ 32
+
+-- the start, and the end, that an element says which is no uptime, or that follows by the duration from the other that one says
+abbrev pub start_without_uptime : DataRecord → Option ℕ
+start_without_uptime r = option_or (told_start r) (start_by_duration r (told_end r))
+
+abbrev pub end_without_uptime : DataRecord → Option ℕ
+end_without_uptime r = option_or (told_end r) (end_by_duration r (told_start r))
+
 -- the start, and the end, that an element or an uptime says
 abbrev pub any_start : DataRecord → Option ℕ
 any_start r = option_or (told_start r) (uptime_start r)
@@ -196,6 +209,10 @@ end_of times.All r = option_or (basic_end r) (other_end r)
 -- where the first of two ways to read times gives one, the second gives the same
 abbrev pub TimesStay : (DataRecord → Option ℕ) → (DataRecord → Option ℕ) → Type 0
 TimesStay first second = (r : DataRecord) (time : ℕ) → first r ≡ Some time → second r ≡ Some time
+
+-- both give the same of each record without an element
+abbrev pub AgreeWithout : ElementId → (DataRecord → Option ℕ) → (DataRecord → Option ℕ) → Type 0
+AgreeWithout element first second = (r : DataRecord) → octets_of element r.fields ≡ None → first r ≡ second r
 
 -- ---- keys (RFC 7015, section 5.2)
 

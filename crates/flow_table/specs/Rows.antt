@@ -76,6 +76,10 @@ IsSum a b sum = SameNumbers sum (both a b)
 abbrev pub IsTooLargeWithRow : (List ℕ → ℕ → ℕ) → Row → Type 0
 IsTooLargeWithRow numbers more = SomeTooLarge (λ i. numbers more.key i + slice_index_or more.numbers i 0)
 
+-- the same of rows, and of words and numbers
+abbrev pub IsTooLargeAdding : Rows → List ℕ → List ℕ → Type 0
+IsTooLargeAdding rows words numbers = IsTooLargeWithRow (number_at rows) (padded_row rows words numbers)
+
 -- the numbers of one row more
 abbrev pub AddsRow : Rows → List ℕ → List ℕ → Rows → Type 0
 AddsRow old words numbers new = (q : List ℕ) (i : ℕ) → number_at new q i ≡ number_at old q i + part q i (padded_row old words numbers)

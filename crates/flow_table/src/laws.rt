@@ -3,9 +3,7 @@
 
 ghost use Rattle.std.specs.Prelude.{◌≡◌, ◌+◌, ◌*◌, ◌^◌, ◌++◌, ◌↔◌, true, false, ◌<◌, ◌≤◌, ℕ, List, [], None, Some, All, IsPermutation, flat_map, sum, sum_by};
 ghost use Rattle.std.specs.List.{AllZip};
-ghost use Rattle.std.specs.Option.{option_or};
 ghost use Rattle.ipfix_message.specs.DataRecords.{HasOctets};
-ghost use Rattle.ipfix_message.specs.Fields.{octets_of};
 ghost use Rattle.ipfix_message.specs.declared.record.DataRecord.{DataRecord};
 ghost use Rattle.flow_table.specs.AddedUp.{AddUpTooLarge, AreRowsOfAll, HasTooLargeRow, all_records, rows_in};
 ghost use Rattle.flow_table.specs.Bags.{IsFreeOfOrder, IsInterleaving, IsSameBag, Records};
@@ -19,7 +17,7 @@ ghost use Rattle.element_registry.specs.declared.kind.ElementKind.TheVariants.{P
 ghost use Rattle.ipfix_wire.specs.declared.specifier.ElementId.{ElementId};
 ghost use Rattle.flow_table.specs.declared.key.Key.{Key};
 ghost use Rattle.flow_table.specs.Plans.{ForValid, IsPlan, IsValid, KindsStay, PlanValue, basic, chosen_fault, context_name, context_named, first_fault, is_taken_total, kinds_of};
-ghost use Rattle.flow_table.specs.Reading.{TimesStay, start_of, end_of, end_by_duration, first_time, init_time, latest_end, start_by_duration, told_end, told_start, uptime_at_end, uptime_at_start, uptime_end, uptime_end_of, uptime_start};
+ghost use Rattle.flow_table.specs.Reading.{AgreeWithout, IsSure, TimesStay, end_of, end_without_uptime, init_time, latest_end, start_of, start_without_uptime, told_end, uptime_at_end, uptime_at_start, uptime_end_of};
 ghost use Rattle.flow_table.specs.declared.choices.Times.TheVariants as times;
 ghost use Rattle.flow_table.specs.SameTables.{IsSameTable};
 ghost use Rattle.flow_table.specs.Tables.{ForCounts, IsTable, IsTooLarge, tally_of};
@@ -63,23 +61,15 @@ pub fn basic_times_stay()
 /// Times of every kind of a record without systemInitTimeMilliseconds (160) are those that other elements than
 /// uptimes say, or follow from these by the flow's duration.
 pub fn uptimes_count_from_an_init_time()
-    ensures start { (r : DataRecord) → octets_of init_time r.fields ≡ None
-        → start_of times.All r ≡ option_or (told_start r) (start_by_duration r (told_end r)) }
-    ensures end { (r : DataRecord) → octets_of init_time r.fields ≡ None
-        → end_of times.All r ≡ option_or (told_end r) (end_by_duration r (told_start r)) }
+    ensures start { AgreeWithout init_time (start_of times.All) start_without_uptime }
+    ensures end { AgreeWithout init_time (end_of times.All) end_without_uptime }
 {}
 
 /// A time by uptime is no guess. However often the uptime began anew until a flow ended, which is not after its
 /// message, or until it started, which is not after it ended: that time is the one that is read, or none is.
 pub fn uptimes_are_no_guesses()
-    ensures end { (r : DataRecord) (first rounds time : ℕ) → told_end r ≡ None
-        → first_time uptime_at_end r ≡ Some first
-        → first + rounds * 2 ^ 32 ≤ latest_end r → uptime_end r ≡ Some time
-        → time ≡ first + rounds * 2 ^ 32 }
-    ensures start { (r : DataRecord) (end first rounds time : ℕ) → uptime_end_of r ≡ Some end
-        → first_time uptime_at_start r ≡ Some first
-        → first + rounds * 2 ^ 32 ≤ end → uptime_start r ≡ Some time
-        → time ≡ first + rounds * 2 ^ 32 }
+    ensures end { (r : DataRecord) → told_end r ≡ None → IsSure r uptime_at_end (latest_end r) }
+    ensures start { (r : DataRecord) (e : ℕ) → uptime_end_of r ≡ Some e → IsSure r uptime_at_start e }
 {}
 
 /// Whatever no fault fits, with the kinds of its keys, is a plan.

@@ -3,7 +3,7 @@
 ghost use Rattle.std.specs.Prelude.{◌≡◌, ◌+◌, ◌*◌, ◌^◌, ◌<◌, ◌∷◌, ℕ, List, IfOk, OnOk, OnErr};
 ghost use Rattle.flow_rows.specs.Rows.{IsRun, Small, SomeTooLarge, part, total_at};
 ghost use Rattle.flow_table.specs.FlatTables.{run_in};
-ghost use Rattle.flow_table.specs.Rows.{AddsRow, AreAlike, AreRowsOf, IsSum, IsTooLargeWithRow, SameNumbers, both, number_at, padded_row, padded_to, width_of};
+ghost use Rattle.flow_table.specs.Rows.{AddsRow, AreAlike, AreRowsOf, IsSum, IsTooLargeAdding, IsTooLargeWithRow, SameNumbers, both, number_at, padded_to, width_of};
 ghost use Rattle.flow_table.specs.TableFaults.{OnSumTooLarge};
 
 use crate::plan::Plan;
@@ -110,8 +110,8 @@ impl Rows {
         ensures small { Small (number_at self.new) }
         ensures alike { AreAlike self.new self.old }
         ensures err { OnErr result (SameNumbers (number_at self.new) (number_at self.old)) }
-        ensures large { OnSumTooLarge result (IsTooLargeWithRow (number_at self.old)
-            (padded_row self.old (interval ∷ words.now) (flows ∷ sums.now))) }
+        ensures large { OnSumTooLarge result
+            (IsTooLargeAdding self.old (interval ∷ words.now) (flows ∷ sums.now)) }
     {
         match self {
             Rows::Two(rows) => add_row(rows, interval, words, flows, sums),
