@@ -4,7 +4,7 @@ use Rattle.std.proofs.lemmas.Bool.Decides.{eqb_tells}
 use Rattle.std.proofs.lemmas.List.{length-map}
 use Rattle.ipfix_elements.specs.declared.cell.Cell.{Cell}
 use Rattle.flow_table.specs.declared.flow.Flow.{Flow}
-use Rattle.flow_table.specs.Flows.{HasIntervals, flow_total, shares_of}
+use Rattle.flow_table.specs.Flows.{AreShares, HasIntervals, flow_total, shares_of}
 use Rattle.flow_table.specs.Intervals.{share}
 use Rattle.flow_table.specs.Plans.{PlanValue}
 use Rattle.flow_table.specs.Rows.{AddsRow, AreAlike, AreRowsOf, IsTooLargeAdding, kept_at, number_at, place_part, width_of}
@@ -70,7 +70,7 @@ whole_shares plan s e k (n ∷ ns) all =
 
 -- the counters where a flow has one interval, and else its shares
 pub picked_shares : (plan : PlanValue) (flow : Flow) (k : ℕ) (counters shares sums : List ℕ) → HasIntervals plan flow → (flow.first ≤ k) × (k < flow.first + flow.count)
-    → sums ≡ cond (eqb flow.count 1) counters shares → (flow.count ≢ 1 → shares ≡ shares_of plan flow.span.start flow.span.end counters k) → sums ≡ shares_of plan flow.span.start flow.span.end counters k
+    → sums ≡ cond (eqb flow.count 1) counters shares → AreShares plan flow counters k shares → sums ≡ shares_of plan flow.span.start flow.span.end counters k
 picked_shares plan flow k counters shares sums has within picked others =
     elim (eqb_tells flow.count 1) as (λ _. sums ≡ shares_of plan flow.span.start flow.span.end counters k) [
       | inl one ↦

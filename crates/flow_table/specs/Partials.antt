@@ -1,5 +1,5 @@
 -- What a partial table stands for: a list of data records.
-use Rattle.std.specs.Prelude.{◌≡◌, ℕ, ◌+◌, ◌^◌, ◌<◌, ◌≤◌, ◌==◌, if◌then◌else◌, List, ◌++◌, map, Option, Some, None, IsSome, Result, OnOk}
+use Rattle.std.specs.Prelude.{◌≡◌, ℕ, ◌+◌, ◌^◌, ◌<◌, ◌≤◌, ◌==◌, if◌then◌else◌, List, [], ◌∷◌, ◌++◌, map, Option, Some, None, IsSome, Result, OnOk}
 use Rattle.ipfix_elements.specs.declared.cell.Cell.{Cell}
 use Rattle.ipfix_message.specs.declared.record.DataRecord.{DataRecord}
 use Rattle.flow_table.specs.declared.class.Class.{Class}
@@ -24,6 +24,10 @@ use Rattle.flow_table.specs.Words.{key_from}
 -- the totals of the row of an interval and a key, if there is one
 unfoldable pub totals_at : PlanValue → List DataRecord → ℕ → List Cell → Option Total
 totals_at plan rs k key = if flows_at plan rs k key == 0 then None else Some (total (map (sum_at plan rs k key) plan.counters) (flows_at plan rs k key))
+
+-- those of one record alone
+abbrev pub totals_of_one : PlanValue → DataRecord → ℕ → List Cell → Option Total
+totals_of_one plan r k key = totals_at plan (r ∷ []) k key
 
 -- the totals and the tally are those of the table of a list that isn't too large, and whose keys fit
 pub record HoldsTable (plan : PlanValue) (rows : Rows) (tally : Tally) (rs : List DataRecord) : Type 0 where

@@ -44,6 +44,10 @@ abbrev pub ReadsKey : List Key → List Kind → DataRecord → List ℕ → Opt
 ReadsKey keys kinds r words None = HasKey keys kinds r words
 ReadsKey keys kinds r words (Some place) = cells_of keys kinds r ≡ None
 
+-- under all kinds that cells have, these are their words
+abbrev pub HaveWords : List Cell → List ℕ → Type 0
+HaveWords cells words = (kinds : List Kind) → AllZip IsCellOf kinds cells → key_words kinds cells ≡ Some words
+
 -- ---- records
 
 -- a used record, which is this flow, and whose key has these words

@@ -1,10 +1,11 @@
 -- Totals by interval and key, and the rows that they are kept in.
-use Rattle.std.specs.Prelude.{◌≡◌, ℕ, suc, ◌+◌, ◌==◌, ◌<◌, ◌≤◌, Bool, List, length, Option, Some, None, if◌then◌else◌, slice_index_or}
+use Rattle.std.specs.Prelude.{◌≡◌, ℕ, suc, ◌+◌, ◌==◌, ◌<◌, ◌≤◌, Bool, List, length, Option, Some, None, Result, OnOk, if◌then◌else◌, slice_index_or}
 use Rattle.std.specs.Ordering.{nat_cmp, is_eq}
 use Rattle.flow_rows.specs.Rows.{Row, SomeTooLarge, part, row, total_at}
 use Rattle.ipfix_elements.specs.declared.cell.Cell.{Cell}
 use Rattle.flow_table.specs.declared.rows.Rows.{Rows}
 use Rattle.flow_table.specs.declared.rows.Rows.TheVariants.{Two, Four, Six, Nine, Most}
+use Rattle.flow_table.specs.declared.table_fault.TableFault.{TableFault}
 use Rattle.flow_table.specs.Plans.{PlanValue}
 use Rattle.flow_table.specs.Tables.{key_cmp}
 use Rattle.flow_table.specs.Totals.{IsLargeAt, Total, joined, total}
@@ -62,15 +63,19 @@ padded_to width depth words numbers = row (padded width words) (padded depth num
 abbrev pub padded_row : Rows → List ℕ → List ℕ → Row
 padded_row rows words numbers = padded_to (width_of rows) (depth_of rows) words numbers
 
--- numbers by the words of a key and a place: those of two, whether they are the same, and whether they are those of two
+-- numbers by the words of a key and a place: those of two, and whether they are the same
 abbrev pub both : (List ℕ → ℕ → ℕ) → (List ℕ → ℕ → ℕ) → List ℕ → ℕ → ℕ
 both a b q i = a q i + b q i
 
 abbrev pub SameNumbers : (List ℕ → ℕ → ℕ) → (List ℕ → ℕ → ℕ) → Type 0
 SameNumbers a b = (q : List ℕ) (i : ℕ) → a q i ≡ b q i
 
-abbrev pub IsSum : (List ℕ → ℕ → ℕ) → (List ℕ → ℕ → ℕ) → (List ℕ → ℕ → ℕ) → Type 0
-IsSum a b sum = SameNumbers sum (both a b)
+-- rows have the numbers of two others together; and some number of two at the words of a key has no place in 64 bits together
+abbrev pub IsSum : List Row → List Row → List Row → Type 0
+IsSum a b sum = SameNumbers (total_at sum) (both (total_at a) (total_at b))
+
+abbrev pub AddTooLarge : List Row → List Row → List ℕ → Type 0
+AddTooLarge a b q = SomeTooLarge (both (total_at a) (total_at b) q)
 
 -- some number has no place in 64 bits with a row more
 abbrev pub IsTooLargeWithRow : (List ℕ → ℕ → ℕ) → Row → Type 0
@@ -124,6 +129,10 @@ pub record AreRowsOf (plan : PlanValue) (rows : Rows) : Type 0 where
 -- the totals of more were added to those of rows
 abbrev pub AddsTotals : PlanValue → Rows → (ℕ → List Cell → Option Total) → Rows → Type 0
 AddsTotals plan old more new = (k : ℕ) (q : List Cell) → kept_at plan new k q ≡ joined (kept_at plan old k q) (more k q)
+
+-- unless it fails, more was added to rows of the plan
+abbrev pub AddsIfOk : {X : Type 0} → Result X TableFault → PlanValue → Rows → (ℕ → List Cell → Option Total) → Rows → Type 0
+AddsIfOk result plan old more new = AreRowsOf plan old → OnOk result (AddsTotals plan old more new)
 
 -- all totals have a place in 64 bits
 abbrev pub AreSmall : PlanValue → Rows → Type 0

@@ -1,13 +1,13 @@
 //! The words of keys, which compare as their cells do.
 
-ghost use Rattle.std.specs.Prelude.{◌≡◌, ◌++◌, ◌∷◌, [], ◌≤◌, ℕ, List, Some, drop, length, OnOk};
-ghost use Rattle.std.specs.List.{AllZip};
+ghost use Rattle.std.specs.Prelude.{◌≡◌, ◌++◌, ◌∷◌, [], ◌≤◌, drop, length, OnOk};
 ghost use Rattle.std.specs.Int.{to_be_bytes, w64};
 ghost use Rattle.ipfix_elements.specs.declared.cell.Cell.TheVariants as cells;
 ghost use Rattle.ipfix_elements.specs.declared.kind.Kind.{Kind as KindValue};
 ghost use Rattle.ipfix_elements.specs.declared.kind.Kind.TheVariants as kinds_of_cells;
 ghost use Rattle.flow_table.specs.Fitting.{IsCellOf};
-ghost use Rattle.flow_table.specs.Words.{HasWords, cell_from as cell_in, key_from, key_words, nth, padded, word_count, words_in, words_of_kind};
+ghost use Rattle.flow_table.specs.Readings.{HaveWords};
+ghost use Rattle.flow_table.specs.Words.{HasWords, cell_from as cell_in, key_from, nth, padded, word_count, words_in, words_of_kind};
 
 use ipfix_elements::{Cell, Kind};
 use std::alloc::AllocError;
@@ -99,8 +99,7 @@ pub fn push_words(cell: CellWords, words: &mut Vec<u64>) -> Result<(), AllocErro
 
 /// Leaves the words of cells in `words`.
 pub fn write_words(cells: &[Cell], words: &mut Vec<u64>) -> Result<(), AllocError>
-    ensures { OnOk result ((kinds : List KindValue) → AllZip IsCellOf kinds cells.now
-        → key_words kinds cells.now ≡ Some words.new.items) }
+    ensures { OnOk result (HaveWords cells.now words.new.items) }
 {
     words.clear();
     for cell in cells {
