@@ -1,5 +1,5 @@
 -- A flow's shares added at an interval.
-use Rattle.std.proofs.Common.{◌≡◌, ◌≢◌, ℕ, ◌+◌, ◌<◌, ◌≤◌, Bool, cond, eqb, inl, inr, List, [], ◌∷◌, length, Option, Some, Result, Ok, Err, OnOk, OnErr, IfErr, refl, sym, ap, ◌∙◌, option_map, arith}
+use Rattle.std.proofs.Common.{◌≡◌, ℕ, ◌+◌, ◌<◌, ◌≤◌, Bool, cond, eqb, inl, inr, List, [], ◌∷◌, length, Option, Some, Result, Ok, Err, OnOk, OnErr, IfErr, refl, sym, ap, ◌∙◌, option_map, arith}
 use Rattle.std.proofs.lemmas.Bool.Decides.{eqb_tells}
 use Rattle.std.proofs.lemmas.List.{length-map}
 use Rattle.ipfix_elements.specs.declared.cell.Cell.{Cell}
@@ -7,7 +7,7 @@ use Rattle.flow_table.specs.declared.flow.Flow.{Flow}
 use Rattle.flow_table.specs.Flows.{AreShares, HasIntervals, flow_total, shares_of}
 use Rattle.flow_table.specs.Intervals.{share}
 use Rattle.flow_table.specs.Plans.{PlanValue}
-use Rattle.flow_table.specs.Rows.{AddsRow, AreAlike, AreRowsOf, IsTooLargeAdding, kept_at, number_at, place_part, width_of}
+use Rattle.flow_table.specs.Rows.{AddsRow, AreAlike, AreRowsOf, TooLargeWith, kept_at, number_at, place_part}
 use Rattle.flow_table.specs.Totals.{total, joined, IsLargeAt}
 use Rattle.flow_table.specs.Words.{key_words, padded, place_words}
 use Rattle.flow_table.specs.declared.rows.Rows.{Rows}
@@ -44,11 +44,11 @@ module _ (plan : PlanValue) (old new : Rows) (k : ℕ) (key : List Cell) (words 
       by (Ok x) adds = add_joins plan old new k key (k ∷ words) flows sums of (words_of_place plan k key words are) some long alike adds
       by (Err e) adds = tt
 
-  pub add_too_large : AreRowsOf plan old → IfErr r (λ e. e ≡ SumTooLarge → IsTooLargeAdding old (k ∷ words) (flows ∷ sums))
+  pub add_too_large : AreRowsOf plan old → TooLargeWith r old (k ∷ words) (flows ∷ sums)
       → IfErr r (λ e. e ≡ SumTooLarge → IsLargeAt (joined (kept_at plan old k key) (Some (total sums flows))))
   add_too_large of = by r
     where
-      by : (a : Result (Unit {0}) TableFault) → IfErr a (λ e. e ≡ SumTooLarge → IsTooLargeAdding old (k ∷ words) (flows ∷ sums))
+      by : (a : Result (Unit {0}) TableFault) → TooLargeWith a old (k ∷ words) (flows ∷ sums)
           → IfErr a (λ e. e ≡ SumTooLarge → IsLargeAt (joined (kept_at plan old k key) (Some (total sums flows))))
       by (Ok x) large = tt
       by (Err e) large = λ same. add_large plan old new k key (k ∷ words) flows sums of (words_of_place plan k key words are) some long (large same)

@@ -4,7 +4,7 @@ use Rattle.flow_rows.specs.Rows.{Small}
 use Rattle.flow_table.specs.AddedUp.{AddUpTooLarge}
 use Rattle.flow_table.specs.Plans.{PlanValue}
 use Rattle.flow_table.specs.RowTotals.{HoldsRows}
-use Rattle.flow_table.specs.Rows.{AddsRow, AreAlike, IsTooLargeAdding, number_at}
+use Rattle.flow_table.specs.Rows.{AddsRow, AreAlike, TooLargeWith, number_at}
 use Rattle.flow_table.specs.SameTables.{RowValue}
 use Rattle.flow_table.specs.Words.{key_words}
 use Rattle.flow_table.specs.declared.rows.Rows.{Rows}
@@ -23,7 +23,7 @@ module _ (plan : PlanValue) (old new : Rows) (rows : List RowValue) (row : RowVa
       (λ k q big. kept_small plan new k q small big)
   held_ok (Err e) alike small adds = tt
 
-  pub held_err : (r : Result (Unit {0}) TableFault) → IfErr r (λ e. e ≡ SumTooLarge → IsTooLargeAdding old (row.interval ∷ words) (row.flows ∷ row.sums))
+  pub held_err : (r : Result (Unit {0}) TableFault) → TooLargeWith r old (row.interval ∷ words) (row.flows ∷ row.sums)
       → IfErr r (λ e. e ≡ SumTooLarge → AddUpTooLarge (rows ++ row ∷ []))
   held_err (Ok x) large = tt
   held_err (Err e) large = λ same.

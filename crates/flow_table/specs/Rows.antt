@@ -1,5 +1,5 @@
 -- Totals by interval and key, and the rows that they are kept in.
-use Rattle.std.specs.Prelude.{◌≡◌, ℕ, suc, ◌+◌, ◌==◌, ◌<◌, ◌≤◌, Bool, List, length, Option, Some, None, Result, OnOk, if◌then◌else◌, slice_index_or}
+use Rattle.std.specs.Prelude.{◌≡◌, ℕ, suc, ◌+◌, ◌==◌, ◌<◌, ◌≤◌, Bool, List, ◌∷◌, length, Option, Some, None, Result, OnOk, if◌then◌else◌, slice_index_or}
 use Rattle.std.specs.Ordering.{nat_cmp, is_eq}
 use Rattle.flow_rows.specs.Rows.{Row, SomeTooLarge, part, row, total_at}
 use Rattle.ipfix_elements.specs.declared.cell.Cell.{Cell}
@@ -7,6 +7,7 @@ use Rattle.flow_table.specs.declared.rows.Rows.{Rows}
 use Rattle.flow_table.specs.declared.rows.Rows.TheVariants.{Two, Four, Six, Nine, Most}
 use Rattle.flow_table.specs.declared.table_fault.TableFault.{TableFault}
 use Rattle.flow_table.specs.Plans.{PlanValue}
+use Rattle.flow_table.specs.TableFaults.{OnSumTooLarge}
 use Rattle.flow_table.specs.Tables.{key_cmp}
 use Rattle.flow_table.specs.Totals.{IsLargeAt, Total, joined, total}
 use Rattle.flow_table.specs.Words.{first_of, padded, place_words, word_count}
@@ -60,6 +61,9 @@ number_at rows q i = total_at (rows_in rows) q i
 abbrev pub padded_to : ℕ → ℕ → List ℕ → List ℕ → Row
 padded_to width depth words numbers = row (padded width words) (padded depth numbers)
 
+abbrev pub row_in : ℕ → ℕ → ℕ → List ℕ → ℕ → List ℕ → Row
+row_in width depth interval words flows sums = padded_to width depth (interval ∷ words) (flows ∷ sums)
+
 abbrev pub padded_row : Rows → List ℕ → List ℕ → Row
 padded_row rows words numbers = padded_to (width_of rows) (depth_of rows) words numbers
 
@@ -81,13 +85,17 @@ AddTooLarge a b q = SomeTooLarge (both (total_at a) (total_at b) q)
 abbrev pub IsTooLargeWithRow : (List ℕ → ℕ → ℕ) → Row → Type 0
 IsTooLargeWithRow numbers more = SomeTooLarge (λ i. numbers more.key i + slice_index_or more.numbers i 0)
 
--- the same of rows, and of words and numbers
-abbrev pub IsTooLargeAdding : Rows → List ℕ → List ℕ → Type 0
-IsTooLargeAdding rows words numbers = IsTooLargeWithRow (number_at rows) (padded_row rows words numbers)
+-- a sum is too large only where some number of rows is, with a row of these words and numbers more
+abbrev pub TooLargeWith : {X : Type 0} → Result X TableFault → Rows → List ℕ → List ℕ → Type 0
+TooLargeWith result rows words numbers = OnSumTooLarge result (IsTooLargeWithRow (number_at rows) (padded_row rows words numbers))
 
 -- the numbers of one row more
+abbrev pub AddsTo : List Row → Row → List Row → Type 0
+AddsTo old more new = SameNumbers (total_at new) (both (total_at old) (λ q i. part q i more))
+
+-- the same of rows, and of words and numbers
 abbrev pub AddsRow : Rows → List ℕ → List ℕ → Rows → Type 0
-AddsRow old words numbers new = (q : List ℕ) (i : ℕ) → number_at new q i ≡ number_at old q i + part q i (padded_row old words numbers)
+AddsRow old words numbers new = AddsTo (rows_in old) (padded_row old words numbers) (rows_in new)
 
 -- rows of the same width and depth
 abbrev pub AreAlike : Rows → Rows → Type 0

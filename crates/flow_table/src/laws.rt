@@ -1,11 +1,10 @@
 //! Laws of plans and of tables: a list of records has one table, which is the same for every order of
 //! the list and fits its plan.
 
-ghost use Rattle.std.specs.Prelude.{◌≡◌, ◌+◌, ◌*◌, ◌^◌, ◌++◌, ◌↔◌, true, false, ◌<◌, ◌≤◌, ℕ, List, [], None, Some, All, IsPermutation, flat_map, sum, sum_by};
-ghost use Rattle.std.specs.List.{AllZip};
+ghost use Rattle.std.specs.Prelude.{◌≡◌, ◌+◌, ◌^◌, ◌++◌, ◌↔◌, true, false, ◌<◌, ◌≤◌, ℕ, List, [], None, Some, All, IsPermutation, flat_map, sum, sum_by};
 ghost use Rattle.ipfix_message.specs.DataRecords.{HasOctets};
 ghost use Rattle.ipfix_message.specs.declared.record.DataRecord.{DataRecord};
-ghost use Rattle.flow_table.specs.AddedUp.{AddUpTooLarge, AreRowsOfAll, HasTooLargeRow, all_records, rows_in};
+ghost use Rattle.flow_table.specs.AddedUp.{AddUpTooLarge, AreRowsOfAll, ForListsOf, HasTooLargeRow, all_records, rows_in};
 ghost use Rattle.flow_table.specs.Bags.{IsFreeOfOrder, IsInterleaving, IsSameBag, Records};
 ghost use Rattle.flow_table.specs.Fitting.{FitsPlan};
 ghost use Rattle.flow_table.specs.Intervals.{covered_by, share};
@@ -165,9 +164,9 @@ pub fn tables_add_up()
     ensures table { (plan : PlanValue) (lists : List Records) (all : Table)
         → AreRowsOfAll plan lists (rows_in all) → let rs = all_records lists in
         all.tally ≡ tally_of plan rs → all.missing ≡ missing_of plan rs → IsTable plan rs all }
-    ensures too_large { (plan : PlanValue) (lists : List Records) (tables : List Table)
-        → AllZip (IsTable plan) lists tables
-        → AddUpTooLarge (flat_map rows_in tables) ↔ HasTooLargeRow plan (all_records lists) }
+    ensures too_large { (plan : PlanValue) (tables : List Table)
+        → ForListsOf plan tables (λ lists. AddUpTooLarge (flat_map rows_in tables)
+        ↔ HasTooLargeRow plan (all_records lists)) }
 {}
 
 /// However some records are split into lists, and in whatever order, the rows of the lists' tables add

@@ -1,9 +1,9 @@
 //! Rows of the totals under a plan, with no block of memory for each.
 
 ghost use Rattle.std.specs.Prelude.{◌≡◌, ◌+◌, ◌*◌, ◌^◌, ◌<◌, ◌∷◌, ℕ, List, IfOk, OnOk, OnErr};
-ghost use Rattle.flow_rows.specs.Rows.{IsRun, Small, part, total_at};
+ghost use Rattle.flow_rows.specs.Rows.{IsRun, Small, total_at};
 ghost use Rattle.flow_table.specs.FlatTables.{run_in};
-ghost use Rattle.flow_table.specs.Rows.{AddTooLarge, AddsRow, AreAlike, AreRowsOf, IsSum, IsTooLargeAdding, IsTooLargeWithRow, SameNumbers, both, number_at, padded_to, rows_in, width_of};
+ghost use Rattle.flow_table.specs.Rows.{AddTooLarge, AddsRow, AddsTo, AreAlike, AreRowsOf, IsSum, IsTooLargeWithRow, SameNumbers, TooLargeWith, number_at, row_in, rows_in, width_of};
 ghost use Rattle.flow_table.specs.TableFaults.{OnSumTooLarge};
 
 use crate::plan::Plan;
@@ -40,12 +40,12 @@ fn add_row<const K: usize, const C: usize>(
     requires fits { 8 * K + 8 * C < 2 ^ 63 }
     requires deep { 0 < C }
     requires some { 0 < flows }
-    ensures ok { OnOk result (SameNumbers (total_at rows.new) (both (total_at rows.old)
-        (λ q i. part q i (padded_to K C (interval ∷ words.now) (flows ∷ sums.now))))) }
+    ensures ok { OnOk result
+        (AddsTo rows.old (row_in K C interval words.now flows sums.now) rows.new) }
     ensures small { Small (total_at rows.new) }
     ensures err { OnErr result (SameNumbers (total_at rows.new) (total_at rows.old)) }
     ensures large { OnSumTooLarge result (IsTooLargeWithRow (total_at rows.old)
-        (padded_to K C (interval ∷ words.now) (flows ∷ sums.now))) }
+        (row_in K C interval words.now flows sums.now)) }
 {
     let piece = Piece::new(padded_words(interval, words), padded_words(flows, sums));
     match rows.add(&piece) {
@@ -108,8 +108,7 @@ impl Rows {
         ensures small { Small (number_at self.new) }
         ensures alike { AreAlike self.new self.old }
         ensures err { OnErr result (SameNumbers (number_at self.new) (number_at self.old)) }
-        ensures large { OnSumTooLarge result
-            (IsTooLargeAdding self.old (interval ∷ words.now) (flows ∷ sums.now)) }
+        ensures large { TooLargeWith result self.old (interval ∷ words.now) (flows ∷ sums.now) }
     {
         match self {
             Rows::Two(rows) => add_row(rows, interval, words, flows, sums),
