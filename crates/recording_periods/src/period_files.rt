@@ -1,7 +1,8 @@
 //! The finished files of a period.
 
-ghost use Rattle.std.specs.Prelude.{IfOk, MatchBool};
+ghost use Rattle.std.specs.Prelude.{IfOk};
 ghost use Rattle.recording_periods.specs.PeriodFiles.{AreFilesOf, AreFinishedOf, IsFinishedName};
+ghost use Rattle.recording_periods.specs.Whether.{Whether};
 
 use recording_names::{SessionName, read_finished_name};
 use std::alloc::{AllocError, Global};
@@ -32,7 +33,7 @@ fn finished_among(alloc: Global, names: Vec<String>) -> Result<Vec<String>, Allo
 
 /// Whether a name is that of a finished file.
 pub(crate) fn is_finished_name(name: &str) -> bool
-    ensures { MatchBool result (IsFinishedName name.now) (¬ IsFinishedName name.now) }
+    ensures { Whether result (IsFinishedName name.now) }
 {
     match read_finished_name(name) {
         Some(told) => {
