@@ -1,7 +1,8 @@
 //! The finished files of a period.
 
 ghost use Rattle.std.specs.Prelude.{IfOk, MatchBool};
-ghost use Rattle.recording_periods.specs.PeriodFiles.{AreFilesOf, AreFinishedOf, IsFinishedName};
+ghost use Rattle.recording_names.specs.FinishedNames.{IsFinishedName};
+ghost use Rattle.recording_periods.specs.PeriodFiles.{AreFilesOf, AreFinishedOf};
 
 use recording_names::{SessionName, read_finished_name};
 use std::alloc::{AllocError, Global};
