@@ -1,10 +1,10 @@
 //! The lines of sessions in full.
 
 ghost use Rattle.std.specs.Prelude.{◌≡◌, false, map, OnOk};
-ghost use Rattle.std.specs.Io.KnownBytes.{Appends};
 ghost use Rattle.report_sessions.specs.EndedSessions.{failure_of as failure_by, IsSaidOf, TellsEnded};
 ghost use Rattle.report_sessions.specs.ReportLines.{report_lines};
 ghost use Rattle.report_sessions.specs.ToldLines.{origin_of, told_lines, told_session};
+ghost use Rattle.report_writing.specs.Lines.{Adds};
 ghost use Rattle.report_writing.specs.Writing.{Tells};
 
 use crate::balances::write_balances;
@@ -40,7 +40,7 @@ pub fn write_told_reports<S: Source, W: WriteLines>(
         (Tells W.lines out.old out.new result) }
     // Without these options nothing is added.
     ensures plain { verbosity.verbose ≡ false → verbosity.strict ≡ false
-        → OnOk result (Appends (W.lines out.old).contents (W.lines out.new).contents
+        → OnOk result (Adds W.lines out.old out.new
         (report_lines (map (λ full. full.report) reports.now))) }
 {
     for (index, full) in reports.iter().enumerate() {

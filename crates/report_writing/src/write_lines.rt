@@ -9,8 +9,7 @@ use std::io::{self, Write};
 pub trait WriteLines {
     ghost use Rattle.std.specs.Prelude.{IfSome, OnErr, OnOk};
     ghost use Rattle.std.specs.Fmt.{with_newline};
-    ghost use Rattle.std.specs.Io.KnownBytes.{Appends};
-    ghost use Rattle.report_writing.specs.Lines.{LinesView, StaysFailed};
+    ghost use Rattle.report_writing.specs.Lines.{Adds, LinesView, StaysFailed};
 
     /// What is seen of it: the octets that it holds, and whether a write of it failed.
     ghost lines: { Self → LinesView };
@@ -21,7 +20,7 @@ pub trait WriteLines {
         Self: Sized,
         D: Drop,
         ensures bytes { OnOk result (IfSome (D.output text)
-            (Appends (lines self.old).contents (lines self.new).contents)) }
+            (Adds lines self.old self.new)) }
         ensures failed { OnErr result (lines self.new).failed }
         ensures kept { StaysFailed lines self.old self.new };
 
@@ -31,13 +30,13 @@ pub trait WriteLines {
         Self: Sized,
         D: Drop,
         ensures bytes { OnOk result (IfSome (with_newline (D.output text))
-            (Appends (lines self.old).contents (lines self.new).contents)) }
+            (Adds lines self.old self.new)) }
         ensures failed { OnErr result (lines self.new).failed }
         ensures kept { StaysFailed lines self.old self.new };
 
     /// Writes octets.
     fn write_all(&mut self, octets: &[u8]) -> io::Result<()>
-        ensures bytes { OnOk result (Appends (lines self.old).contents (lines self.new).contents octets.now) }
+        ensures bytes { OnOk result (Adds lines self.old self.new octets.now) }
         ensures failed { OnErr result (lines self.new).failed }
         ensures kept { StaysFailed lines self.old self.new };
 }
