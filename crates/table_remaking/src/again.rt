@@ -147,7 +147,7 @@ fn write_differences<E: WriteLines>(
 ) -> io::Result<()>
     requires of_inputs { IsOrderOf there.now.receipt.now.inputs.items inputs.now }
     requires of_files { IsOrderOf remade.now.receipt.inputs.items files.now }
-    ensures { Tells E.contents E.failed err.old err.new result (remaking_differs there.now remade.now) }
+    ensures { Tells E.lines err.old err.new result (remaking_differs there.now remade.now) }
 {
     let said = there.receipt;
     write_table_differences(&said.table, there.table, err)?;
