@@ -2,7 +2,6 @@
 
 ghost use Rattle.std.specs.Prelude.{◌≡◌};
 ghost use Rattle.report_writing.specs.OpeningLines.{if_verbose};
-ghost use Rattle.command_collect.specs.Engines.{due_fault};
 ghost use Rattle.command_collect.specs.Limits.{limit_line, limit_lines, limit_text, limit_words as words_of};
 ghost use Rattle.report_writing.specs.Writing.{Tells};
 
@@ -19,8 +18,8 @@ pub fn write_limit<W: WriteLines>(
     sessions: usize,
     out: &mut W,
 ) -> io::Result<()>
-    ensures { Tells W.contents W.failed out.old out.new result
-        (limit_lines verbosity engine (due_fault engine sessions)) }
+    ensures { Tells W.lines out.old out.new result
+        (limit_lines verbosity engine sessions) }
 {
     match engine.refusal(sessions) {
         Some(fault) => write_if_verbose(verbosity, engine, fault, out),
@@ -34,7 +33,7 @@ fn write_if_verbose<W: WriteLines>(
     fault: CollectFault,
     out: &mut W,
 ) -> io::Result<()>
-    ensures { Tells W.contents W.failed out.old out.new result
+    ensures { Tells W.lines out.old out.new result
         (if_verbose verbosity (limit_line engine fault)) }
 {
     if verbosity.verbose {
@@ -47,7 +46,7 @@ fn write_if_verbose<W: WriteLines>(
 
 #[tactic(auto, unfolding(crate::specs::Limits::limit_text))]
 fn write_words<W: WriteLines>(number: u8, name: &str, words: &str, out: &mut W) -> io::Result<()>
-    ensures { Tells W.contents W.failed out.old out.new result
+    ensures { Tells W.lines out.old out.new result
         (limit_text number name.now words.now) }
 {
     writeln!(out, "collectd: collect: fault {number} {name}{words}")

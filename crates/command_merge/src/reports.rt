@@ -2,9 +2,8 @@
 
 ghost use Rattle.std.specs.Prelude.{◌++◌, codes};
 ghost use Rattle.flow_merge.specs.MergeFaults.{number_of, name_of};
-ghost use Rattle.report_writing.specs.OpeningLines.{if_verbose};
 ghost use Rattle.report_writing.specs.FaultLines.{fault_text};
-ghost use Rattle.command_merge.specs.MergeLines.{border_text, file_fault_line, file_fault_lines, file_opened_line, file_start, merge_fault_line, merge_fault_text, merged_line, named_file_line, not_merged_lines};
+ghost use Rattle.command_merge.specs.MergeLines.{border_text, file_fault_line, file_fault_lines, file_opened_line, file_start, file_told, merge_fault_line, merge_fault_text, merged_line, named_fault_line, named_fault_told, not_merged_lines};
 ghost use Rattle.report_writing.specs.Writing.{Tells};
 
 use crate::not_merged::{FileFault, NotMerged};
@@ -18,7 +17,7 @@ use std::io;
 /// Writes the line that counts the files that were merged, and the rows of their table.
 #[tactic(auto, unfolding(crate::specs::MergeLines::merged_line))]
 pub fn write_merged<W: WriteLines>(files: usize, rows: usize, out: &mut W) -> io::Result<()>
-    ensures { Tells W.contents W.failed out.old out.new result (merged_line files rows) }
+    ensures { Tells W.lines out.old out.new result (merged_line files rows) }
 {
     writeln!(out, "collectd: merged: files {files} rows {rows}")
 }
@@ -29,7 +28,7 @@ pub fn write_not_merged<W: WriteLines>(
     not_merged: &NotMerged,
     out: &mut W,
 ) -> io::Result<()>
-    ensures { Tells W.contents W.failed out.old out.new result
+    ensures { Tells W.lines out.old out.new result
         (not_merged_lines verbosity not_merged.now) }
 {
     match not_merged {
@@ -47,7 +46,7 @@ pub fn write_not_merged<W: WriteLines>(
 
 // The line of a fault that is no file's.
 fn write_merge_fault<W: WriteLines>(fault: MergeFault, out: &mut W) -> io::Result<()>
-    ensures { Tells W.contents W.failed out.old out.new result (merge_fault_line fault) }
+    ensures { Tells W.lines out.old out.new result (merge_fault_line fault) }
 {
     write_fault("merge", fault.number(), fault.name(), out)
 }
@@ -62,7 +61,7 @@ fn write_file_fault<W: WriteLines>(
     fault: FileFault,
     out: &mut W,
 ) -> io::Result<()>
-    ensures { Tells W.contents W.failed out.old out.new result
+    ensures { Tells W.lines out.old out.new result
         (file_fault_lines verbosity file name.now fault) }
 {
     write_numbered_fault(file, fault.fault, out)?;
@@ -77,8 +76,8 @@ fn write_if_verbose<W: WriteLines>(
     fault: MergeFault,
     out: &mut W,
 ) -> io::Result<()>
-    ensures { Tells W.contents W.failed out.old out.new result
-        (if_verbose verbosity (named_file_line file name.now (merge_fault_text fault))) }
+    ensures { Tells W.lines out.old out.new result
+        (named_fault_told verbosity file name.now fault) }
 {
     if verbosity.verbose {
         write_named_fault(file, name, fault, out)
@@ -92,7 +91,7 @@ fn write_numbered_fault<W: WriteLines>(
     fault: MergeFault,
     out: &mut W,
 ) -> io::Result<()>
-    ensures { Tells W.contents W.failed out.old out.new result (file_fault_line file fault) }
+    ensures { Tells W.lines out.old out.new result (file_fault_line file fault) }
 {
     write_file_start(file, out)?;
     write_merge_fault_text(fault, out)
@@ -104,8 +103,8 @@ fn write_named_fault<W: WriteLines>(
     fault: MergeFault,
     out: &mut W,
 ) -> io::Result<()>
-    ensures { Tells W.contents W.failed out.old out.new result
-        (named_file_line file name.now (merge_fault_text fault)) }
+    ensures { Tells W.lines out.old out.new result
+        (named_fault_line file name.now fault) }
 {
     write_file_start(file, out)?;
     write_origin(&Origin::File { name, size: None }, out)?;
@@ -115,7 +114,7 @@ fn write_named_fault<W: WriteLines>(
 // The fault of a file, and after it that of its session or of its record, or the number of the row that crosses a
 // border, to the end of the line.
 fn write_merge_fault_text<W: WriteLines>(fault: MergeFault, out: &mut W) -> io::Result<()>
-    ensures { Tells W.contents W.failed out.old out.new result (merge_fault_text fault) }
+    ensures { Tells W.lines out.old out.new result (merge_fault_text fault) }
 {
     match fault {
         MergeFault::Session(inner) => {
@@ -130,7 +129,7 @@ fn write_merge_fault_text<W: WriteLines>(fault: MergeFault, out: &mut W) -> io::
 // The last fault, after what stands before it.
 #[tactic(auto, unfolding(report_writing::specs::FaultLines::fault_text))]
 fn write_inner<W: WriteLines>(what: &str, number: u8, name: &str, out: &mut W) -> io::Result<()>
-    ensures { Tells W.contents W.failed out.old out.new result
+    ensures { Tells W.lines out.old out.new result
         (what.now ++ fault_text number name.now) }
 {
     writeln!(out, "{what}: fault {number} {name}")
@@ -139,7 +138,7 @@ fn write_inner<W: WriteLines>(what: &str, number: u8, name: &str, out: &mut W) -
 // A row that crosses a border, by its number.
 #[tactic(auto, unfolding(crate::specs::MergeLines::border_text))]
 fn write_border<W: WriteLines>(row: u64, out: &mut W) -> io::Result<()>
-    ensures { Tells W.contents W.failed out.old out.new result (border_text row) }
+    ensures { Tells W.lines out.old out.new result (border_text row) }
 {
     writeln!(out, ": fault 12 Border: row {row}")
 }
@@ -152,8 +151,8 @@ pub fn write_file_opened<W: WriteLines>(
     name: &str,
     out: &mut W,
 ) -> io::Result<()>
-    ensures { Tells W.contents W.failed out.old out.new result
-        (if_verbose verbosity (file_opened_line file name.now)) }
+    ensures { Tells W.lines out.old out.new result
+        (file_told verbosity file name.now) }
 {
     if verbosity.verbose {
         write_opened_line(file, name, out)
@@ -163,7 +162,7 @@ pub fn write_file_opened<W: WriteLines>(
 }
 
 fn write_opened_line<W: WriteLines>(file: usize, name: &str, out: &mut W) -> io::Result<()>
-    ensures { Tells W.contents W.failed out.old out.new result (file_opened_line file name.now) }
+    ensures { Tells W.lines out.old out.new result (file_opened_line file name.now) }
 {
     write_file_start(file, out)?;
     write_origin(&Origin::File { name, size: None }, out)?;
@@ -173,7 +172,7 @@ fn write_opened_line<W: WriteLines>(file: usize, name: &str, out: &mut W) -> io:
 /// Writes how the lines of a file begin, counted from 1.
 #[tactic(auto, unfolding(crate::specs::MergeLines::file_start))]
 pub fn write_file_start<W: WriteLines>(file: usize, out: &mut W) -> io::Result<()>
-    ensures { Tells W.contents W.failed out.old out.new result (file_start file) }
+    ensures { Tells W.lines out.old out.new result (file_start file) }
 {
     write!(out, "collectd: merge: file {file}")
 }

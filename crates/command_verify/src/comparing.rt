@@ -1,11 +1,10 @@
 //! Comparing a table with its receipt, and with the one that files give.
 
 ghost use Rattle.std.specs.Prelude.{◌≡◌, ◌++◌, IfOk};
+ghost use Rattle.report_writing.specs.Lines.{StaysFailed};
 ghost use Rattle.report_writing.specs.Told.{AreToldTo};
 ghost use Rattle.report_writing.specs.Writing.{Tells};
-ghost use Rattle.table_receipts.specs.Values.{table_value};
-ghost use Rattle.receipt_differences.specs.Differences.{table_differs};
-ghost use Rattle.command_verify.specs.Again.{ComparesAlone, ComparesFiles, ComparesGiven, ComparesLoaded, ComparesMapped, ComparesWith, IsMadeBy, OpensBy, OpensOrLacks, TellsAgain, again_fault_line, files_differ, given_differ, there_value};
+ghost use Rattle.command_verify.specs.Again.{ComparesAlone, ComparesFiles, ComparesGiven, ComparesLoaded, ComparesMapped, ComparesWith, IsMadeBy, OpensBy, OpensOrLacks, TellsAgain, again_fault_line, files_differ, given_differ, own_differ, there_value};
 
 use crate::maps::load_said_maps;
 use crate::telling::{tell_differences, tell_fault, tell_merged};
@@ -26,7 +25,7 @@ use std::io::{self, Write};
 use std::rt::Clock;
 use std::sync::Wait;
 use std::thread::Threads;
-use table_receipts::{FileReceipt, ReceiptFault, TableReceipt};
+use table_receipts::{FileReceipt, ReceiptFault};
 use table_remaking::{AgainFault, MadeBy, TableThere, compare_again};
 
 /// Compares a table with its receipt; and with files with the one that these give, unless its rows were merged into days or
@@ -50,8 +49,8 @@ pub fn compare_files<
 ) -> Status
     ensures compares { ComparesFiles S.seen job.now (there_value there.now) result
         O.opens O.sizes O.refuses O.coming files.old files.new
-        (AreToldTo E.contents E.failed err.old err.new) (T.has texts.now) (T.refuses texts.now) elements }
-    ensures kept { E.failed err.old → E.failed err.new }
+        (AreToldTo E.lines err.old err.new) (T.has texts.now) (T.refuses texts.now) elements }
+    ensures kept { StaysFailed E.lines err.old err.new }
 {
     if job.again.is_empty() {
         return compare_alone(job.alloc, there, b"", err);
@@ -70,10 +69,10 @@ fn compare_alone<E: WriteLines>(
     err: &mut E,
 ) -> Status
     ensures compares { ComparesAlone (there_value there.now) result
-        behind.now (AreToldTo E.contents E.failed err.old err.new) }
-    ensures kept { E.failed err.old → E.failed err.new }
+        behind.now (AreToldTo E.lines err.old err.new) }
+    ensures kept { StaysFailed E.lines err.old err.new }
 {
-    match differences_of(alloc, &there.receipt.table, there.table, behind) {
+    match differences_of(alloc, there, behind) {
         Ok(lines) => tell_differences(there.receipt, &lines, err),
         Err(AllocError) => tell_fault(ReceiptFault::OutOfMemory, err),
     }
@@ -99,8 +98,8 @@ fn compare_given<
 ) -> Status
     ensures compares { ComparesGiven S.seen job.now (there_value there.now) result
         O.opens O.sizes O.refuses O.coming files.old files.new
-        (AreToldTo E.contents E.failed err.old err.new) (T.has texts.now) (T.refuses texts.now) elements }
-    ensures kept { E.failed err.old → E.failed err.new }
+        (AreToldTo E.lines err.old err.new) (T.has texts.now) (T.refuses texts.now) elements }
+    ensures kept { StaysFailed E.lines err.old err.new }
 {
     let Ok(lines) = given_differences(job, there) else {
         return tell_fault(ReceiptFault::OutOfMemory, err);
@@ -134,8 +133,8 @@ fn compare_loaded<
 ) -> Status
     ensures compares { ComparesLoaded S.seen job.now (there_value there.now) result
         O.opens O.sizes O.refuses O.coming files.old files.new
-        (AreToldTo E.contents E.failed err.old err.new) (T.has texts.now) (T.refuses texts.now) loaded }
-    ensures kept { E.failed err.old → E.failed err.new }
+        (AreToldTo E.lines err.old err.new) (T.has texts.now) (T.refuses texts.now) loaded }
+    ensures kept { StaysFailed E.lines err.old err.new }
 {
     if loaded.maps.maps.is_empty() {
         open_with(rt, files, job, loaded, None, there, progress, err)
@@ -164,8 +163,8 @@ fn compare_mapped<
 ) -> Status
     ensures compares { ComparesMapped S.seen job.now (there_value there.now) result
         O.opens O.sizes O.refuses O.coming files.old files.new
-        (AreToldTo E.contents E.failed err.old err.new) (T.has texts.now) (T.refuses texts.now) loaded }
-    ensures kept { E.failed err.old → E.failed err.new }
+        (AreToldTo E.lines err.old err.new) (T.has texts.now) (T.refuses texts.now) loaded }
+    ensures kept { StaysFailed E.lines err.old err.new }
 {
     match load_said_maps(
         texts,
@@ -199,8 +198,8 @@ fn compare_with<
 ) -> Status
     ensures compares { ComparesWith S.seen job.now (there_value there.now) result
         O.opens O.sizes O.refuses O.coming files.old files.new
-        (AreToldTo E.contents E.failed err.old err.new) loaded maps }
-    ensures kept { E.failed err.old → E.failed err.new }
+        (AreToldTo E.lines err.old err.new) loaded maps }
+    ensures kept { StaysFailed E.lines err.old err.new }
 {
     let Ok(others) = file_differences(job.alloc, &maps, there) else {
         return tell_fault(ReceiptFault::OutOfMemory, err);
@@ -231,8 +230,8 @@ fn open_with<
 ) -> Status
     ensures opens { OpensBy S.seen job.now (there_value there.now) result
         O.opens O.sizes O.refuses O.coming files.old files.new
-        (AreToldTo E.contents E.failed err.old err.new) loaded maps }
-    ensures kept { E.failed err.old → E.failed err.new }
+        (AreToldTo E.lines err.old err.new) loaded maps }
+    ensures kept { StaysFailed E.lines err.old err.new }
 {
     match made_by(job, loaded, maps) {
         Ok(by) => open_files(rt, files, job, &by, there, progress, err),
@@ -258,8 +257,8 @@ fn open_files<
 ) -> Status
     ensures opens { OpensOrLacks S.seen job.now (there_value there.now) result
         O.opens O.sizes O.refuses O.coming files.old files.new
-        (AreToldTo E.contents E.failed err.old err.new) by.now }
-    ensures kept { E.failed err.old → E.failed err.new }
+        (AreToldTo E.lines err.old err.new) by.now }
+    ensures kept { StaysFailed E.lines err.old err.new }
 {
     match open_all(
         rt,
@@ -304,8 +303,8 @@ fn tell_again<S: Source + Send + Drop, E: WriteLines, R: Threads + Wait + Sync>(
     err: &mut E,
 ) -> Status
     ensures tells { TellsAgain S.seen (there_value there.now) result
-        by.now sources.items origins.now (AreToldTo E.contents E.failed err.old err.new) }
-    ensures kept { E.failed err.old → E.failed err.new }
+        by.now sources.items origins.now (AreToldTo E.lines err.old err.new) }
+    ensures kept { StaysFailed E.lines err.old err.new }
 {
     match compare_again(rt, alloc, sources, origins, by, there) {
         Ok(lines) => tell_differences(there.receipt, &lines, err),
@@ -317,17 +316,12 @@ fn tell_again<S: Source + Send + Drop, E: WriteLines, R: Threads + Wait + Sync>(
 }
 
 // The lines of what differs in a table, and these after them.
-fn differences_of(
-    alloc: Global,
-    said: &TableReceipt,
-    table: &[u8],
-    behind: &[u8],
-) -> Result<Vec<u8>, AllocError>
+fn differences_of(alloc: Global, there: &TableThere, behind: &[u8]) -> Result<Vec<u8>, AllocError>
     ensures { IfOk result
-        (λ lines. lines.items ≡ table_differs (table_value said.now) table.now ++ behind.now) }
+        (λ lines. lines.items ≡ own_differ (there_value there.now) ++ behind.now) }
 {
     let mut lines = Vec::new(alloc);
-    let Ok(()) = write_table_differences(said, table, &mut lines) else {
+    let Ok(()) = write_table_differences(&there.receipt.table, there.table, &mut lines) else {
         return Err(AllocError);
     };
     lines.extend_from_slice(behind)?;
@@ -365,7 +359,7 @@ fn file_differences(
 }
 
 fn write_again_fault<E: WriteLines>(fault: AgainFault, err: &mut E) -> io::Result<()>
-    ensures { Tells E.contents E.failed err.old err.new result (again_fault_line fault) }
+    ensures { Tells E.lines err.old err.new result (again_fault_line fault) }
 {
     match fault {
         AgainFault::NotMade(RemakeFault::Collect(fault)) => write_collect_fault(fault, err),

@@ -1,9 +1,9 @@
 //! The maps of the plan in a receipt.
 
 ghost use Rattle.std.specs.Prelude.{◌≡◌, IfErr, IfOk, map};
+ghost use Rattle.report_writing.specs.Lines.{StaysFailed};
 ghost use Rattle.report_writing.specs.Told.{AreToldTo};
-ghost use Rattle.table_receipts.specs.Values.{file_value};
-ghost use Rattle.command_verify.specs.Again.{AreMapsNamed, HasNoMaps, names_of as names_in};
+ghost use Rattle.command_verify.specs.Again.{AreMapsNamed, HasNoMaps, names_said};
 ghost use Rattle.command_verify.specs.Verified.{memory_line};
 
 use crate::telling::tell_fault;
@@ -26,11 +26,11 @@ pub fn load_said_maps<T: ReadText, E: WriteLines>(
     err: &mut E,
 ) -> Result<MapsOfPlan, Status>
     ensures maps { IfOk result
-        (AreMapsNamed (T.has texts.now) (names_in (map file_value said.now)) keys.now) }
+        (AreMapsNamed (T.has texts.now) (names_said said.now) keys.now) }
     ensures silent { IfOk result (λ _. err.new ≡ err.old) }
     ensures told { IfErr result (HasNoMaps (T.has texts.now) (T.refuses texts.now) verbosity
-        (names_in (map file_value said.now)) (AreToldTo E.contents E.failed err.old err.new)) }
-    ensures kept { E.failed err.old → E.failed err.new }
+        (names_said said.now) (AreToldTo E.lines err.old err.new)) }
+    ensures kept { StaysFailed E.lines err.old err.new }
 {
     let Ok(names) = names_of(alloc, said) else {
         return Err(without_memory(err));
@@ -47,8 +47,8 @@ pub fn load_said_maps<T: ReadText, E: WriteLines>(
 // There was no memory for the names of files and what is told of them.
 fn without_memory<E: WriteLines>(err: &mut E) -> Status
     ensures failed { result ≡ Status.Failed }
-    ensures told { AreToldTo E.contents E.failed err.old err.new memory_line }
-    ensures kept { E.failed err.old → E.failed err.new }
+    ensures told { AreToldTo E.lines err.old err.new memory_line }
+    ensures kept { StaysFailed E.lines err.old err.new }
 {
     tell_fault(ReceiptFault::OutOfMemory, err)
 }
@@ -56,7 +56,7 @@ fn without_memory<E: WriteLines>(err: &mut E) -> Status
 // The names of files.
 fn names_of(alloc: Global, mut files: &[FileReceipt]) -> Result<Vec<&str>, AllocError>
     ensures { IfOk result (λ names. map (λ name. name.now) names.items
-        ≡ names_in (map file_value files.entry.now)) }
+        ≡ names_said files.entry.now) }
 {
     let mut names = Vec::new(alloc);
     while let [file, rest @ ..] = files {
