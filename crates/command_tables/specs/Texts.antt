@@ -57,7 +57,7 @@ pub record IsSaid (said : TableValue) (text : List ℕ) : Type 0 where
 -- the receipt of a text of a table that has this receipt: of the same plan, inputs, records of each class and completeness
 abbrev pub receipt_with : TextJob → List ℕ → Table → ReceiptValue → ReceiptValue
 receipt_with job text table own =
-    with_table job.collectd.now (table_of job.elements.now job.plan.now.counters job.output (record { octets = length text; sha256 = sha256 text }) table) own
+    with_table job.collectd.now (table_of job.elements.now job.plan.now job.output (record { octets = length text; sha256 = sha256 text }) table) own
 
 -- an export is the table of its receipt, which is of the plan; a text is that of the same table, and this is its receipt
 pub record IsTextOf (job : TextJob) (own : ReceiptValue) (export text receipt : List ℕ) : Type 0 where
