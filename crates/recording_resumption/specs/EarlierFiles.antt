@@ -1,5 +1,5 @@
 -- A file of an earlier run, read by itself as a session: its report, its templates, and the last message of each domain.
-use Rattle.std.specs.Prelude.{◌≡◌, ℕ, false, List, length, nat_eq, Option, Some, IfSome, IsSome}
+use Rattle.std.specs.Prelude.{◌≡◌, ℕ, false, List, length, nat_eq, Option, Some, None, IfSome, IsSome}
 use Rattle.std.specs.Ordering.{nat_cmp}
 use Rattle.std.specs.BTreeMap.{BTreeMap, get as get_at}
 use Rattle.indexmap.specs.IndexMap.{IndexMap, get}
@@ -48,5 +48,9 @@ LeftBy last d left = LeavesOnly (get nat_eq last) d left
 abbrev pub HasDomain : BTreeMap ℕ EarlierDomain → ℕ → Type 0
 HasDomain left domain = IsSome (get_at nat_cmp left domain)
 
-abbrev pub LeavesEach : (ℕ → Option LastMessage) → BTreeMap ℕ EarlierDomain → Type 0
-LeavesEach last left = (domain : ℕ) → IsSome (last domain) → HasDomain left domain
+abbrev pub LeavesEach : {S : Type 0} → IndexMap ℕ LastMessage S → BTreeMap ℕ EarlierDomain → Type 0
+LeavesEach last left = (domain : ℕ) → IsSome (get nat_eq last domain) → HasDomain left domain
+
+-- none is left
+abbrev pub LeavesNone : BTreeMap ℕ EarlierDomain → Type 0
+LeavesNone left = (domain : ℕ) → get_at nat_cmp left domain ≡ None
