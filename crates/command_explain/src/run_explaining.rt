@@ -1,6 +1,6 @@
 //! Finding a fault that ends a run, and writing its explanation.
 
-ghost use Rattle.std.specs.Prelude.{◌≡◌, ◌++◌, find, Some, OnOk};
+ghost use Rattle.std.specs.Prelude.{◌≡◌, find, Some, OnOk};
 ghost use Rattle.std.specs.List.{flat_map};
 ghost use Rattle.ipfix_elements.specs.Writers.{Writes};
 ghost use Rattle.command_explain.specs.declared.run_faults.RunFault.{RunFault};
