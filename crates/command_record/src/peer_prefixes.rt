@@ -1,8 +1,8 @@
 //! Which peers may send, by the words of `--from`.
 
-ghost use Rattle.std.specs.Prelude.{◌≡◌, IfErr, IfOk, MatchResult, OnErr, OnOk};
+ghost use Rattle.std.specs.Prelude.{◌≡◌, IfErr, IfOk, OnErr, OnOk};
 ghost use Rattle.report_writing.specs.Writing.{Tells};
-ghost use Rattle.command_record.specs.PeerPrefixes.{ArePrefixes, IsWordFault, TellsWhy, bits_after_line, fault_line, no_prefix_line, prefix_line};
+ghost use Rattle.command_record.specs.PeerPrefixes.{ArePrefixes, IsFilterOf, IsWordFault, TellsWhy, bits_after_line, fault_line, no_prefix_line, prefix_line};
 
 use network_prefixes::{PeerFilter, Prefix, PrefixFault};
 use report_writing::{Status, WriteLines};
@@ -23,10 +23,10 @@ pub(crate) fn filter_of<E: WriteLines>(
     words: &[&str],
     err: &mut E,
 ) -> Result<PeerFilter, Status>
-    ensures prefixes { IfOk result (λ filter. ArePrefixes words.now filter.prefixes.items) }
+    ensures prefixes { IfOk result (IsFilterOf words.now) }
     ensures silent { OnOk result (err.new ≡ err.old) }
     ensures refused { IfErr result (λ status. status ≡ Status.NotOpened) }
-    ensures told { OnErr result (TellsWhy E.contents E.failed err.old err.new words.now) }
+    ensures told { OnErr result (TellsWhy E.lines err.old err.new words.now) }
 {
     match prefixes_in(alloc, words) {
         Ok(prefixes) => Ok(PeerFilter { prefixes }),
@@ -39,8 +39,8 @@ pub(crate) fn filter_of<E: WriteLines>(
 
 // The prefix that each word spells, or why not all do.
 fn prefixes_in<'w>(alloc: Global, words: &[&'w str]) -> Result<Vec<Prefix>, WordFault<'w>>
-    ensures { MatchResult result (λ prefixes. ArePrefixes words.now prefixes.items)
-        (IsWordFault words.now) }
+    ensures ok { IfOk result (λ prefixes. ArePrefixes words.now prefixes.items) }
+    ensures err { IfErr result (IsWordFault words.now) }
 {
     let mut prefixes = Vec::new(alloc);
     for word in words {
@@ -57,7 +57,7 @@ fn prefixes_in<'w>(alloc: Global, words: &[&'w str]) -> Result<Vec<Prefix>, Word
 }
 
 fn write_fault<W: WriteLines>(fault: &WordFault, out: &mut W) -> io::Result<()>
-    ensures { Tells W.contents W.failed out.old out.new result (fault_line fault.now) }
+    ensures { Tells W.lines out.old out.new result (fault_line fault.now) }
 {
     match fault {
         WordFault::NoPrefix(word, why) => write_prefix(*word, *why, out),
@@ -67,7 +67,7 @@ fn write_fault<W: WriteLines>(fault: &WordFault, out: &mut W) -> io::Result<()>
 
 // Writes why a word is no prefix.
 fn write_prefix<W: WriteLines>(word: &str, fault: PrefixFault, out: &mut W) -> io::Result<()>
-    ensures { Tells W.contents W.failed out.old out.new result (prefix_line word.now fault) }
+    ensures { Tells W.lines out.old out.new result (prefix_line word.now fault) }
 {
     match fault {
         PrefixFault::NotAPrefix => write_no_prefix(word, out),
@@ -77,14 +77,14 @@ fn write_prefix<W: WriteLines>(word: &str, fault: PrefixFault, out: &mut W) -> i
 
 #[tactic(auto, unfolding(crate::specs::PeerPrefixes::no_prefix_line))]
 fn write_no_prefix<W: WriteLines>(word: &str, out: &mut W) -> io::Result<()>
-    ensures { Tells W.contents W.failed out.old out.new result (no_prefix_line word.now) }
+    ensures { Tells W.lines out.old out.new result (no_prefix_line word.now) }
 {
     writeln!(out, "error: '{word}' of --from is no address and no prefix")
 }
 
 #[tactic(auto, unfolding(crate::specs::PeerPrefixes::bits_after_line))]
 fn write_bits_after<W: WriteLines>(word: &str, out: &mut W) -> io::Result<()>
-    ensures { Tells W.contents W.failed out.old out.new result (bits_after_line word.now) }
+    ensures { Tells W.lines out.old out.new result (bits_after_line word.now) }
 {
     writeln!(
         out,

@@ -7,7 +7,7 @@ ghost use Rattle.report_writing.specs.Reasons.{reason_of};
 ghost use Rattle.report_writing.specs.Told.{AreToldTo};
 ghost use Rattle.command_record.specs.Beginning.{no_address_text};
 ghost use Rattle.command_record.specs.Limits.{first_read_back, idle_seconds};
-ghost use Rattle.command_record.specs.PeerPrefixes.{ArePrefixes, TellsWhy};
+ghost use Rattle.command_record.specs.PeerPrefixes.{IsFilterOf, TellsWhy};
 
 use crate::beginning::{Intake, write_beginning};
 use crate::descriptors::{descriptor_limit, peers_of};
@@ -88,7 +88,7 @@ fn check_addresses<E: WriteLines>(arguments: &RecordArguments, err: &mut E) -> R
     ensures given { IsOk result ↔ (IsSome arguments.now.listen ⊎ IsSome arguments.now.udp) }
     ensures silent { OnOk result (err.new ≡ err.old) }
     ensures refused { IfErr result (λ status. status ≡ Status.NotOpened) }
-    ensures told { OnErr result (AreToldTo E.contents E.failed err.old err.new no_address_text) }
+    ensures told { OnErr result (AreToldTo E.lines err.old err.new no_address_text) }
 {
     if arguments.listen.is_some() || arguments.udp.is_some() {
         return Ok(());
@@ -138,7 +138,7 @@ fn open_socket(
 
 // Writes the line of a socket for datagrams that can't be had.
 fn tell_socket<E: WriteLines>(addr: &str, error: &io::Error, err: &mut E)
-    ensures { AreToldTo E.contents E.failed err.old err.new
+    ensures { AreToldTo E.lines err.old err.new
         (because_line (codes "udp") addr.now (reason_of (error_kind error.now))) }
 {
     let reason = Reason::of(error);
@@ -195,12 +195,11 @@ fn order_of<E: WriteLines>(
     ensures idle { IfOk result (λ order. order.idle ≡ arguments.now.idle) }
     ensures templates { IfOk result (λ order. order.templates ≡ arguments.now.templates) }
     ensures verbosity { IfOk result (λ order. order.verbosity ≡ arguments.now.verbosity) }
-    ensures filter { IfOk result (λ order.
-        ArePrefixes arguments.now.prefixes.now order.filter.prefixes.items) }
+    ensures filter { IfOk result (λ order. IsFilterOf arguments.now.prefixes.now order.filter) }
     ensures silent { OnOk result (err.new ≡ err.old) }
     ensures refused { IfErr result (λ status. status ≡ Status.NotOpened) }
     ensures told { OnErr result
-        (TellsWhy E.contents E.failed err.old err.new arguments.now.prefixes.now) }
+        (TellsWhy E.lines err.old err.new arguments.now.prefixes.now) }
 {
     Ok(RecordOrder {
         every: arguments.every,

@@ -1,8 +1,9 @@
 -- Taking the text of a period in a round, and writing what became of it.
-use Rattle.std.specs.Prelude.{◌≡◌, ◌⊎◌, ◌&&◌, ℕ, Bool, List, Option, MatchBool, not}
+use Rattle.std.specs.Prelude.{◌≡◌, ◌⊎◌, ◌&&◌, ℕ, Bool, List, MatchBool, not}
 use Rattle.ipfix_session.specs.Sources.{SourceView}
 use Rattle.recording_names.specs.PeriodNames.{IsPeriodName}
 use Rattle.recording_names.specs.declared.period.Period.{Period}
+use Rattle.report_writing.specs.Lines.{LinesView}
 use Rattle.report_writing.specs.Told.{AreToldTo}
 use Rattle.report_writing.specs.declared.status.Status.{Status}
 use Rattle.report_writing.specs.declared.status.Status.TheVariants.{Failed, Well}
@@ -18,7 +19,7 @@ use Rattle.command_tables.specs.declared.texts.periods.Texts.{Texts}
 use Rattle.command_tables.specs.declared.texts.taking.TextOutcome.{TextOutcome}
 
 -- by what contracts see of a place of tables, and of what paths and lines are written to
-module _ {F M T P L S : Type 0} (sees : PlaceView T) (seen : S → SourceView) (paths_in : P → Option (List ℕ)) (paths_failed : P → Type 0) (lines_in : L → Option (List ℕ)) (lines_failed : L → Type 0) (job : TextJob) (round : Round) where
+module _ {F M T P L S : Type 0} (sees : PlaceView T) (seen : S → SourceView) (out_lines : P → LinesView) (err_lines : L → LinesView) (job : TextJob) (round : Round) where
   -- a text was taken, and its path and lines say what became of it
   pub record IsTextTold (begins : ℕ) (status : Status) (before after : Work F M T P L) (texts texts_after : T) : Type 0 where
     pub outcome : TextOutcome
@@ -27,8 +28,8 @@ module _ {F M T P L S : Type 0} (sees : PlaceView T) (seen : S → SourceView) (
     pub is_name : IsPeriodName begins name
     pub is_path : sees.path_at texts begins path
     pub taken : IsTextOutcome sees seen job begins outcome before.desk.tables texts texts_after
-    pub paths : AreToldTo paths_in paths_failed before.out after.out (text_paths path outcome)
-    pub lines : AreToldTo lines_in lines_failed before.err after.err (text_lines (label_text round.plan name) outcome)
+    pub paths : AreToldTo out_lines before.out after.out (text_paths path outcome)
+    pub lines : AreToldTo err_lines before.err after.err (text_lines (label_text round.plan name) outcome)
     pub rest : after ≡ record before { out = after.out; err = after.err }
     pub status_is : status ≡ text_status outcome
 

@@ -1,7 +1,8 @@
 -- Taking the table of a day in a round, and writing what became of it.
-use Rattle.std.specs.Prelude.{◌≡◌, ◌⊎◌, ℕ, ◌-◌, true, List, Option, MatchBool}
+use Rattle.std.specs.Prelude.{◌≡◌, ◌⊎◌, ℕ, ◌-◌, true, List, MatchBool}
 use Rattle.ipfix_session.specs.Sources.{SourceView}
 use Rattle.recording_names.specs.declared.period.Period.{Period}
+use Rattle.report_writing.specs.Lines.{LinesView}
 use Rattle.report_writing.specs.Told.{AreToldTo}
 use Rattle.report_writing.specs.declared.status.Status.{Status}
 use Rattle.report_writing.specs.declared.status.Status.TheVariants.{Failed, Well}
@@ -20,16 +21,16 @@ use Rattle.command_tables.specs.declared.days.day_tables.DayTexts.{DayTexts}
 use Rattle.command_tables.specs.declared.days.placing.PlacedPeriod.{PlacedPeriod}
 
 -- by what contracts see of a place of tables, and of what paths and lines are written to
-module _ {F M T P L S : Type 0} (sees : PlaceView T) (seen : S → SourceView) (paths_in : P → Option (List ℕ)) (paths_failed : P → Type 0) (lines_in : L → Option (List ℕ)) (lines_failed : L → Type 0) where
+module _ {F M T P L S : Type 0} (sees : PlaceView T) (seen : S → SourceView) (out_lines : P → LinesView) (err_lines : L → LinesView) where
   -- the table of a day was taken of these periods, and its path and lines, after those of the merge, say what became of it
   pub record IsDayTold (periods : List Period) (begins : ℕ) (status : Status) (before after : Work F M T P L) (made made_after : DayTables T) : Type 0 where
     pub outcome : Outcome
     pub path : List ℕ
     pub between : L
     pub is_path : sees.path_at made.place begins path
-    pub taken : IsDayOutcome sees seen lines_in lines_failed made.job periods begins outcome before.desk.tables made.place made_after.place before.err between
-    pub paths : AreToldTo paths_in paths_failed before.out after.out (outcome_paths path outcome)
-    pub lines : AreToldTo lines_in lines_failed between after.err (outcome_lines true path path outcome)
+    pub taken : IsDayOutcome sees seen err_lines made.job periods begins outcome before.desk.tables made.place made_after.place before.err between
+    pub paths : AreToldTo out_lines before.out after.out (outcome_paths path outcome)
+    pub lines : AreToldTo err_lines between after.err (outcome_lines true path path outcome)
     pub rest : after ≡ record before { out = after.out; err = after.err }
     pub made_rest : made_after ≡ record made { place = made_after.place }
     pub status_is : status ≡ outcome_status outcome
@@ -57,8 +58,8 @@ module _ {F M T P L S : Type 0} (sees : PlaceView T) (seen : S → SourceView) (
     pub is_table : sees.path_at made.place begins table
     pub is_path : sees.path_at texts.place begins path
     pub taken : IsTextOutcome sees seen texts.job begins outcome made.place texts.place texts_after.place
-    pub paths : AreToldTo paths_in paths_failed before.out after.out (text_paths path outcome)
-    pub lines : AreToldTo lines_in lines_failed before.err after.err (text_lines table outcome)
+    pub paths : AreToldTo out_lines before.out after.out (text_paths path outcome)
+    pub lines : AreToldTo err_lines before.err after.err (text_lines table outcome)
     pub rest : after ≡ record before { out = after.out; err = after.err }
     pub texts_rest : texts_after ≡ record texts { place = texts_after.place }
     pub status_is : status ≡ text_status outcome

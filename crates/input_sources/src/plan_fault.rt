@@ -22,7 +22,7 @@ pub fn write_plan_fault<W: WriteLines>(
     error: &PlanTextError,
     out: &mut W,
 ) -> io::Result<()>
-    ensures { Tells W.contents W.failed out.old out.new result
+    ensures { Tells W.lines out.old out.new result
         (plan_lines elements.now error.now) }
 {
     write_plan_fault_line(error.fault(), out)?;
@@ -36,7 +36,7 @@ pub fn write_filtered_fault<W: WriteLines>(
     error: &FilteredPlanError,
     out: &mut W,
 ) -> io::Result<()>
-    ensures { Tells W.contents W.failed out.old out.new result
+    ensures { Tells W.lines out.old out.new result
         (filtered_lines elements.now error.now) }
 {
     match error {
@@ -48,7 +48,7 @@ pub fn write_filtered_fault<W: WriteLines>(
 }
 
 fn write_no_conditions<W: WriteLines>(out: &mut W) -> io::Result<()>
-    ensures { Tells W.contents W.failed out.old out.new result
+    ensures { Tells W.lines out.old out.new result
         no_conditions_lines }
 {
     write_filter_fault(out)?;
@@ -60,7 +60,7 @@ fn write_no_condition<W: WriteLines>(
     fault: &WhereFault,
     out: &mut W,
 ) -> io::Result<()>
-    ensures { Tells W.contents W.failed out.old out.new result
+    ensures { Tells W.lines out.old out.new result
         (filter_fault ++ where_line place fault.now) }
 {
     write_filter_fault(out)?;
@@ -68,13 +68,13 @@ fn write_no_condition<W: WriteLines>(
 }
 
 fn write_filter_fault<W: WriteLines>(out: &mut W) -> io::Result<()>
-    ensures { Tells W.contents W.failed out.old out.new result filter_fault }
+    ensures { Tells W.lines out.old out.new result filter_fault }
 {
     write_fault("plan", 8, "Filter", out)
 }
 
 fn write_plan_fault_line<W: WriteLines>(fault: PlanTextFault, out: &mut W) -> io::Result<()>
-    ensures { Tells W.contents W.failed out.old out.new result
+    ensures { Tells W.lines out.old out.new result
         (plan_fault_line fault) }
 {
     match fault {
@@ -84,14 +84,14 @@ fn write_plan_fault_line<W: WriteLines>(fault: PlanTextFault, out: &mut W) -> io
 }
 
 fn write_text_fault<W: WriteLines>(fault: PlanTextFault, out: &mut W) -> io::Result<()>
-    ensures { Tells W.contents W.failed out.old out.new result
+    ensures { Tells W.lines out.old out.new result
         (text_fault_line fault) }
 {
     write_fault("plan", fault.number(), fault.name(), out)
 }
 
 fn write_inner_fault<W: WriteLines>(fault: PlanFault, out: &mut W) -> io::Result<()>
-    ensures { Tells W.contents W.failed out.old out.new result
+    ensures { Tells W.lines out.old out.new result
         (rule_fault_line fault) }
 {
     write_fault("plan: fault 6 Plan", fault.number(), fault.name(), out)

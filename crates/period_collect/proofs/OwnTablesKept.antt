@@ -5,6 +5,7 @@ use Rattle.std.specs.List.{AllZip}
 use Rattle.std.proofs.lemmas.List.Elements.{All-append, All-cons, All-nil}
 use Rattle.ipfix_message.specs.declared.record.DataRecord.{DataRecord}
 use Rattle.ipfix_session.specs.Sources.{SourceView}
+use Rattle.report_writing.specs.Lines.{LinesView}
 use Rattle.report_writing.specs.declared.origin.Origin.{Origin}
 use Rattle.report_writing.specs.declared.verbosity.TheConstants.{NOTHING_MORE}
 use Rattle.input_sources.specs.InputsTold.{opened_lines}
@@ -105,12 +106,12 @@ files_out plan alone own out are goes = record {
 
 -- ---- the states of the maker
 
-module _ {S O E : Type 0} (seen : S → SourceView) (opens : O → List ℕ → S → Type 0) (sizes : O → List ℕ → Option ℕ → Type 0) (coming : O → Option (List S)) (contents : E → Option (List ℕ)) (failed : E → Type 0) where
+module _ {S O E : Type 0} (seen : S → SourceView) (opens : O → List ℕ → S → Type 0) (sizes : O → List ℕ → Option ℕ → Type 0) (coming : O → Option (List S)) (lines : E → LinesView) where
   pub alone_more : (before between after : TableMaker S O E) (paths : List (List ℕ)) (alone : List Alone) (path : List ℕ) (a : Alone)
-      → AreAlone seen opens sizes coming contents failed before between paths alone → IsAlone seen opens sizes coming contents failed between after path a
-      → AreAlone seen opens sizes coming contents failed before after (paths ++ path ∷ []) (alone ++ a ∷ [])
+      → AreAlone seen opens sizes coming lines before between paths alone → IsAlone seen opens sizes coming lines between after path a
+      → AreAlone seen opens sizes coming lines before after (paths ++ path ∷ []) (alone ++ a ∷ [])
   alone_more before between after [] [] path a same is =
-      (after, subst (λ (m : TableMaker S O E). IsAlone seen opens sizes coming contents failed m after path a) same is, refl)
+      (after, subst (λ (m : TableMaker S O E). IsAlone seen opens sizes coming lines m after path a) same is, refl)
   alone_more before between after [] (b ∷ alone) path a all is = absurd all
   alone_more before between after (x ∷ paths) [] path a all is = absurd all
   alone_more before between after (x ∷ paths) (b ∷ alone) path a all is = (all.0, all.1, alone_more all.0 between after paths alone path a all.2 is)

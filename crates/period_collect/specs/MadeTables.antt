@@ -7,6 +7,7 @@ use Rattle.std.specs.declared.io.ErrorKind.{ErrorKind}
 use Rattle.std.specs.declared.string.String.{String}
 use Rattle.std.specs.declared.vec.Vec.{Vec}
 use Rattle.ipfix_session.specs.Sources.{SourceView}
+use Rattle.report_writing.specs.Lines.{LinesView}
 use Rattle.report_writing.specs.Told.{AreToldTo}
 use Rattle.report_writing.specs.declared.reason.Reason.{Reason}
 use Rattle.report_writing.specs.declared.status.Status.{Status}
@@ -75,7 +76,7 @@ abbrev pub all_out : List (List ℕ) → List ℕ
 all_out lots = flat_map (λ (lot : List ℕ). lot) lots
 
 module _ {S O E : Type 0} (seen : S → SourceView) (failure : S → Option ErrorKind)
-    (opens : O → List ℕ → S → Type 0) (sizes : O → List ℕ → Option ℕ → Type 0) (refuses : O → List ℕ → Reason → Type 0) (coming : O → Option (List S)) (contents : E → Option (List ℕ)) (failed : E → Type 0) where
+    (opens : O → List ℕ → S → Type 0) (sizes : O → List ℕ → Option ℕ → Type 0) (refuses : O → List ℕ → Reason → Type 0) (coming : O → Option (List S)) (lines : E → LinesView) where
   -- the files of exactly these paths but those at some places, in their order, were collected with a receipt, into an empty text, and
   -- the run ended so; the maker opened them, its lines are those of this run, and the receipt names what was left out. It says that its
   -- files hinder a table only where they do
@@ -90,7 +91,7 @@ module _ {S O E : Type 0} (seen : S → SourceView) (failure : S → Option Erro
     pub empty : to.out.items ≡ []
     pub same_made : IsSameMade to.made before.job.made.now
     pub left_out : map string_bytes to.made.left_out.items ≡ paths_at out (map string_bytes paths)
-    pub runs : ReceiptedFiles (λ v. Some v.items) Holds to ended seen failure with_exporters opens sizes refuses coming before.opening after.opening words (AreToldTo contents failed before.err after.err)
+    pub runs : ReceiptedFiles (λ v. Some v.items) Holds to ended seen failure with_exporters opens sizes refuses coming before.opening after.opening words (AreToldTo lines before.err after.err)
     pub hindered : IfSome ended.hindrance (HinderFiles seen with_exporters opens sizes coming before.opening after.opening words)
     pub same_job : after.job ≡ before.job
 
@@ -104,8 +105,8 @@ module _ {S O E : Type 0} (seen : S → SourceView) (failure : S → Option Erro
 
   -- so these go, too: if a sum is too large, those that have most of it, of all files; if two have the same octets, the later
   abbrev pub LeavesOutMore : TableMaker S O E → TableMaker S O E → ℕ → List (String Global) → List ℕ → List ℕ → Hindrance → Type 0
-  LeavesOutMore tried after begins files out lot SumTooLarge = (out ≡ []) × IsParted seen opens sizes coming contents failed tried after begins files lot
-  LeavesOutMore tried after begins files out lot (InputTwice first second) = IsSameLeftOut contents failed tried after begins files out lot first second
+  LeavesOutMore tried after begins files out lot SumTooLarge = (out ≡ []) × IsParted seen opens sizes coming lines tried after begins files lot
+  LeavesOutMore tried after begins files out lot (InputTwice first second) = IsSameLeftOut lines tried after begins files out lot first second
 
   -- after such a run a lot more is left out
   pub record LeavesHindering (before after : TableMaker S O E) (begins : ℕ) (files : List (String Global)) (out lot : List ℕ) : Type 0 where
@@ -128,7 +129,7 @@ module _ {S O E : Type 0} (seen : S → SourceView) (failure : S → Option Erro
     pub receipt : List ℕ
     pub fault : Bool
     pub run : IsRunWith before tried begins files out text receipt fault
-    pub leaves_out : LeavesOutForRows seen opens sizes coming contents failed tried after begins files out receipt lot
+    pub leaves_out : LeavesOutForRows seen opens sizes coming lines tried after begins files out receipt lot
     pub some : 0 < length lot
 
   abbrev pub LeavesLot : TableMaker S O E → TableMaker S O E → ℕ → List (String Global) → List ℕ → List ℕ → Type 0
@@ -146,7 +147,7 @@ module _ {S O E : Type 0} (seen : S → SourceView) (failure : S → Option Erro
   pub record IsStanding (before after : TableMaker S O E) (begins : ℕ) (files : List (String Global)) (out text receipt : List ℕ) (fault : Bool) : Type 0 where
     pub ran : TableMaker S O E
     pub run : IsRunWith before ran begins files out text receipt fault
-    pub none_goes : LeavesOutForRows seen opens sizes coming contents failed ran after begins files out receipt []
+    pub none_goes : LeavesOutForRows seen opens sizes coming lines ran after begins files out receipt []
 
   -- the table and the receipt of the run of all but what was left out before, and whether a session had a fault
   pub record IsTableOf (before after : TableMaker S O E) (begins : ℕ) (files : List (String Global)) (text receipt : List ℕ) (fault : Bool) : Type 0 where
@@ -199,10 +200,10 @@ pub record Makes (M : Type 0) : Type 1 where
   pub as_before : M → M → Type 0
 
 -- by the members of the traits of its sources, of what opens them, and of what its lines are written to
-abbrev pub makes_of : {S O E : Type 0} → (S → SourceView) → (S → Option ErrorKind) → (O → List ℕ → S → Type 0) → (O → List ℕ → Option ℕ → Type 0) → (O → List ℕ → Reason → Type 0) → (O → Option (List S)) → (E → Option (List ℕ)) → (E → Type 0)
+abbrev pub makes_of : {S O E : Type 0} → (S → SourceView) → (S → Option ErrorKind) → (O → List ℕ → S → Type 0) → (O → List ℕ → Option ℕ → Type 0) → (O → List ℕ → Reason → Type 0) → (O → Option (List S)) → (E → LinesView)
     → Makes (TableMaker S O E)
-makes_of seen failure opens sizes refuses coming contents failed = record {
-  is_table_of = IsTableOf seen failure opens sizes refuses coming contents failed;
-  not_made = IsNotMade seen failure opens sizes refuses coming contents failed;
+makes_of seen failure opens sizes refuses coming lines = record {
+  is_table_of = IsTableOf seen failure opens sizes refuses coming lines;
+  not_made = IsNotMade seen failure opens sizes refuses coming lines;
   as_before = λ before after. after.job ≡ before.job;
 }

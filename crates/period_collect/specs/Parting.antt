@@ -6,6 +6,7 @@ use Rattle.std.specs.declared.alloc.Global.{Global}
 use Rattle.std.specs.declared.string.String.{String}
 use Rattle.ipfix_message.specs.declared.record.DataRecord.{DataRecord}
 use Rattle.ipfix_session.specs.Sources.{SourceView}
+use Rattle.report_writing.specs.Lines.{LinesView}
 use Rattle.report_writing.specs.Told.{AreToldTo}
 use Rattle.report_writing.specs.declared.origin.Origin.{Origin}
 use Rattle.flow_table.specs.Fitting.{FitsPlan}
@@ -49,7 +50,7 @@ pub record AreOwn (plan : PlanValue) (alone : List Alone) (own : OwnTables) : Ty
   pub places : own.places.items ≡ places_with 0 alone
   pub others : own.others.items ≡ places_without 0 alone
 
-module _ {S O E : Type 0} (seen : S → SourceView) (opens : O → List ℕ → S → Type 0) (sizes : O → List ℕ → Option ℕ → Type 0) (coming : O → Option (List S)) (contents : E → Option (List ℕ)) (failed : E → Type 0) where
+module _ {S O E : Type 0} (seen : S → SourceView) (opens : O → List ℕ → S → Type 0) (sizes : O → List ℕ → Option ℕ → Type 0) (coming : O → Option (List S)) (lines : E → LinesView) where
   -- the file of a path was opened and collected by itself, by the job with the exporter that its name says, and no line was told
   pub record IsAlone (before after : TableMaker S O E) (path : List ℕ) (alone : Alone) : Type 0 where
     pub word : Bor (List ℕ)
@@ -61,7 +62,7 @@ module _ {S O E : Type 0} (seen : S → SourceView) (opens : O → List ℕ → 
     pub opened : PathsAreOpened opens coming before.opening after.opening (word ∷ []) sources
     pub files : AreFiles (sizes before.opening) (word ∷ []) origins
     pub gave : GiveAlone seen with_exporter sources origins alone
-    pub told : AreToldTo contents failed before.err after.err []
+    pub told : AreToldTo lines before.err after.err []
     pub same : after.job ≡ before.job
 
   -- each of these files was, in their order
@@ -82,7 +83,7 @@ module _ {S O E : Type 0} (seen : S → SourceView) (opens : O → List ℕ → 
     pub collected : TableMaker S O E
     pub are_paths : AreFilePaths before.job.recordings.now begins files paths
     pub leaves_out : LeavesOut before collected (map string_bytes paths) out
-    pub told : AreToldTo contents failed collected.err after.err (left_out_lines (paths_at out (map string_bytes paths)))
+    pub told : AreToldTo lines collected.err after.err (left_out_lines (paths_at out (map string_bytes paths)))
     pub same_opening : after.opening ≡ collected.opening
     pub same_job : after.job ≡ collected.job
 
@@ -100,13 +101,13 @@ module _ {S O E : Type 0} (seen : S → SourceView) (opens : O → List ℕ → 
     pub are_alone : AreAlone before after paths alone
     pub are_own : AreOwn before.job.collect.plan.now alone own
 
-module _ {S O E : Type 0} (contents : E → Option (List ℕ)) (failed : E → Type 0) where
+module _ {S O E : Type 0} (lines : E → LinesView) where
   -- of two with the same octets the later is left out, by their numbers among all but those at some places; and a line was told
   pub record IsSameLeftOut (before after : TableMaker S O E) (begins : ℕ) (files : List (String Global)) (out lot : List ℕ) (first second : ℕ) : Type 0 where
     pub paths : List (String Global)
     pub are_paths : AreFilePaths before.job.recordings.now begins files paths
     pub are : lot ≡ kept_place out (length paths) second ∷ []
-    pub told : AreToldTo contents failed before.err after.err
+    pub told : AreToldTo lines before.err after.err
         (same_line (slice_index_or (map string_bytes paths) (kept_place out (length paths) first) []) (slice_index_or (map string_bytes paths) (kept_place out (length paths) second) []))
     pub same_opening : after.opening ≡ before.opening
     pub same_job : after.job ≡ before.job

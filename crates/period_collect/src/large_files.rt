@@ -36,7 +36,7 @@ pub(crate) fn leave_out_large<
     out: &[usize],
     receipt: &[u8],
 ) -> Result<Vec<usize>, Status>
-    ensures lot { IfOk result (λ lot. LeavesOutForRows S.seen O.opens O.sizes O.coming E.contents E.failed
+    ensures lot { IfOk result (λ lot. LeavesOutForRows S.seen O.opens O.sizes O.coming E.lines
         maker.old maker.new period.begins files.now out.now receipt.now lot.items) }
     ensures err { IfErr result (LacksRows maker.old maker.new receipt.now) }
     ensures job { maker.new.job ≡ maker.old.job }
@@ -77,7 +77,7 @@ fn leave_out_those<
     files: &[String],
     out: &[usize],
 ) -> Result<Vec<usize>, Status>
-    ensures lot { IfOk result (λ lot. AreLeftOutForRows S.seen O.opens O.sizes O.coming E.contents E.failed
+    ensures lot { IfOk result (λ lot. AreLeftOutForRows S.seen O.opens O.sizes O.coming E.lines
         maker.old maker.new period.begins files.now out.now lot.items) }
     ensures err { IfErr result HasNoRest }
     ensures job { maker.new.job ≡ maker.old.job }
@@ -110,7 +110,7 @@ fn large_files<
     E: WriteLines,
     R: Clock + Threads + Wait + Sync,
 >(threads: &R, maker: &mut TableMaker<'_, S, O, E>, paths: &[&str]) -> Result<Vec<usize>, Status>
-    ensures large { IfOk result (λ large. FindsLarge S.seen O.opens O.sizes O.coming E.contents E.failed
+    ensures large { IfOk result (λ large. FindsLarge S.seen O.opens O.sizes O.coming E.lines
         maker.old maker.new (map (λ path. path.now) paths.now) large.items) }
     ensures err { IfErr result HasNoRest }
     ensures job { maker.new.job ≡ maker.old.job }
@@ -134,7 +134,7 @@ fn own_rows<
     E: WriteLines,
     R: Clock + Threads + Wait + Sync,
 >(threads: &R, maker: &mut TableMaker<'_, S, O, E>, path: &str) -> Result<u64, Status>
-    ensures rows { IfOk result (HasRowsAlone S.seen O.opens O.sizes O.coming E.contents E.failed
+    ensures rows { IfOk result (HasRowsAlone S.seen O.opens O.sizes O.coming E.lines
         maker.old maker.new path.now) }
     ensures err { IfErr result HasNoRest }
     ensures job { maker.new.job ≡ maker.old.job }

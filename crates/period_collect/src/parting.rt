@@ -45,7 +45,7 @@ pub(crate) fn files_left_out<
     E: WriteLines,
     R: Clock + Threads + Wait + Sync,
 >(threads: &R, maker: &mut TableMaker<'_, S, O, E>, paths: &[&str]) -> Result<Vec<usize>, Status>
-    ensures out { IfOk result (λ out. LeavesOut S.seen O.opens O.sizes O.coming E.contents E.failed
+    ensures out { IfOk result (λ out. LeavesOut S.seen O.opens O.sizes O.coming E.lines
         maker.old maker.new (map (λ path. path.now) paths.now) out.items) }
     ensures err { IfErr result HasNoRest }
     ensures job { maker.new.job ≡ maker.old.job }
@@ -94,7 +94,7 @@ fn own_tables<
     E: WriteLines,
     R: Clock + Threads + Wait + Sync,
 >(threads: &R, maker: &mut TableMaker<'_, S, O, E>, paths: &[&str]) -> Result<OwnTables, Status>
-    ensures own { IfOk result (HaveOwnTables S.seen O.opens O.sizes O.coming E.contents E.failed
+    ensures own { IfOk result (HaveOwnTables S.seen O.opens O.sizes O.coming E.lines
         maker.old maker.new (map (λ path. path.now) paths.now)) }
     ensures err { IfErr result HasNoRest }
     ensures job { maker.new.job ≡ maker.old.job }
@@ -135,7 +135,7 @@ pub(crate) fn own_table<
     E: WriteLines,
     R: Clock + Threads + Wait + Sync,
 >(threads: &R, maker: &mut TableMaker<'_, S, O, E>, path: &str) -> Result<Option<FlatTable>, Status>
-    ensures own { IfOk result (HasOwnTable S.seen O.opens O.sizes O.coming E.contents E.failed
+    ensures own { IfOk result (HasOwnTable S.seen O.opens O.sizes O.coming E.lines
         maker.old maker.new path.now) }
     ensures err { IfErr result HasNoRest }
     ensures job { maker.new.job ≡ maker.old.job }

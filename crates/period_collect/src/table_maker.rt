@@ -44,10 +44,10 @@ pub fn make_table<
     files: &[String],
 ) -> Result<MadeTable, Status>
     ensures table { IfOk result (λ table. IsTableOf S.seen S.failure
-        O.opens O.sizes O.refuses O.coming E.contents E.failed maker.old maker.new
+        O.opens O.sizes O.refuses O.coming E.lines maker.old maker.new
         period.begins files.now table.text.items table.receipt.items table.had_fault) }
     ensures err { IfErr result (IsNotMade S.seen S.failure
-        O.opens O.sizes O.refuses O.coming E.contents E.failed maker.old maker.new
+        O.opens O.sizes O.refuses O.coming E.lines maker.old maker.new
         period.begins files.now) }
     ensures job { maker.new.job ≡ maker.old.job }
 {
@@ -88,10 +88,10 @@ fn table_of_rest<
     out: &[usize],
 ) -> Result<Tried, Status>
     ensures tried { IfOk result (IsTried S.seen S.failure
-        O.opens O.sizes O.refuses O.coming E.contents E.failed maker.old maker.new
+        O.opens O.sizes O.refuses O.coming E.lines maker.old maker.new
         period.begins files.now out.now) }
     ensures err { IfErr result (HasNoTable S.seen S.failure
-        O.opens O.sizes O.refuses O.coming E.contents E.failed maker.old maker.new
+        O.opens O.sizes O.refuses O.coming E.lines maker.old maker.new
         period.begins files.now out.now) }
     ensures job { maker.new.job ≡ maker.old.job }
 {
@@ -125,7 +125,7 @@ fn leave_out<
     hindrance: Hindrance,
 ) -> Result<Vec<usize>, Status>
     ensures lot { IfOk result (λ lot. LeavesOutMore S.seen S.failure
-        O.opens O.sizes O.refuses O.coming E.contents E.failed maker.old maker.new
+        O.opens O.sizes O.refuses O.coming E.lines maker.old maker.new
         period.begins files.now out.now lot.items hindrance) }
     ensures some { IfOk result (λ lot. 0 < length lot.items) }
     ensures err { IfErr result HasNoRest }
@@ -157,7 +157,7 @@ fn leave_out_largest<
     period: Period,
     files: &[String],
 ) -> Result<Vec<usize>, Status>
-    ensures out { IfOk result (λ out. IsParted S.seen O.opens O.sizes O.coming E.contents E.failed
+    ensures out { IfOk result (λ out. IsParted S.seen O.opens O.sizes O.coming E.lines
         maker.old maker.new period.begins files.now out.items) }
     ensures some { IfOk result (λ out. 0 < length out.items) }
     ensures err { IfErr result HasNoRest }
@@ -187,7 +187,7 @@ fn leave_out_same<S: Source, O: OpenSource<S>, E: WriteLines>(
     first: usize,
     second: usize,
 ) -> Result<Vec<usize>, AllocError>
-    ensures lot { IfOk result (λ lot. IsSameLeftOut E.contents E.failed maker.old maker.new
+    ensures lot { IfOk result (λ lot. IsSameLeftOut E.lines maker.old maker.new
         period.begins files.now out.now lot.items first second) }
     ensures some { IfOk result (λ lot. 0 < length lot.items) }
     ensures job { maker.new.job ≡ maker.old.job }
@@ -231,7 +231,7 @@ fn run_period<
     out: &[usize],
 ) -> Result<Ended<Vec<u8>, KeptReceipt>, AllocError>
     ensures run { IfOk result (IsRun S.seen S.failure
-        O.opens O.sizes O.refuses O.coming E.contents E.failed maker.old maker.new
+        O.opens O.sizes O.refuses O.coming E.lines maker.old maker.new
         period.begins files.now out.now) }
     ensures err { OnErr result (maker.new ≡ maker.old) }
     ensures job { maker.new.job ≡ maker.old.job }

@@ -12,6 +12,7 @@ use Rattle.recording_periods.specs.declared.due_tables.TableState.{TableState}
 use Rattle.recording_periods.specs.declared.due_tables.TableState.TheVariants as table
 use Rattle.recording_periods.specs.declared.finished_period.PeriodRule.{PeriodRule}
 use Rattle.recording_periods.specs.declared.finished_period.PeriodState.TheVariants as period
+use Rattle.report_writing.specs.Lines.{LinesView}
 use Rattle.report_writing.specs.declared.reason.Reason.{Reason}
 use Rattle.report_writing.specs.declared.reason.Reason.TheVariants.{OutOfMemory}
 use Rattle.ipfix_session.specs.Sources.{SourceView}
@@ -32,12 +33,12 @@ pub record Views (F M T : Type 0) : Type 1 where
 
 -- by the words of their traits, and of those of the sources of tables, of what opens them, and of where lines go
 abbrev pub views : {F T S O E : Type 0} → (F → Option (List Listing)) → (F → Option ℕ → Reason → Type 0)
-    → (S → SourceView) → (S → Option ErrorKind) → (O → List ℕ → S → Type 0) → (O → List ℕ → Option ℕ → Type 0) → (O → List ℕ → Reason → Type 0) → (O → Option (List S)) → (E → Option (List ℕ)) → (E → Type 0)
+    → (S → SourceView) → (S → Option ErrorKind) → (O → List ℕ → S → Type 0) → (O → List ℕ → Option ℕ → Type 0) → (O → List ℕ → Reason → Type 0) → (O → Option (List S)) → (E → LinesView)
     → PlaceView T → Views F (TableMaker S O E) T
-views listed not_listed seen failure opens sizes refuses coming contents failed place = record {
+views listed not_listed seen failure opens sizes refuses coming lines place = record {
   listed = listed;
   not_listed = not_listed;
-  makes = makes_of seen failure opens sizes refuses coming contents failed;
+  makes = makes_of seen failure opens sizes refuses coming lines;
   place = place;
 }
 

@@ -1,5 +1,5 @@
 -- Taking periods, and writing what became of their tables.
-use Rattle.std.specs.Prelude.{◌≡◌, ◌⊎◌, ℕ, Bool, true, false, List, [], ◌∷◌, Option, None, MatchBool}
+use Rattle.std.specs.Prelude.{◌≡◌, ◌⊎◌, ℕ, Bool, true, false, List, [], ◌∷◌, None, MatchBool}
 use Rattle.std.specs.declared.alloc.Global.{Global}
 use Rattle.std.specs.declared.string.String.{String}
 use Rattle.recording_names.specs.PeriodNames.{IsPeriodName}
@@ -8,6 +8,7 @@ use Rattle.period_tables.specs.Listings.{ListsNext}
 use Rattle.period_tables.specs.Outcomes.{IsOutcome, Views}
 use Rattle.period_tables.specs.declared.outcome.Outcome.{Outcome}
 use Rattle.period_tables.specs.declared.outcome.Outcome.TheVariants.{NotOver, HeldUp}
+use Rattle.report_writing.specs.Lines.{LinesView}
 use Rattle.report_writing.specs.Told.{AreToldTo}
 use Rattle.report_writing.specs.declared.reason.Reason.{Reason}
 use Rattle.report_writing.specs.declared.status.Status.{Status}
@@ -35,7 +36,7 @@ pub record State (F M T P L : Type 0) : Type 0 where
   pub status : Status
 
 -- by what contracts see of a desk, and of what paths and lines are written to
-module _ {F M T P L : Type 0} (sees : Views F M T) (paths_in : P → Option (List ℕ)) (paths_failed : P → Type 0) (lines_in : L → Option (List ℕ)) (lines_failed : L → Type 0) where
+module _ {F M T P L : Type 0} (sees : Views F M T) (out_lines : P → LinesView) (err_lines : L → LinesView) where
   -- a period was taken, and its path and lines say what became of its table
   pub record IsTakenAndTold (round : Round) (unfinished : List (String Global)) (begins : ℕ) (took : Took) (before after : Work F M T P L) : Type 0 where
     pub outcome : Outcome
@@ -44,8 +45,8 @@ module _ {F M T P L : Type 0} (sees : Views F M T) (paths_in : P → Option (Lis
     pub is_name : IsPeriodName begins name
     pub is_path : sees.place.path_at before.desk.tables begins path
     pub taken : IsOutcome sees round.rule round.now unfinished begins outcome before.desk after.desk
-    pub paths : AreToldTo paths_in paths_failed before.out after.out (outcome_paths path outcome)
-    pub lines : AreToldTo lines_in lines_failed before.err after.err (outcome_lines round.tells_waiting name (label_text round.plan name) outcome)
+    pub paths : AreToldTo out_lines before.out after.out (outcome_paths path outcome)
+    pub lines : AreToldTo err_lines before.err after.err (outcome_lines round.tells_waiting name (label_text round.plan name) outcome)
     pub rounds : after.rounds ≡ before.rounds
     pub status : took.status ≡ outcome_status outcome
     pub settled : took.settled ≡ settles outcome
@@ -94,7 +95,7 @@ module _ {F M T P L : Type 0} (sees : Views F M T) (paths_in : P → Option (Lis
     pub why : sees.not_listed after.desk.folder None reason
     pub none : sees.listed after.desk.folder ≡ sees.listed before.desk.folder
     pub rest : after ≡ record before { desk = record before.desk { folder = after.desk.folder }; err = after.err }
-    pub lines : AreToldTo lines_in lines_failed before.err after.err (unlisted_lines round.tells_waiting round.from.now reason)
+    pub lines : AreToldTo err_lines before.err after.err (unlisted_lines round.tells_waiting round.from.now reason)
     pub status_is : status ≡ reason_status reason
 
   abbrev pub Takes : Round → List Period → Status → Work F M T P L → Work F M T P L → Type 0

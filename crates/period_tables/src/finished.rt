@@ -36,7 +36,7 @@ pub(crate) fn take_finished<
 ) -> Outcome
     ensures { IsFinishedOutcome
         (views F.listed F.refuses S.seen S.failure O.opens O.sizes
-        O.refuses O.coming E.contents E.failed T.seen)
+        O.refuses O.coming E.lines T.seen)
         period.begins result desk.old desk.new }
 {
     let names = match desk.folder.files(period) {
@@ -94,7 +94,7 @@ fn make_due<
 ) -> Outcome
     ensures outcome { IsDueOutcome
         (views F.listed F.refuses S.seen S.failure O.opens O.sizes
-        O.refuses O.coming E.contents E.failed T.seen)
+        O.refuses O.coming E.lines T.seen)
         period.begins files.now result desk.old desk.new }
     ensures folder { desk.new.folder ≡ desk.old.folder }
 {

@@ -34,8 +34,8 @@ pub fn take_periods<
     periods: &[Period],
 ) -> Status
     ensures { Takes (views F.listed F.refuses S.seen S.failure O.opens O.sizes
-        O.refuses O.coming E.contents E.failed T.seen)
-        P.contents P.failed L.contents L.failed
+        O.refuses O.coming E.lines T.seen)
+        P.lines L.lines
         round.entry periods.now result work.old work.new }
 {
     match work.desk.folder.unfinished() {
@@ -65,8 +65,8 @@ fn take_each<
     periods: &[Period],
 ) -> Status
     ensures { TakesEach (views F.listed F.refuses S.seen S.failure O.opens O.sizes
-        O.refuses O.coming E.contents E.failed T.seen)
-        P.contents P.failed L.contents L.failed
+        O.refuses O.coming E.lines T.seen)
+        P.lines L.lines
         round.entry unfinished.now periods.now result work.old work.new }
 {
     let mut status = Status::Well;
@@ -97,8 +97,8 @@ fn take_next<
     period: Period,
 ) -> Status
     ensures { TakesNext (views F.listed F.refuses S.seen S.failure O.opens O.sizes
-        O.refuses O.coming E.contents E.failed T.seen)
-        P.contents P.failed L.contents L.failed
+        O.refuses O.coming E.lines T.seen)
+        P.lines L.lines
         round.entry unfinished.now period result work.old work.new }
 {
     if work.rounds.has_settled(period) {

@@ -40,7 +40,7 @@ pub fn take_period<
 ) -> Result<Outcome, AllocError>
     ensures ok { IfOk result (λ outcome. IsOutcome
         (views F.listed F.refuses S.seen S.failure O.opens O.sizes
-        O.refuses O.coming E.contents E.failed T.seen)
+        O.refuses O.coming E.lines T.seen)
         rule now unfinished.now period.begins outcome desk.old desk.new) }
     ensures err { OnErr result (desk.new ≡ desk.old) }
 {

@@ -80,8 +80,8 @@ pub(crate) fn take_and_tell<
     period: Period,
 ) -> Took
     ensures { TakesOne (views F.listed F.refuses S.seen S.failure O.opens O.sizes
-        O.refuses O.coming E.contents E.failed T.seen)
-        P.contents P.failed L.contents L.failed
+        O.refuses O.coming E.lines T.seen)
+        P.lines L.lines
         round.entry unfinished.now period result work.old work.new }
 {
     let Ok(name) = period_name(round.alloc, period) else {
@@ -137,7 +137,7 @@ fn tell_taken<E: WriteLines>(
 ) -> Took
     ensures status { result.status ≡ outcome_status outcome.now }
     ensures settled { result.settled ≡ settles outcome.now }
-    ensures told { AreToldTo E.contents E.failed err.old err.new
+    ensures told { AreToldTo E.lines err.old err.new
         (outcome_lines tells period.now table.now outcome.now) }
 {
     Took {

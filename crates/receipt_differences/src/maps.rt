@@ -19,7 +19,7 @@ pub fn write_map_differences<E: WriteLines>(
     said: &[FileReceipt],
     err: &mut E,
 ) -> io::Result<()>
-    ensures { Tells E.contents E.failed err.old err.new result
+    ensures { Tells E.lines err.old err.new result
         (maps_differ (map file_value found.now) (map file_value said.now)) }
 {
     match found {
@@ -35,7 +35,7 @@ pub fn write_map_differences<E: WriteLines>(
 }
 
 fn write_unless_none<E: WriteLines>(said: &[FileReceipt], err: &mut E) -> io::Result<()>
-    ensures { Tells E.contents E.failed err.old err.new result
+    ensures { Tells E.lines err.old err.new result
         (maps_differ [] (map file_value said.now)) }
 {
     match said {
@@ -49,12 +49,13 @@ fn write_map_difference<E: WriteLines>(
     said: &FileReceipt,
     err: &mut E,
 ) -> io::Result<()>
-    ensures { Tells E.contents E.failed err.old err.new result
+    ensures { Tells E.lines err.old err.new result
         (map_differs (file_value found.now) (file_value said.now)) }
 {
     if is_same_file(found, said) {
         Ok(())
     } else {
-        write_named("map", said, ": not that of the receipt\n", err)
+        let name = said.name.as_str();
+        write_named("map", name, ": not that of the receipt\n", err)
     }
 }

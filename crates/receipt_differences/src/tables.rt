@@ -1,11 +1,11 @@
 //! Tables that differ from what their receipts say.
 
-ghost use Rattle.std.specs.Prelude.{◌≡◌, ◌++◌, [], bytes_eq, codes, map, string_bytes};
+ghost use Rattle.std.specs.Prelude.{◌≡◌, [], bytes_eq, map};
 ghost use Rattle.sha2.specs.Sha256.{sha256};
 ghost use Rattle.report_writing.specs.Writing.{Tells};
 ghost use Rattle.table_receipts.specs.Values.{sum_value, table_value};
 ghost use Rattle.receipt_differences.specs.DifferenceLines.{number_differs, number_line};
-ghost use Rattle.receipt_differences.specs.Differences.{rows_differ, sum_differs, sums_differ, table_differs};
+ghost use Rattle.receipt_differences.specs.Differences.{rows_differ, sum_differs, sum_name, sums_differ, table_differs};
 
 use crate::numbers::{write_other, write_other_unless, write_unless_equal, write_unless_same};
 use report_writing::WriteLines;
@@ -19,7 +19,7 @@ pub fn write_table_differences<E: WriteLines>(
     table: &[u8],
     err: &mut E,
 ) -> io::Result<()>
-    ensures { Tells E.contents E.failed err.old err.new result
+    ensures { Tells E.lines err.old err.new result
         (table_differs (table_value said.now) table.now) }
 {
     write_unless_equal("table: octets", table.len() as u64, said.octets, err)?;
@@ -38,7 +38,7 @@ pub fn write_row_differences<E: WriteLines>(
     said: &TableReceipt,
     err: &mut E,
 ) -> io::Result<()>
-    ensures { Tells E.contents E.failed err.old err.new result
+    ensures { Tells E.lines err.old err.new result
         (rows_differ (table_value found.now) (table_value said.now)) }
 {
     write_unless_equal("table: rows", found.rows, said.rows, err)?;
@@ -51,7 +51,7 @@ fn write_sums<E: WriteLines>(
     said: &[CounterSum],
     err: &mut E,
 ) -> io::Result<()>
-    ensures { Tells E.contents E.failed err.old err.new result
+    ensures { Tells E.lines err.old err.new result
         (sums_differ (map sum_value found.now) (map sum_value said.now)) }
 {
     match found {
@@ -67,7 +67,7 @@ fn write_sums<E: WriteLines>(
 }
 
 fn write_unless_empty<E: WriteLines>(said: &[CounterSum], err: &mut E) -> io::Result<()>
-    ensures { Tells E.contents E.failed err.old err.new result
+    ensures { Tells E.lines err.old err.new result
         (sums_differ [] (map sum_value said.now)) }
 {
     match said {
@@ -77,7 +77,7 @@ fn write_unless_empty<E: WriteLines>(said: &[CounterSum], err: &mut E) -> io::Re
 }
 
 fn write_sum<E: WriteLines>(found: &CounterSum, said: &CounterSum, err: &mut E) -> io::Result<()>
-    ensures { Tells E.contents E.failed err.old err.new result
+    ensures { Tells E.lines err.old err.new result
         (sum_differs (sum_value found.now) (sum_value said.now)) }
 {
     if found.name.as_str() == said.name.as_str() {
@@ -94,8 +94,8 @@ fn write_sum_unless_same<E: WriteLines>(
     said: u128,
     err: &mut E,
 ) -> io::Result<()>
-    ensures { Tells E.contents E.failed err.old err.new result
-        (number_differs (codes "table: sum of " ++ name.now) found said) }
+    ensures { Tells E.lines err.old err.new result
+        (number_differs (sum_name name.now) found said) }
 {
     if found == said {
         Ok(())
@@ -111,8 +111,8 @@ fn write_sum_number<E: WriteLines>(
     said: u128,
     err: &mut E,
 ) -> io::Result<()>
-    ensures { Tells E.contents E.failed err.old err.new result
-        (number_line (codes "table: sum of " ++ name.now) found said) }
+    ensures { Tells E.lines err.old err.new result
+        (number_line (sum_name name.now) found said) }
 {
     writeln!(
         err,

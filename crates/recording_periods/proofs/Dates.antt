@@ -1,12 +1,13 @@
 -- Dates, and what is read of their texts.
 use Rattle.std.proofs.Common.{◌≡◌, ℕ, ◌<◌, ◌≤◌, ◌+◌, ◌*◌, ◌/◌, ◌%◌, Option, Some, None, List, get_or, nat_abs, refl, sym, subst, ap, ◌∙◌, arith}
-use Rattle.std.specs.Prelude.{◌≢◌, MatchOption, pos}
+use Rattle.std.specs.Prelude.{pos}
 use Rattle.jiff_core.specs.declared.civil.date.Date.{Date}
 use Rattle.jiff_core.specs.Calendar.{IsDate, IsYear, days_in_month}
 use Rattle.jiff_core.specs.Date.{IsYmd, epoch_day}
 use Rattle.jiff_core.proofs.CalendarLemmas.{days_in_month_bounds}
 use Rattle.jiff_core.proofs.SignedLemmas.{signed_arith}
 use Rattle.recording_names.specs.PeriodNames.{date_text, time_text}
+use Rattle.recording_periods.specs.Digits.{HaveDigits, Reads}
 use Rattle.recording_periods.specs.PeriodFolders.{IsDay, IsPeriodAt, parts_text}
 
 -- two digits are those of one number
@@ -53,6 +54,10 @@ module _ (d : Date) (year : ℕ) (is : d.year ≡ pos year) where
       let day = subst (λ y. (1 ≤ d.day) × (d.day ≤ days_in_month y d.month)) is (d.day_in.0, d.day_in.1) in
       (in_calendar, (omega (arith, signed_arith, month.0), omega (arith, signed_arith, month.1)), (omega (arith, signed_arith, day.0), omega (arith, signed_arith, day.1)))
 
+-- no day has a text of another form
+pub no_day : (text : List ℕ) → ((r : ℕ × ℕ × ℕ) → ¬ (HaveDigits r.0 r.1 r.2 × (text ≡ parts_text r.0 r.1 r.2))) → (days : ℕ) → ¬ IsDay days text
+no_day text none days (d, y, is_y, epoch, its) = none (y, d.month, d.day) ((year_small d y is_y, month_small d y is_y, day_small d y is_y), its ∙ text_is d y is_y)
+
 same_date : (d other : Date) → other.year ≡ d.year → other.month ≡ d.month → other.day ≡ d.day → epoch_day other ≡ epoch_day d
 same_date d other y m n = rw y (rw m (rw n refl))
 
@@ -82,8 +87,7 @@ module _ (text : List ℕ) (year month day : ℕ) (y_small : year < 10_000) (m_s
   is_day date ymd days epoch =
       (date, year, ymd.0, epoch, is ∙ ap (λ (m : ℕ). parts_text year m day) (sym (ap nat_abs ymd.1)) ∙ ap (λ (d : ℕ). parts_text year date.month d) (sym (ap nat_abs ymd.2)) ∙ sym (text_is date year ymd.0))
 
-  pub day_read : (date : Date) → IsYmd (pos year) (pos month) (pos day) date → (r : Option ℕ) → MatchOption r ((days : ℕ) → epoch_day date ≢ pos days) (λ days. epoch_day date ≡ pos days)
-      → MatchOption r ((days : ℕ) → ¬ IsDay days text) (λ days. IsDay days text)
+  pub day_read : (date : Date) → IsYmd (pos year) (pos month) (pos day) date → (r : Option ℕ) → Reads (λ days. epoch_day date ≡ pos days) r → Reads (λ days. IsDay days text) r
   day_read date ymd None other = λ days it. other days (day_of date ymd days it)
   day_read date ymd (Some days) epoch = is_day date ymd days epoch
 

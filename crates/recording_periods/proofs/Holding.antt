@@ -1,5 +1,5 @@
 -- Names of unfinished files, and which periods they hold up.
-use Rattle.std.proofs.Common.{◌≡◌, ℕ, ◌<◌, ◌≤◌, List, [], ◌∷◌, ◌++◌, get_or, drop, suc, decimal, Bool, true, false, leb, MatchBool, refl, sym, ap, subst, ◌∙◌, arith}
+use Rattle.std.proofs.Common.{◌≡◌, ℕ, ◌<◌, ◌≤◌, List, [], ◌∷◌, ◌++◌, get_or, drop, suc, decimal, Bool, true, false, leb, refl, sym, ap, subst, ◌∙◌, arith}
 use Rattle.std.proofs.lemmas.Bool.{leb-true, le-leb}
 use Rattle.std.proofs.lemmas.Fmt.{decimal_injective}
 use Rattle.recording_names.specs.PeriodNames.{calendar_end}
@@ -7,6 +7,7 @@ use Rattle.recording_names.specs.SessionNames.{HasNoHyphen}
 use Rattle.recording_names.specs.UnfinishedNames.{name_of_unfinished}
 use Rattle.recording_names.proofs.Hyphens.{no_hyphen}
 use Rattle.recording_periods.specs.FinishedPeriods.{HoldsUp}
+use Rattle.recording_periods.specs.Whether.{Whether}
 
 -- what stands before the first hyphen is one text
 one_front : (front other back rest : List ℕ) → HasNoHyphen front → HasNoHyphen other → front ++ 45 ∷ back ≡ other ++ 45 ∷ rest → front ≡ other
@@ -30,10 +31,10 @@ only_up_to begins told session name early is h =
     omega (arith, same, h.up_to)
 
 held_by : (begins told : ℕ) (session name : List ℕ) (r : Bool) → told < calendar_end → name ≡ name_of_unfinished told session → (r ≡ true → told ≤ begins) → (told ≤ begins → r ≡ true)
-    → MatchBool r (HoldsUp begins name) (¬ HoldsUp begins name)
+    → Whether r (HoldsUp begins name)
 held_by begins told session name true early is so only = record { period = told; session = session; in_calendar = early; up_to = so refl; named = is }
 held_by begins told session name false early is so only = λ h. let wrong : false ≡ true = only (only_up_to begins told session name early is h) in absurd cc
 
 -- by the beginning that a name tells
-pub held_or_not : (begins told : ℕ) (session name : List ℕ) → told < calendar_end → name ≡ name_of_unfinished told session → MatchBool (leb told begins) (HoldsUp begins name) (¬ HoldsUp begins name)
+pub held_or_not : (begins told : ℕ) (session name : List ℕ) → told < calendar_end → name ≡ name_of_unfinished told session → Whether (leb told begins) (HoldsUp begins name)
 held_or_not begins told session name early is = held_by begins told session name (leb told begins) early is (leb-true told begins) (le-leb told begins)

@@ -18,7 +18,7 @@ module _ (files paths : List (String Global)) where
       (λ name late named. some_or_all (λ (path : String Global). IsPathTo (string_bytes name) (string_bytes path)) (λ (path : String Global). ¬ IsPathTo (string_bytes name) (string_bytes path)) paths (λ path is isnt. isnt is) named late) due.1 up.1
 
   pub not_if_gone : (path : Bor (List ℕ)) → IsTableState files (Some paths) (Gone path) → IsTableState files (Some paths) UpToDate → ⊥
-  not_if_gone path gone up = no_first (λ one. IsListed files (string_bytes one)) (λ one. IsGone files (string_bytes one)) paths path.now
+  not_if_gone path gone up = no_first (IsListed files) (IsGone files) paths path.now
       (λ one is listed. some_or_all (λ (name : String Global). IsPathTo (string_bytes name) (string_bytes one)) (λ (name : String Global). ¬ IsPathTo (string_bytes name) (string_bytes one)) files (λ name is_path isnt. isnt is_path) listed is) gone up.0
 
 pub not_if_it_waits : (rule : PeriodRule) (now : ℕ) (unfinished : List (String Global)) (begins : ℕ) (state : PeriodState) → state ≢ Finished → IsPeriodState rule now unfinished begins state → IsFinished rule now unfinished begins → ⊥

@@ -1,10 +1,11 @@
 -- Paths to files of a name.
-use Rattle.std.proofs.Common.{◌≡◌, ℕ, ◌-◌, Bool, true, false, List, [], ◌∷◌, ◌++◌, length, take, drop, eqb, refl, sym, ap, ◌∙◌, append_assoc, length-append, take-append-drop, MatchBool, rules, arith}
+use Rattle.std.proofs.Common.{◌≡◌, ℕ, ◌-◌, Bool, true, false, List, [], ◌∷◌, ◌++◌, length, take, drop, eqb, refl, sym, ap, ◌∙◌, append_assoc, length-append, take-append-drop, rules, arith}
 use Rattle.std.specs.Prelude.{◌≢◌}
-use Rattle.std.specs.Bool.{Decides}
+use Rattle.std.specs.Bool.{Decides, OnFalse, OnTrue}
 use Rattle.std.specs.Cmp.Lexicographic.{pointwise}
 use Rattle.std.proofs.lemmas.Slice.Eq.{slice_eq-Decides}
 use Rattle.recording_periods.specs.TableStates.{IsPathTo}
+use Rattle.recording_periods.specs.Whether.{Whether}
 
 number-Decides : (a b : ℕ) → Decides (eqb a b) (a ≡ b)
 number-Decides a b = search rules
@@ -44,9 +45,9 @@ module _ (name path : List ℕ) where
 
   -- a slash before the name
   pub slash_tells : (folder : List ℕ) (r : Bool) → folder ≡ take (length path - length name) path → pointwise eqb (drop (length path - length name) path) name ≡ true
-      → MatchBool r ((front : List ℕ) × (folder ≡ front ++ 47 ∷ [])) ((front : List ℕ) → folder ≢ front ++ 47 ∷ []) → MatchBool r (IsPathTo name path) (¬ IsPathTo name path)
-  slash_tells folder true is same ends = path_is folder ends.0 is same ends.1
-  slash_tells folder false is same ends = λ to. ends to.0 (is ∙ folder_ends to.0 to.1)
+      → OnTrue r ((front : List ℕ) × (folder ≡ front ++ 47 ∷ [])) → OnFalse r ((front : List ℕ) → folder ≢ front ++ 47 ∷ []) → Whether r (IsPathTo name path)
+  slash_tells folder true is same ends other = path_is folder ends.0 is same ends.1
+  slash_tells folder false is same ends other = λ to. other to.0 (is ∙ folder_ends to.0 to.1)
 
   pub no_name : pointwise eqb (drop (length path - length name) path) name ≡ false → ¬ IsPathTo name path
   no_name other to = let wrong : true ≡ false = sym (name_ends to.0 to.1) ∙ other in absurd cc

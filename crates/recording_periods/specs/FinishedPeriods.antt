@@ -21,10 +21,14 @@ pub record HoldsUp (begins : ℕ) (name : List ℕ) : Type 0 where
   pub up_to : period ≤ begins
   pub named : name ≡ name_of_unfinished period session
 
+-- none of these names holds it up
+abbrev pub NoneHoldsUp : ℕ → List (String Global) → Type 0
+NoneHoldsUp begins unfinished = All (λ name. ¬ HoldsUp begins (string_bytes name)) unfinished
+
 -- its end and the grace are over, and no unfinished file is of it or of a period before it
 pub record IsFinished (rule : PeriodRule) (now : ℕ) (unfinished : List (String Global)) (begins : ℕ) : Type 0 where
   pub over : IsOver rule now begins
-  pub free : All (λ name. ¬ HoldsUp begins (string_bytes name)) unfinished
+  pub free : NoneHoldsUp begins unfinished
 
 -- the first of these names that holds it up
 abbrev pub IsFirstToHold : ℕ → List (String Global) → List ℕ → Type 0

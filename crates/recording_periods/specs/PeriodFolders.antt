@@ -1,8 +1,8 @@
 -- The folders of periods, by the names of a day's folder and of a folder in it.
-use Rattle.std.specs.Prelude.{◌≡◌, ℕ, ◌/◌, ◌%◌, List, ◌++◌, codes, pos}
+use Rattle.std.specs.Prelude.{◌≡◌, ◌<◌, ℕ, ◌/◌, ◌%◌, List, ◌++◌, codes, pos}
 use Rattle.jiff_core.specs.declared.civil.date.Date.{Date}
 use Rattle.jiff_core.specs.Date.{epoch_day}
-use Rattle.recording_names.specs.PeriodNames.{date_text, time_text, two_digits}
+use Rattle.recording_names.specs.PeriodNames.{calendar_end, date_text, time_text, two_digits}
 
 -- a year of four digits, a month and a day of two
 abbrev pub parts_text : ℕ → ℕ → ℕ → List ℕ
@@ -15,3 +15,7 @@ IsDay days text = (d : Date) × (year : ℕ) × (d.year ≡ pos year) × (epoch_
 -- the two names are those of the period that begins at a second since 1970: its date, and its time of day in UTC
 abbrev pub IsPeriodAt : ℕ → List ℕ → List ℕ → Type 0
 IsPeriodAt begins day time = IsDay (begins / 86_400) day × (time ≡ time_text (begins % 86_400))
+
+-- they are those of no period
+abbrev pub HasNoPeriod : List ℕ → List ℕ → Type 0
+HasNoPeriod day time = (begins : ℕ) → begins < calendar_end → ¬ IsPeriodAt begins day time

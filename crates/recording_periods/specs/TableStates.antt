@@ -11,15 +11,15 @@ abbrev pub IsPathTo : List ℕ → List ℕ → Type 0
 IsPathTo name path = (folder : List ℕ) × (path ≡ folder ++ (codes "/" ++ name))
 
 -- a path of a receipt is to one of these files, or its file is gone
-abbrev pub IsListed : List (String Global) → List ℕ → Type 0
-IsListed files path = Any (λ name. IsPathTo (string_bytes name) path) files
+abbrev pub IsListed : List (String Global) → String Global → Type 0
+IsListed files path = Any (λ name. IsPathTo (string_bytes name) (string_bytes path)) files
 
-abbrev pub IsGone : List (String Global) → List ℕ → Type 0
-IsGone files path = All (λ name. ¬ IsPathTo (string_bytes name) path) files
+abbrev pub IsGone : List (String Global) → String Global → Type 0
+IsGone files path = All (λ name. ¬ IsPathTo (string_bytes name) (string_bytes path)) files
 
 -- the first of these paths whose file is gone
 abbrev pub IsFirstGone : List (String Global) → List (String Global) → List ℕ → Type 0
-IsFirstGone files = IsFirst (λ path. IsListed files (string_bytes path)) (λ path. IsGone files (string_bytes path))
+IsFirstGone files = IsFirst (IsListed files) (IsGone files)
 
 -- a file is one of those that a receipt names, or it came later
 abbrev pub IsNamed : List (String Global) → String Global → Type 0
@@ -34,6 +34,6 @@ abbrev pub IsTableState : List (String Global) → Option (List (String Global))
 IsTableState files None Due = files ≢ []
 IsTableState files None UpToDate = files ≡ []
 IsTableState files None (Gone path) = ⊥
-IsTableState files (Some paths) Due = All (λ path. IsListed files (string_bytes path)) paths × Any (IsLate paths) files
-IsTableState files (Some paths) UpToDate = All (λ path. IsListed files (string_bytes path)) paths × All (IsNamed paths) files
+IsTableState files (Some paths) Due = All (IsListed files) paths × Any (IsLate paths) files
+IsTableState files (Some paths) UpToDate = All (IsListed files) paths × All (IsNamed paths) files
 IsTableState files (Some paths) (Gone path) = IsFirstGone files paths path.now

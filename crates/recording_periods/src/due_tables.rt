@@ -1,8 +1,10 @@
 //! When the table of a finished period is due.
 
-ghost use Rattle.std.specs.Prelude.{◌≡◌, ◌≢◌, ◌++◌, ℕ, List, All, Any, MatchBool, MatchOption, codes, string_bytes};
+ghost use Rattle.std.specs.Prelude.{◌≡◌, ◌≢◌, ◌++◌, ℕ, List, All, Any, IfNone, IfSome, MatchBool, codes};
+ghost use Rattle.std.specs.Bool.{OnFalse, OnTrue};
 ghost use Rattle.std.specs.Option.{option_map};
 ghost use Rattle.recording_periods.specs.TableStates.{IsFirstGone, IsGone, IsLate, IsListed, IsNamed, IsPathTo, IsTableState};
+ghost use Rattle.recording_periods.specs.Whether.{Whether};
 
 /// Whether a table is to be made.
 #[derive(Clone, Copy, Debug)]
@@ -39,8 +41,8 @@ pub fn table_state<'p>(files: &[String], receipt: Option<&'p [String]>) -> Table
 
 // The first path whose file is gone.
 fn first_gone<'p>(files: &[String], paths: &'p [String]) -> Option<&'p str>
-    ensures { MatchOption result (All (λ path. IsListed files.now (string_bytes path)) paths.now)
-        (λ path. IsFirstGone files.now paths.now path.now) }
+    ensures none { IfNone result (All (IsListed files.now) paths.now) }
+    ensures first { IfSome result (λ path. IsFirstGone files.now paths.now path.now) }
 {
     let mut left = paths;
     while let Some((path, rest)) = left.split_first() {
@@ -53,8 +55,7 @@ fn first_gone<'p>(files: &[String], paths: &'p [String]) -> Option<&'p str>
 }
 
 fn is_listed(files: &[String], path: &String) -> bool
-    ensures { MatchBool result (IsListed files.now (string_bytes path.now))
-        (IsGone files.now (string_bytes path.now)) }
+    ensures { MatchBool result (IsListed files.now path.now) (IsGone files.now path.now) }
 {
     let mut left = files;
     while let Some((name, rest)) = left.split_first() {
@@ -94,7 +95,7 @@ fn is_named(paths: &[String], name: &String) -> bool
 }
 
 fn is_path_to(name: &str, path: &str) -> bool
-    ensures { MatchBool result (IsPathTo name.now path.now) (¬ IsPathTo name.now path.now) }
+    ensures { Whether result (IsPathTo name.now path.now) }
 {
     match path.as_bytes().strip_suffix(name.as_bytes()) {
         Some(folder) => ends_with_slash(folder),
@@ -103,8 +104,8 @@ fn is_path_to(name: &str, path: &str) -> bool
 }
 
 fn ends_with_slash(folder: &[u8]) -> bool
-    ensures { MatchBool result ((front : List ℕ) × (folder.now ≡ front ++ codes "/"))
-        ((front : List ℕ) → folder.now ≢ front ++ codes "/") }
+    ensures yes { OnTrue result ((front : List ℕ) × (folder.now ≡ front ++ codes "/")) }
+    ensures no { OnFalse result ((front : List ℕ) → folder.now ≢ front ++ codes "/") }
 {
     match folder {
         [.., last] => *last == b'/',

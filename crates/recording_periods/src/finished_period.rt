@@ -1,7 +1,8 @@
 //! When a period is finished.
 
-ghost use Rattle.std.specs.Prelude.{All, MatchBool, MatchOption, string_bytes};
-ghost use Rattle.recording_periods.specs.FinishedPeriods.{HoldsUp, IsFirstToHold, IsPeriodState};
+ghost use Rattle.std.specs.Prelude.{IfNone, IfSome};
+ghost use Rattle.recording_periods.specs.FinishedPeriods.{HoldsUp, IsFirstToHold, IsPeriodState, NoneHoldsUp};
+ghost use Rattle.recording_periods.specs.Whether.{Whether};
 
 use recording_names::{Period, read_unfinished_name};
 
@@ -43,9 +44,8 @@ pub fn period_state<'n>(
 
 // The first name that holds a period up.
 fn first_holding<'n>(unfinished: &'n [String], period: Period) -> Option<&'n str>
-    ensures { MatchOption result
-        (All (λ name. ¬ HoldsUp period.begins (string_bytes name)) unfinished.now)
-        (λ name. IsFirstToHold period.begins unfinished.now name.now) }
+    ensures none { IfNone result (NoneHoldsUp period.begins unfinished.now) }
+    ensures first { IfSome result (λ name. IsFirstToHold period.begins unfinished.now name.now) }
 {
     let mut left = unfinished;
     while let Some((name, rest)) = left.split_first() {
@@ -59,7 +59,7 @@ fn first_holding<'n>(unfinished: &'n [String], period: Period) -> Option<&'n str
 }
 
 fn holds_up(name: &str, period: Period) -> bool
-    ensures { MatchBool result (HoldsUp period.begins name.now) (¬ HoldsUp period.begins name.now) }
+    ensures { Whether result (HoldsUp period.begins name.now) }
 {
     match read_unfinished_name(name) {
         Some(told) => told.period.begins <= period.begins,

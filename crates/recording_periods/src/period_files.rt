@@ -1,7 +1,9 @@
 //! The finished files of a period.
 
-ghost use Rattle.std.specs.Prelude.{IfOk, MatchBool};
-ghost use Rattle.recording_periods.specs.PeriodFiles.{AreFilesOf, AreFinishedOf, IsFinishedName};
+ghost use Rattle.std.specs.Prelude.{IfOk};
+ghost use Rattle.recording_names.specs.FinishedNames.{IsFinishedName};
+ghost use Rattle.recording_periods.specs.PeriodFiles.{AreFilesOf, AreFinishedOf};
+ghost use Rattle.recording_periods.specs.Whether.{Whether};
 
 use recording_names::{SessionName, read_finished_name};
 use std::alloc::{AllocError, Global};
@@ -32,7 +34,7 @@ fn finished_among(alloc: Global, names: Vec<String>) -> Result<Vec<String>, Allo
 
 /// Whether a name is that of a finished file.
 pub(crate) fn is_finished_name(name: &str) -> bool
-    ensures { MatchBool result (IsFinishedName name.now) (¬ IsFinishedName name.now) }
+    ensures { Whether result (IsFinishedName name.now) }
 {
     match read_finished_name(name) {
         Some(told) => {

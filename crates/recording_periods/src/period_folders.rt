@@ -1,10 +1,11 @@
 //! The folders of periods, by their names.
 
-ghost use Rattle.std.specs.Prelude.{◌≡◌, ◌≢◌, ◌<◌, ◌++◌, ◌∷◌, ◌/◌, ◌%◌, ℕ, ⊤, List, [], codes, pos, MatchOption};
+ghost use Rattle.std.specs.Prelude.{◌≡◌, ◌<◌, ⊤, [], codes, pos, IfNone, IfSome, MatchOption};
 ghost use Rattle.jiff_core.specs.Calendar.{IsDate};
 ghost use Rattle.jiff_core.specs.Date.{IsYmd, epoch_day};
-ghost use Rattle.recording_names.specs.PeriodNames.{calendar_end, time_text, two_digits};
-ghost use Rattle.recording_periods.specs.PeriodFolders.{IsDay, IsPeriodAt, parts_text};
+ghost use Rattle.recording_names.specs.PeriodNames.{time_text};
+ghost use Rattle.recording_periods.specs.Digits.{HaveDigits, Reads, ReadsPair};
+ghost use Rattle.recording_periods.specs.PeriodFolders.{HasNoPeriod, IsDay, IsPeriodAt, parts_text};
 
 use jiff_core::civil::Date;
 use recording_names::Period;
@@ -13,9 +14,8 @@ const SECONDS_OF_A_DAY: u64 = 86_400;
 
 /// The period whose folder has these names: `YYYY-MM-DD`, and `HHMMSS` in it.
 pub fn read_period_at(day: &str, time: &str) -> Option<Period>
-    ensures { MatchOption result
-        ((begins : ℕ) → begins < calendar_end → ¬ IsPeriodAt begins day.now time.now)
-        (λ period. IsPeriodAt period.begins day.now time.now) }
+    ensures none { IfNone result (HasNoPeriod day.now time.now) }
+    ensures read { IfSome result (λ period. IsPeriodAt period.begins day.now time.now) }
 {
     let days = read_day(day.as_bytes())?;
     let second = read_time(time.as_bytes())?;
@@ -26,7 +26,7 @@ pub fn read_period_at(day: &str, time: &str) -> Option<Period>
 
 // The day of a date, counted from 1970-01-01.
 fn read_day(octets: &[u8]) -> Option<u32>
-    ensures day { MatchOption result ((days : ℕ) → ¬ IsDay days octets.now) (λ days. IsDay days octets.now) }
+    ensures day { Reads (λ days. IsDay days octets.now) result }
     ensures bound { MatchOption result ⊤ (λ days. days < 2_932_897) }
 {
     let (year, month, day) = date_parts(octets)?;
@@ -36,11 +36,9 @@ fn read_day(octets: &[u8]) -> Option<u32>
 
 // The date with these parts, if the calendar has it.
 fn date_at(year: u16, month: u8, day: u8) -> Option<Date>
-    requires year { year < 10_000 }
-    requires month { month < 100 }
-    requires day { day < 100 }
-    ensures { MatchOption result (¬ IsDate (pos year) (pos month) (pos day))
-        (IsYmd (pos year) (pos month) (pos day)) }
+    requires { HaveDigits year month day }
+    ensures none { IfNone result (¬ IsDate (pos year) (pos month) (pos day)) }
+    ensures date { IfSome result (IsYmd (pos year) (pos month) (pos day)) }
 {
     match Date::new(year as i16, month as i8, day as i8) {
         Ok(date) => Some(date),
@@ -50,8 +48,7 @@ fn date_at(year: u16, month: u8, day: u8) -> Option<Date>
 
 // The day of a date, if it isn't before 1970-01-01.
 fn days_of(date: Date) -> Option<u32>
-    ensures day { MatchOption result ((days : ℕ) → epoch_day date ≢ pos days)
-        (λ days. epoch_day date ≡ pos days) }
+    ensures day { Reads (λ days. epoch_day date ≡ pos days) result }
     ensures bound { MatchOption result ⊤ (λ days. days < 2_932_897) }
 {
     let days = date.to_unix_epoch_day();
@@ -60,10 +57,7 @@ fn days_of(date: Date) -> Option<u32>
 
 // The year, the month and the day of a text with the form of a date.
 fn date_parts(octets: &[u8]) -> Option<(u16, u8, u8)>
-    ensures { MatchOption result
-        ((year month day : ℕ) → year < 10_000 → month < 100 → day < 100
-        → octets.now ≢ parts_text year month day)
-        (λ r. (r.0 < 10_000) × (r.1 < 100) × (r.2 < 100) × (octets.now ≡ parts_text r.0 r.1 r.2)) }
+    ensures { Reads (λ r. HaveDigits r.0 r.1 r.2 × (octets.now ≡ parts_text r.0 r.1 r.2)) result }
 {
     let (century, rest) = take_pair(octets)?;
     let (year, rest) = take_pair(rest)?;
@@ -78,9 +72,7 @@ fn date_parts(octets: &[u8]) -> Option<(u16, u8, u8)>
 
 // The second of the day of a time.
 fn read_time(octets: &[u8]) -> Option<u32>
-    ensures { MatchOption result
-        ((second : ℕ) → second < 86_400 → octets.now ≢ time_text second)
-        (λ second. (second < 86_400) × (octets.now ≡ time_text second)) }
+    ensures { Reads (λ second. (second < 86_400) × (octets.now ≡ time_text second)) result }
 {
     let (hour, rest) = take_pair(octets)?;
     let (minute, rest) = take_pair(rest)?;
@@ -94,10 +86,7 @@ fn read_time(octets: &[u8]) -> Option<u32>
 
 // What a hyphen and two digits at the front are, and what follows.
 fn take_hyphened(octets: &[u8]) -> Option<(u8, &[u8])>
-    ensures { MatchOption result
-        ((number : ℕ) (rest : List ℕ) → number < 100
-        → octets.now ≢ codes "-" ++ two_digits number ++ rest)
-        (λ r. (r.0 < 100) × (octets.now ≡ codes "-" ++ two_digits r.0 ++ r.1.now)) }
+    ensures { ReadsPair (codes "-") octets.now result }
 {
     match octets {
         [b'-', rest @ ..] => take_pair(rest),
@@ -107,9 +96,7 @@ fn take_hyphened(octets: &[u8]) -> Option<(u8, &[u8])>
 
 // What two digits at the front are, and what follows.
 fn take_pair(octets: &[u8]) -> Option<(u8, &[u8])>
-    ensures { MatchOption result
-        ((number : ℕ) (rest : List ℕ) → number < 100 → octets.now ≢ two_digits number ++ rest)
-        (λ r. (r.0 < 100) × (octets.now ≡ two_digits r.0 ++ r.1.now)) }
+    ensures { ReadsPair [] octets.now result }
 {
     let [tens, units, rest @ ..] = octets else {
         return None;

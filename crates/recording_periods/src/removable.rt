@@ -1,10 +1,11 @@
 //! When the recordings of a period may be removed.
 
-ghost use Rattle.std.specs.Prelude.{◌≤◌, ◌+◌, All, MatchBool, Some, string_bytes};
+ghost use Rattle.std.specs.Prelude.{◌≤◌, ◌+◌, All, Some, string_bytes};
 ghost use Rattle.recording_periods.specs.FinishedPeriods.{IsFinished};
-ghost use Rattle.recording_periods.specs.PeriodFiles.{IsFinishedName};
+ghost use Rattle.recording_names.specs.FinishedNames.{IsFinishedName};
 ghost use Rattle.recording_periods.specs.Removable.{HasTableOf, IsRemovable};
 ghost use Rattle.recording_periods.specs.TableStates.{IsTableState};
+ghost use Rattle.recording_periods.specs.Whether.{Whether};
 
 use crate::due_tables::{TableState, table_state};
 use crate::finished_period::{PeriodRule, PeriodState, period_state};
@@ -23,9 +24,7 @@ pub fn may_remove(
     names: &[String],
     receipts: &[Option<Vec<String>>],
 ) -> bool
-    ensures { MatchBool result
-        (IsRemovable rule keep now unfinished.now period.begins names.now receipts.now)
-        (¬ IsRemovable rule keep now unfinished.now period.begins names.now receipts.now) }
+    ensures { Whether result (IsRemovable rule keep now unfinished.now period names.now receipts.now) }
 {
     is_old(keep, now, period)
         && is_finished(rule, now, unfinished, period)
@@ -36,14 +35,13 @@ pub fn may_remove(
 
 /// Whether a period began so many seconds ago, or more.
 pub fn is_old(keep: u64, now: u64, period: Period) -> bool
-    ensures { MatchBool result (period.begins + keep ≤ now) (¬ (period.begins + keep ≤ now)) }
+    ensures { Whether result (period.begins + keep ≤ now) }
 {
     u128::from(period.begins) + u128::from(keep) <= u128::from(now)
 }
 
 fn is_finished(rule: PeriodRule, now: u64, unfinished: &[String], period: Period) -> bool
-    ensures { MatchBool result (IsFinished rule now unfinished.now period.begins)
-        (¬ IsFinished rule now unfinished.now period.begins) }
+    ensures { Whether result (IsFinished rule now unfinished.now period.begins) }
 {
     matches!(
         period_state(rule, now, unfinished, period),
@@ -52,8 +50,7 @@ fn is_finished(rule: PeriodRule, now: u64, unfinished: &[String], period: Period
 }
 
 fn are_finished_names(names: &[String]) -> bool
-    ensures { MatchBool result (All (λ name. IsFinishedName (string_bytes name)) names.now)
-        (¬ All (λ name. IsFinishedName (string_bytes name)) names.now) }
+    ensures { Whether result (All (λ name. IsFinishedName (string_bytes name)) names.now) }
 {
     let mut left = names;
     while let Some((name, rest)) = left.split_first() {
@@ -67,8 +64,7 @@ fn are_finished_names(names: &[String]) -> bool
 
 // Whether each of these receipts is there, and is that of a table of exactly these files.
 fn are_tables_of(files: &[String], receipts: &[Option<Vec<String>>]) -> bool
-    ensures { MatchBool result (All (HasTableOf files.now) receipts.now)
-        (¬ All (HasTableOf files.now) receipts.now) }
+    ensures { Whether result (All (HasTableOf files.now) receipts.now) }
 {
     let mut left = receipts;
     while let Some((receipt, rest)) = left.split_first() {
@@ -81,7 +77,7 @@ fn are_tables_of(files: &[String], receipts: &[Option<Vec<String>>]) -> bool
 }
 
 fn is_table_of(files: &[String], receipt: &Option<Vec<String>>) -> bool
-    ensures { MatchBool result (HasTableOf files.now receipt.now) (¬ HasTableOf files.now receipt.now) }
+    ensures { Whether result (HasTableOf files.now receipt.now) }
 {
     match receipt {
         Some(paths) => are_exactly(files, paths),
@@ -91,8 +87,7 @@ fn is_table_of(files: &[String], receipt: &Option<Vec<String>>) -> bool
 
 // Whether these files are exactly those of these paths.
 fn are_exactly(files: &[String], paths: &[String]) -> bool
-    ensures { MatchBool result (IsTableState files.now (Some paths.now) TableState.UpToDate)
-        (¬ IsTableState files.now (Some paths.now) TableState.UpToDate) }
+    ensures { Whether result (IsTableState files.now (Some paths.now) TableState.UpToDate) }
 {
     match table_state(files, Some(paths)) {
         TableState::UpToDate => true,

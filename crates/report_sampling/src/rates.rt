@@ -1,9 +1,7 @@
 //! The lines of how many records have which rate.
 
 ghost use Rattle.std.specs.Prelude.{◌≡◌, false};
-ghost use Rattle.std.specs.List.{flat_map};
-ghost use Rattle.report_sampling.specs.SamplingLines.{count_text, rate_line, sampled_text, sampling_lines, sampling_told, session_sampling, unrated_text};
-ghost use Rattle.report_sessions.specs.ToldLines.{origin_of};
+ghost use Rattle.report_sampling.specs.SamplingLines.{rate_line, rate_lines, rate_text, sampled_text, sampling_at, sampling_lines, sampling_told, unrated_text};
 ghost use Rattle.report_writing.specs.Writing.{Tells};
 
 use exporter_options::Rate;
@@ -22,7 +20,7 @@ pub fn write_sampling<W: WriteLines>(
     reports: &[SamplingReport],
     out: &mut W,
 ) -> io::Result<()>
-    ensures told { Tells W.contents W.failed out.old out.new result
+    ensures told { Tells W.lines out.old out.new result
         (sampling_told verbosity origins.now reports.now) }
     // Without these options nothing is written.
     ensures plain { verbosity.verbose ≡ false → verbosity.strict ≡ false → out.new ≡ out.old }
@@ -39,7 +37,7 @@ fn write_sessions<W: WriteLines>(
     reports: &[SamplingReport],
     out: &mut W,
 ) -> io::Result<()>
-    ensures { Tells W.contents W.failed out.old out.new result
+    ensures { Tells W.lines out.old out.new result
         (sampling_lines origins.now reports.now) }
 {
     for (index, report) in reports.iter().enumerate() {
@@ -55,8 +53,8 @@ fn write_numbered<W: WriteLines>(
     report: &SamplingReport,
     out: &mut W,
 ) -> io::Result<()>
-    ensures { Tells W.contents W.failed out.old out.new result
-        (session_sampling session (origin_of origins.now session) report.now) }
+    ensures { Tells W.lines out.old out.new result
+        (sampling_at origins.now session report.now) }
 {
     match origins.get(session.saturating_sub(1)) {
         Some(origin) => write_rates(session, origin, &report.rates, out),
@@ -70,8 +68,8 @@ fn write_rates<W: WriteLines>(
     counts: &VecDeque<RateCount>,
     out: &mut W,
 ) -> io::Result<()>
-    ensures { Tells W.contents W.failed out.old out.new result
-        (flat_map (rate_line session origin.now) counts.now.items) }
+    ensures { Tells W.lines out.old out.new result
+        (rate_lines session origin.now counts.now.items) }
 {
     for index in 0..counts.len() {
         write_rate(session, origin, &counts[index], out)?;
@@ -85,7 +83,7 @@ fn write_rate<W: WriteLines>(
     count: &RateCount,
     out: &mut W,
 ) -> io::Result<()>
-    ensures { Tells W.contents W.failed out.old out.new result
+    ensures { Tells W.lines out.old out.new result
         (rate_line session origin.now count.now) }
 {
     write_session_start(session, origin, out)?;
@@ -93,8 +91,7 @@ fn write_rate<W: WriteLines>(
 }
 
 fn write_count<W: WriteLines>(count: &RateCount, out: &mut W) -> io::Result<()>
-    ensures { Tells W.contents W.failed out.old out.new result
-        (count_text count.now.domain count.now.rate count.now.records) }
+    ensures { Tells W.lines out.old out.new result (rate_text count.now) }
 {
     match count.rate {
         Some(rate) => write_sampled(count.domain, rate, count.records, out),
@@ -109,7 +106,7 @@ fn write_sampled<W: WriteLines>(
     records: u64,
     out: &mut W,
 ) -> io::Result<()>
-    ensures { Tells W.contents W.failed out.old out.new result
+    ensures { Tells W.lines out.old out.new result
         (sampled_text domain rate records) }
 {
     let Rate {
@@ -124,7 +121,7 @@ fn write_sampled<W: WriteLines>(
 
 #[tactic(auto, unfolding(crate::specs::SamplingLines::unrated_text))]
 fn write_unrated<W: WriteLines>(domain: u32, records: u64, out: &mut W) -> io::Result<()>
-    ensures { Tells W.contents W.failed out.old out.new result (unrated_text domain records) }
+    ensures { Tells W.lines out.old out.new result (unrated_text domain records) }
 {
     writeln!(out, ": domain {domain}: unrated (records {records})")
 }

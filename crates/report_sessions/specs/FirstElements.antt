@@ -29,5 +29,5 @@ pub record KeepsFirst (v : ElementsView) (all coming : List ElementId) : Type 0 
   pub many : v.more ≡ true → (64 < length (each_once all)) × (v.first ≡ take 64 (each_once all))
 
 -- these elements came next: the first ones are kept of all, whatever still comes after them
-abbrev pub Adds : ElementsView → ElementsView → List ElementId → Type 0
-Adds old new elements = (all coming : List ElementId) → KeepsFirst old all (elements ++ coming) → KeepsFirst new all coming
+abbrev pub Takes : ElementsView → ElementsView → List ElementId → Type 0
+Takes old new elements = (all coming : List ElementId) → KeepsFirst old all (elements ++ coming) → KeepsFirst new all coming

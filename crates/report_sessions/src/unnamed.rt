@@ -3,7 +3,7 @@
 ghost use Rattle.std.specs.Prelude.{◌≡◌, length, nat_lt, take};
 ghost use Rattle.std.specs.BTreeMap.{values};
 ghost use Rattle.std.specs.List.{flat_map};
-ghost use Rattle.report_sessions.specs.FirstElements.{Adds, with_unnamed};
+ghost use Rattle.report_sessions.specs.FirstElements.{Takes, with_unnamed};
 ghost use Rattle.report_sessions.specs.UnnamedElements.{count_text, element_text, elements_line, number_shown, over_text, templates_in, templates_of, unnamed_of, unnamed_elements, unnamed_in, unnamed_told};
 ghost use Rattle.report_writing.specs.Writing.{Tells};
 
@@ -26,7 +26,7 @@ pub fn write_unnamed<W: WriteLines>(
     full: &FullReport,
     out: &mut W,
 ) -> io::Result<()>
-    ensures { Tells W.contents W.failed out.old out.new result
+    ensures { Tells W.lines out.old out.new result
         (unnamed_told verbosity elements.now session origin.now full.now) }
 {
     if verbosity.verbose {
@@ -57,7 +57,7 @@ fn add_of_domains(
     reports: &[DomainReport],
     kept: &mut FirstElements,
 )
-    ensures { Adds kept.old kept.new
+    ensures { Takes kept.old kept.new
         (unnamed_of elements.now (templates_in domains.now reports.now)) }
 {
     for report in reports {
@@ -67,7 +67,7 @@ fn add_of_domains(
 
 // Those of the templates of a domain.
 fn add_of_domain(elements: &Elements, domains: &Domains, domain: u32, kept: &mut FirstElements)
-    ensures { Adds kept.old kept.new
+    ensures { Takes kept.old kept.new
         (unnamed_of elements.now (templates_of domains.now domain)) }
 {
     if let Some(templates) = domains.templates(domain) {
@@ -77,7 +77,7 @@ fn add_of_domain(elements: &Elements, domains: &Domains, domain: u32, kept: &mut
 
 // Those of some templates, by their ids.
 fn add_of_templates(elements: &Elements, templates: &Templates, kept: &mut FirstElements)
-    ensures { Adds kept.old kept.new (unnamed_of elements.now (values templates.now)) }
+    ensures { Takes kept.old kept.new (unnamed_of elements.now (values templates.now)) }
 {
     for known in templates.values() {
         add_of_template(elements, known.template(), kept);
@@ -86,7 +86,7 @@ fn add_of_templates(elements: &Elements, templates: &Templates, kept: &mut First
 
 // Those of the fields of a template.
 fn add_of_template(elements: &Elements, template: &Template, kept: &mut FirstElements)
-    ensures { Adds kept.old kept.new (unnamed_in elements.now template.now) }
+    ensures { Takes kept.old kept.new (unnamed_in elements.now template.now) }
 {
     let specs = template.specs.as_slice();
     for spec in specs {
@@ -108,7 +108,7 @@ fn write_elements_line<W: WriteLines>(
     kept: &FirstElements,
     out: &mut W,
 ) -> io::Result<()>
-    ensures { Tells W.contents W.failed out.old out.new result
+    ensures { Tells W.lines out.old out.new result
         (elements_line session origin.now kept.now) }
 {
     let first = kept.as_slice();
@@ -122,7 +122,7 @@ fn write_elements_line<W: WriteLines>(
 }
 
 fn write_number<W: WriteLines>(count: usize, has_more: bool, out: &mut W) -> io::Result<()>
-    ensures { Tells W.contents W.failed out.old out.new result (number_shown count has_more) }
+    ensures { Tells W.lines out.old out.new result (number_shown count has_more) }
 {
     if has_more {
         write_over(out)
@@ -133,20 +133,20 @@ fn write_number<W: WriteLines>(count: usize, has_more: bool, out: &mut W) -> io:
 
 #[tactic(auto, unfolding(crate::specs::UnnamedElements::over_text))]
 fn write_over<W: WriteLines>(out: &mut W) -> io::Result<()>
-    ensures { Tells W.contents W.failed out.old out.new result over_text }
+    ensures { Tells W.lines out.old out.new result over_text }
 {
     write!(out, ": elements without a name over 64:")
 }
 
 #[tactic(auto, unfolding(crate::specs::UnnamedElements::count_text))]
 fn write_count<W: WriteLines>(count: usize, out: &mut W) -> io::Result<()>
-    ensures { Tells W.contents W.failed out.old out.new result (count_text count) }
+    ensures { Tells W.lines out.old out.new result (count_text count) }
 {
     write!(out, ": elements without a name {count}:")
 }
 
 fn write_elements<W: WriteLines>(elements: &[ElementId], out: &mut W) -> io::Result<()>
-    ensures { Tells W.contents W.failed out.old out.new result
+    ensures { Tells W.lines out.old out.new result
         (flat_map element_text elements.now) }
 {
     for element in elements {
@@ -157,7 +157,7 @@ fn write_elements<W: WriteLines>(elements: &[ElementId], out: &mut W) -> io::Res
 
 #[tactic(auto, unfolding(crate::specs::UnnamedElements::element_text))]
 fn write_element<W: WriteLines>(element: ElementId, out: &mut W) -> io::Result<()>
-    ensures { Tells W.contents W.failed out.old out.new result (element_text element) }
+    ensures { Tells W.lines out.old out.new result (element_text element) }
 {
     write!(out, " ")?;
     write_numbers(element, out)

@@ -1,8 +1,8 @@
 //! The lines that tell what was opened and what is waited for, and why something was not had.
 
-ghost use Rattle.std.specs.Prelude.{◌≡◌, ◌++◌, codes};
+ghost use Rattle.std.specs.Prelude.{◌≡◌};
 ghost use Rattle.report_writing.specs.OpeningLines.{if_verbose, listening_line, not_had_lines, opened_line, opened_text as text_of_opened};
-ghost use Rattle.report_writing.specs.FaultLines.{not_had_line};
+ghost use Rattle.report_writing.specs.FaultLines.{not_had_with};
 ghost use Rattle.report_writing.specs.Writing.{Tells};
 
 use crate::faults::write_not_had;
@@ -20,7 +20,7 @@ pub fn write_opened<W: WriteLines>(
     origin: &Origin,
     out: &mut W,
 ) -> io::Result<()>
-    ensures { Tells W.contents W.failed out.old out.new result
+    ensures { Tells W.lines out.old out.new result
         (if_verbose verbosity (opened_line session origin.now)) }
 {
     if verbosity.verbose {
@@ -31,7 +31,7 @@ pub fn write_opened<W: WriteLines>(
 }
 
 fn write_opened_line<W: WriteLines>(session: usize, origin: &Origin, out: &mut W) -> io::Result<()>
-    ensures { Tells W.contents W.failed out.old out.new result (opened_line session origin.now) }
+    ensures { Tells W.lines out.old out.new result (opened_line session origin.now) }
 {
     write_session_start(session, origin, out)?;
     out.write_all(opened_text(origin).as_bytes())
@@ -54,7 +54,7 @@ pub fn write_listening<W: WriteLines>(
     connections: usize,
     out: &mut W,
 ) -> io::Result<()>
-    ensures { Tells W.contents W.failed out.old out.new result
+    ensures { Tells W.lines out.old out.new result
         (if_verbose verbosity (listening_line address.now connections)) }
 {
     if verbosity.verbose {
@@ -70,7 +70,7 @@ fn write_listening_line<W: WriteLines>(
     connections: usize,
     out: &mut W,
 ) -> io::Result<()>
-    ensures { Tells W.contents W.failed out.old out.new result
+    ensures { Tells W.lines out.old out.new result
         (listening_line address.now connections) }
 {
     writeln!(
@@ -88,7 +88,7 @@ pub fn write_not_had_because<W: WriteLines>(
     reason: Reason,
     out: &mut W,
 ) -> io::Result<()>
-    ensures { Tells W.contents W.failed out.old out.new result
+    ensures { Tells W.lines out.old out.new result
         (not_had_lines verbosity what.now name.now reason) }
 {
     if verbosity.verbose {
@@ -100,8 +100,8 @@ pub fn write_not_had_because<W: WriteLines>(
 
 #[tactic(auto, unfolding(crate::specs::FaultLines::not_had_line))]
 fn write_because<W: WriteLines>(what: &str, name: &str, words: &str, out: &mut W) -> io::Result<()>
-    ensures { Tells W.contents W.failed out.old out.new result
-        (not_had_line what.now (name.now ++ (codes ": " ++ words.now))) }
+    ensures { Tells W.lines out.old out.new result
+        (not_had_with what.now name.now words.now) }
 {
     writeln!(out, "collectd: {what}: {name}: {words}")
 }

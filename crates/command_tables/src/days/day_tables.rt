@@ -41,7 +41,7 @@ pub fn take_day_of<F, M, T: TablePlace + Drop, P: WriteLines, L: WriteLines>(
 ) -> Status
     ensures { TakesDay T.seen
         ⟦<FromReader<&'static [u8]> as Source>⟧.seen
-        P.contents P.failed L.contents L.failed
+        P.lines L.lines
         round.entry placed.now day.begins result work.old work.new made.old made.new }
 {
     let hour_ago = day_of(&made.calendar, round.now.saturating_sub(PAUSE));
@@ -64,7 +64,7 @@ fn take_and_tell<F, M, T: TablePlace + Drop, P: WriteLines, L: WriteLines>(
 ) -> Status
     ensures { TakesOneDay T.seen
         ⟦<FromReader<&'static [u8]> as Source>⟧.seen
-        P.contents P.failed L.contents L.failed
+        P.lines L.lines
         periods.now day.begins result work.old work.new made.old made.new }
 {
     let Ok(path) = made.place.table_path(day) else {
@@ -95,7 +95,7 @@ pub fn take_day_text<F, M, T: TablePlace, P: WriteLines, L: WriteLines>(
 ) -> Status
     ensures { TakesDayText T.seen
         ⟦<FromReader<&'static [u8]> as Source>⟧.seen
-        P.contents P.failed L.contents L.failed
+        P.lines L.lines
         day.begins result work.old work.new made.now texts.old texts.new }
 {
     let Ok(table) = made.place.table_path(day) else {

@@ -42,10 +42,10 @@ pub(crate) fn merge_of<X: ReadText, E: WriteLines>(
     err: &mut E,
 ) -> Result<MergedTable, Status>
     ensures merged { IfOk result (λ made. IsMergeOf ⟦<FromReader<&'static [u8]> as Source>⟧.seen
-        (X.has texts.now) (X.refuses texts.now) job.now parts.entry (AreToldTo E.contents E.failed err.old err.new)
+        (X.has texts.now) (X.refuses texts.now) job.now parts.entry (AreToldTo E.lines err.old err.new)
         (merged_value made)) }
     ensures err { IfErr result (IsNotMerged ⟦<FromReader<&'static [u8]> as Source>⟧.seen
-        (X.has texts.now) (X.refuses texts.now) job.now parts.entry (AreToldTo E.contents E.failed err.old err.new)) }
+        (X.has texts.now) (X.refuses texts.now) job.now parts.entry (AreToldTo E.lines err.old err.new)) }
 {
     merged_table(run_merge(texts, alloc, job, parts, err))
 }
@@ -59,7 +59,7 @@ fn run_merge<X: ReadText, E: WriteLines>(
     err: &mut E,
 ) -> MergedEnd<Vec<u8>, KeptReceipt>
     ensures { IsRun ⟦<FromReader<&'static [u8]> as Source>⟧.seen
-        (X.has texts.now) (X.refuses texts.now) job.now parts.entry (AreToldTo E.contents E.failed err.old err.new) result }
+        (X.has texts.now) (X.refuses texts.now) job.now parts.entry (AreToldTo E.lines err.old err.new) result }
 {
     let to = MergedTo {
         out: Vec::new(alloc),

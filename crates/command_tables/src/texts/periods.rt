@@ -28,7 +28,7 @@ pub fn take_text_of<F, M, T: TablePlace, P: WriteLines, L: WriteLines>(
 ) -> Status
     ensures { TakesText T.seen
         ⟦<FromReader<&'static [u8]> as Source>⟧.seen
-        P.contents P.failed L.contents L.failed
+        P.lines L.lines
         job.now round.entry period result work.old work.new texts.old texts.new }
 {
     if !work.rounds.has_settled(period) || texts.rounds.has_settled(period) {
@@ -49,7 +49,7 @@ fn take_and_tell<F, M, T: TablePlace, P: WriteLines, L: WriteLines>(
 ) -> Status
     ensures { TakesOneText T.seen
         ⟦<FromReader<&'static [u8]> as Source>⟧.seen
-        P.contents P.failed L.contents L.failed
+        P.lines L.lines
         job.now round.entry period.begins result work.old work.new texts.old texts.new }
 {
     let Ok(name) = period_name(round.alloc, period) else {

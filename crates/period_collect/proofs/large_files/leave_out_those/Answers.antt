@@ -17,13 +17,13 @@ returns-clause-lot g c =
     let words = c.in-Ok-words_of.ensures ∙ ap (map string_bytes) c.deref.ensures.value in
     let kept = ap texts c.deref-3.ensures.value ∙ c.in-Ok-kept_of.ensures ∙ ap (kept_of out) (ap texts c.deref-2.ensures.value ∙ words) in
     let count : c.len.result ≡ length paths = omega (arith, c.len.ensures, ap length words, length-map c.in-Ok-words_of.words.items (λ (w : Bor (List ℕ)). w.now), length-map paths string_bytes) in
-    let told = AreToldTo g.E.WriteLines.contents g.E.WriteLines.failed c.large_files.new.maker.err c.tell_large.new.err in
+    let told = AreToldTo g.E.WriteLines.lines c.large_files.new.maker.err c.tell_large.new.err in
     record {
       paths = paths;
       collected = c.large_files.new.maker;
       large = large;
       are_paths = c.in-Ok.ensures;
-      finds = subst (λ (ps : List (List ℕ)). FindsLarge g.S.Source.seen g.O.OpenSource.opens g.O.OpenSource.sizes g.O.OpenSource.coming g.E.WriteLines.contents g.E.WriteLines.failed c.args.maker.now c.large_files.new.maker ps large) kept c.in_ok-large.ensures.large;
+      finds = subst (λ (ps : List (List ℕ)). FindsLarge g.S.Source.seen g.O.OpenSource.opens g.O.OpenSource.sizes g.O.OpenSource.coming g.E.WriteLines.lines c.args.maker.now c.large_files.new.maker ps large) kept c.in_ok-large.ensures.large;
       are = c.in-Ok-add_places.ensures
           ∙ ap (λ (a : List ℕ). a ++ map (λ i. slice_index_or c.deref-4.result.now i 0) c.deref-5.result.now) c.new.ensures.items
           ∙ ap (λ (ps : List ℕ). map (λ i. slice_index_or ps i 0) c.deref-5.result.now) (c.deref-4.ensures.value ∙ c.in-Ok-kept_places.ensures ∙ ap (places_kept out) count)

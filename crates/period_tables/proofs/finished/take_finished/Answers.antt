@@ -9,7 +9,7 @@ use Rattle.period_tables.proofs.finished.take_finished.Goals as goal
 
 pub returns : goal.returns
 returns g c =
-    finished_outcome (views g.F.Recordings.listed g.F.Recordings.refuses g.S.Source.seen g.S.Source.failure g.O.OpenSource.opens g.O.OpenSource.sizes g.O.OpenSource.refuses g.O.OpenSource.coming g.E.WriteLines.contents g.E.WriteLines.failed g.T.TablePlace.seen) c.args.period.begins c.deref-in-Due.result.now c.args.desk.now _ c.make_due.new.desk refl c.receipt_files.ensures.kept c.make_due.ensures.folder
+    finished_outcome (views g.F.Recordings.listed g.F.Recordings.refuses g.S.Source.seen g.S.Source.failure g.O.OpenSource.opens g.O.OpenSource.sizes g.O.OpenSource.refuses g.O.OpenSource.coming g.E.WriteLines.lines g.T.TablePlace.seen) c.args.period.begins c.deref-in-Due.result.now c.args.desk.now _ c.make_due.new.desk refl c.receipt_files.ensures.kept c.make_due.ensures.folder
     (record {
       names = c.in-Ok.names.items;
       lists = c.in-Ok.ensures.ok;

@@ -11,7 +11,7 @@ loop-period-init g c = λ after steps. steps
 pub loop-period-preserved : goal.loop-period-preserved
 loop-period-preserved g c =
     let split : c.loop-period.left.now ≡ c.in-Some.period.now ∷ c.in-Some.rest.now = search rules in
-    one_more (IsStep (views g.F.Recordings.listed g.F.Recordings.refuses g.S.Source.seen g.S.Source.failure g.O.OpenSource.opens g.O.OpenSource.sizes g.O.OpenSource.refuses g.O.OpenSource.coming g.E.WriteLines.contents g.E.WriteLines.failed g.T.TablePlace.seen) g.P.WriteLines.contents g.P.WriteLines.failed g.L.WriteLines.contents g.L.WriteLines.failed c.args.round c.args.unfinished.now)
+    one_more (IsStep (views g.F.Recordings.listed g.F.Recordings.refuses g.S.Source.seen g.S.Source.failure g.O.OpenSource.opens g.O.OpenSource.sizes g.O.OpenSource.refuses g.O.OpenSource.coming g.E.WriteLines.lines g.T.TablePlace.seen) g.P.WriteLines.lines g.L.WriteLines.lines c.args.round c.args.unfinished.now)
     c.args.periods.now c.loop-period.left.now c.in-Some.rest.now c.in-Some.period.now
     (record { work = c.args.work.now; status = Well }) (record { work = c.loop-period.work; status = c.loop-period.status })
     (record { work = c.take_next-ended.new.work; status = c.worse_of-status.result })
@@ -20,7 +20,7 @@ loop-period-preserved g c =
 pub returns : goal.returns
 returns g c =
     let empty : length c.loop-period.left.now ≡ 0 = grind (arith, c.split_first.ensures.variant) in
-    at_end (IsStep (views g.F.Recordings.listed g.F.Recordings.refuses g.S.Source.seen g.S.Source.failure g.O.OpenSource.opens g.O.OpenSource.sizes g.O.OpenSource.refuses g.O.OpenSource.coming g.E.WriteLines.contents g.E.WriteLines.failed g.T.TablePlace.seen) g.P.WriteLines.contents g.P.WriteLines.failed g.L.WriteLines.contents g.L.WriteLines.failed c.args.round c.args.unfinished.now)
+    at_end (IsStep (views g.F.Recordings.listed g.F.Recordings.refuses g.S.Source.seen g.S.Source.failure g.O.OpenSource.opens g.O.OpenSource.sizes g.O.OpenSource.refuses g.O.OpenSource.coming g.E.WriteLines.lines g.T.TablePlace.seen) g.P.WriteLines.lines g.L.WriteLines.lines c.args.round c.args.unfinished.now)
     c.args.periods.now c.loop-period.left.now
     (record { work = c.args.work.now; status = Well }) (record { work = c.loop-period.work; status = c.loop-period.status })
     empty c.loop-period.invariant

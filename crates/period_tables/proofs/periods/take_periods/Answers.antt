@@ -11,7 +11,7 @@ returns-in-Ok g c =
       begun = begun;
       lists = c.in-Ok.ensures.ok;
       rest = refl;
-      takes = subst (λ names. TakesEach (views g.F.Recordings.listed g.F.Recordings.refuses g.S.Source.seen g.S.Source.failure g.O.OpenSource.opens g.O.OpenSource.sizes g.O.OpenSource.refuses g.O.OpenSource.coming g.E.WriteLines.contents g.E.WriteLines.failed g.T.TablePlace.seen) g.P.WriteLines.contents g.P.WriteLines.failed g.L.WriteLines.contents g.L.WriteLines.failed
+      takes = subst (λ names. TakesEach (views g.F.Recordings.listed g.F.Recordings.refuses g.S.Source.seen g.S.Source.failure g.O.OpenSource.opens g.O.OpenSource.sizes g.O.OpenSource.refuses g.O.OpenSource.coming g.E.WriteLines.lines g.T.TablePlace.seen) g.P.WriteLines.lines g.L.WriteLines.lines
           c.args.round names c.args.periods.now c.take_each.result begun c.take_each.new.work) c.deref.ensures.value c.take_each.ensures;
     })
 

@@ -4,8 +4,8 @@ use Rattle.recording_periods.specs.FinishedPeriods.{HoldsUp}
 use Rattle.recording_periods.proofs.Loops.{all_at_end, first_here, first_later, more_all}
 use Rattle.recording_periods.proofs.finished_period.first_holding.Goals as goal
 
-pub returns-then-holds_up : goal.returns-then-holds_up
-returns-then-holds_up c =
+pub returns-then-holds_up-clause-first : goal.returns-then-holds_up-clause-first
+returns-then-holds_up-clause-first c =
     let split : c.loop-name.left.now ≡ c.in-Some.name.now ∷ c.in-Some.rest.now = search rules in
     first_here (λ name. ¬ HoldsUp c.args.period.begins (string_bytes name)) (λ name. HoldsUp c.args.period.begins (string_bytes name)) c.args.unfinished.now c.loop-name.left.now c.in-Some.rest.now c.in-Some.name.now c.as_str-name.result.now split
     (c.loop-name.invariant.first c.as_str-name.result.now) (search rules) (search rules)
@@ -19,7 +19,7 @@ loop-name-preserved c =
           (c.loop-name.invariant.first text) (search rules);
     }
 
-pub returns : goal.returns
-returns c =
+pub returns-clause-none : goal.returns-clause-none
+returns-clause-none c =
     let empty : length c.loop-name.left.now ≡ 0 = grind (arith, c.split_first.ensures.variant) in
     all_at_end (λ name. ¬ HoldsUp c.args.period.begins (string_bytes name)) c.args.unfinished.now c.loop-name.left.now c.loop-name.invariant.all empty
