@@ -12,13 +12,13 @@ use std::io::{self, ErrorKind};
 
 /// Writes the line of a folder that can't be opened.
 pub fn tell_folder<E: WriteLines>(path: &str, fault: &FolderFault, err: &mut E)
-    ensures { AreToldTo E.contents E.failed err.old err.new (folder_line path.now fault.now) }
+    ensures { AreToldTo E.lines err.old err.new (folder_line path.now fault.now) }
 {
     let _ = write_folder(path, fault, err);
 }
 
 fn write_folder<E: WriteLines>(path: &str, fault: &FolderFault, err: &mut E) -> io::Result<()>
-    ensures { Tells E.contents E.failed err.old err.new result (folder_line path.now fault.now) }
+    ensures { Tells E.lines err.old err.new result (folder_line path.now fault.now) }
 {
     match fault {
         FolderFault::InUse => write_not_had("folder in use", path, err),
@@ -38,7 +38,7 @@ fn is_file(kind: ErrorKind) -> bool
 
 #[tactic(auto, unfolding(crate::specs::Folders::file_line))]
 fn write_file<W: WriteLines>(path: &str, out: &mut W) -> io::Result<()>
-    ensures { Tells W.contents W.failed out.old out.new result (file_line path.now) }
+    ensures { Tells W.lines out.old out.new result (file_line path.now) }
 {
     writeln!(out, "collectd: folder: {path}: it is a file")
 }

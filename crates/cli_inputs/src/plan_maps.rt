@@ -3,6 +3,7 @@
 ghost use Rattle.std.specs.Prelude.{◌≡◌, ◌++◌, IfErr, IfOk, OnOk, map, string_bytes};
 ghost use Rattle.std.specs.Option.{option_map};
 ghost use Rattle.std.specs.Path.{rsplit_once, slash};
+ghost use Rattle.report_writing.specs.Lines.{StaysFailed};
 ghost use Rattle.report_writing.specs.Told.{AreToldTo};
 ghost use Rattle.command_collect.specs.CollectLines.{collect_fault_line};
 ghost use Rattle.cli_inputs.specs.MapFiles.{AreMapsOfPlan, HasNoMaps, folder_of, is_absolute, map_paths, path_from};
@@ -32,8 +33,8 @@ pub fn load_plan_maps<T: ReadText, E: WriteLines>(
     ensures silent { IfOk result (λ _. err.new ≡ err.old) }
     // Else why not was told: of the first file that gives no map, or that memory ran out.
     ensures told { IfErr result (HasNoMaps (T.has texts.now) plan.now (T.refuses texts.now) named.now
-        verbosity (AreToldTo E.contents E.failed err.old err.new)) }
-    ensures kept { E.failed err.old → E.failed err.new }
+        verbosity (AreToldTo E.lines err.old err.new)) }
+    ensures kept { StaysFailed E.lines err.old err.new }
 {
     if named.maps.is_empty() {
         return Ok(MapsOfPlan {
@@ -59,9 +60,9 @@ pub fn load_plan_maps<T: ReadText, E: WriteLines>(
 // There was no memory for the names of files and what is told of them.
 fn without_memory<E: WriteLines>(err: &mut E) -> Status
     ensures failed { result ≡ Status.Failed }
-    ensures told { AreToldTo E.contents E.failed err.old err.new
+    ensures told { AreToldTo E.lines err.old err.new
         (collect_fault_line CollectFault.OutOfMemory) }
-    ensures kept { E.failed err.old → E.failed err.new }
+    ensures kept { StaysFailed E.lines err.old err.new }
 {
     let _ = write_collect_fault(CollectFault::OutOfMemory, err);
     Status::Failed

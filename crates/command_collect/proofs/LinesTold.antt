@@ -20,6 +20,7 @@ use Rattle.report_sampling.specs.SamplingLines.{sampling_told}
 use Rattle.report_times.specs.TimesLines.{times_told}
 use Rattle.report_sessions.specs.EndedSessions.{EndedSession}
 use Rattle.report_sessions.specs.MissingLines.{missing_told}
+use Rattle.report_writing.specs.Lines.{LinesView}
 use Rattle.report_writing.specs.OpeningLines.{if_verbose, opened_line}
 use Rattle.report_sessions.specs.ReportLines.{report_lines, tally_line, tally_line_with}
 use Rattle.report_writing.specs.Told.{AreTold}
@@ -47,10 +48,10 @@ on_ok : {T E : Type 0} (answer : Result T E) (old mid new : Option (List ℕ)) (
 on_ok (Ok x) old mid new xs ys first then = Appends-trans old mid new xs ys first then
 on_ok (Err e) old mid new xs ys first then = tt
 
-pub tells_both : {W T U E : Type 0} (contents : W → Option (List ℕ)) (has_failed : W → Type 0) (old mid new : W) (x : T) (answer : Result U E) (xs ys : List ℕ)
-    → Tells {E = E} contents has_failed old mid (Ok x) xs → Tells contents has_failed mid new answer ys → Tells contents has_failed old new answer (xs ++ ys)
-tells_both contents has_failed old mid new x answer xs ys first then =
-    record { told = on_ok answer (contents old) (contents mid) (contents new) xs ys first.told then.told; failed = then.failed; kept = λ failed. then.kept (first.kept failed) }
+pub tells_both : {W T U E : Type 0} (out_lines : W → LinesView) (old mid new : W) (x : T) (answer : Result U E) (xs ys : List ℕ)
+    → Tells {E = E} out_lines old mid (Ok x) xs → Tells out_lines mid new answer ys → Tells out_lines old new answer (xs ++ ys)
+tells_both out_lines old mid new x answer xs ys first then =
+    record { told = on_ok answer (out_lines old).contents (out_lines mid).contents (out_lines new).contents xs ys first.told then.told; failed = then.failed; kept = λ failed. then.kept (first.kept failed) }
 
 -- what is told of a table, by its tally and by what records lack
 pub table_lines : {T E : Type 0} (answer : Result T E) (job : CollectJob) (table : Table) (filtered : ℕ) (tally : Tally) (missing : Missing) (old mid new : Option (List ℕ)) → tally ≡ table.tally → missing ≡ table.missing

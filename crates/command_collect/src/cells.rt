@@ -13,7 +13,7 @@ const DIGITS: &[u8; 16] = b"0123456789abcdef";
 /// Writes the text of a cell.
 #[tactic(auto, unfolding(ipfix_elements::specs::Texts::cell_text))]
 pub fn write_cell<W: WriteLines>(cell: &Cell, out: &mut W) -> io::Result<()>
-    ensures { Tells W.contents W.failed out.old out.new result (cell_text cell.now) }
+    ensures { Tells W.lines out.old out.new result (cell_text cell.now) }
 {
     match cell {
         Cell::Number(number) => write!(out, "{number}"),
@@ -25,7 +25,7 @@ pub fn write_cell<W: WriteLines>(cell: &Cell, out: &mut W) -> io::Result<()>
 
 // Four decimal numbers joined by dots.
 fn write_ipv4<W: WriteLines>(address: &[u8; 4], out: &mut W) -> io::Result<()>
-    ensures { Tells W.contents W.failed out.old out.new result (ipv4_text address.now) }
+    ensures { Tells W.lines out.old out.new result (ipv4_text address.now) }
 {
     let first = address[0];
     let second = address[1];
@@ -36,7 +36,7 @@ fn write_ipv4<W: WriteLines>(address: &[u8; 4], out: &mut W) -> io::Result<()>
 
 // Eight groups of four hexadecimal digits joined by colons.
 fn write_ipv6<W: WriteLines>(address: &[u8; 16], out: &mut W) -> io::Result<()>
-    ensures { Tells W.contents W.failed out.old out.new result (ipv6_text address.now) }
+    ensures { Tells W.lines out.old out.new result (ipv6_text address.now) }
 {
     write_octet(address[0], out)?;
     write_octet(address[1], out)?;
@@ -50,7 +50,7 @@ fn write_ipv6<W: WriteLines>(address: &[u8; 16], out: &mut W) -> io::Result<()>
 
 // Six groups of two hexadecimal digits joined by colons.
 fn write_mac<W: WriteLines>(address: &[u8; 6], out: &mut W) -> io::Result<()>
-    ensures { Tells W.contents W.failed out.old out.new result (mac_text address.now) }
+    ensures { Tells W.lines out.old out.new result (mac_text address.now) }
 {
     write_octet(address[0], out)?;
     for group in 1..6 {
@@ -63,7 +63,7 @@ fn write_mac<W: WriteLines>(address: &[u8; 6], out: &mut W) -> io::Result<()>
 // Two lower-case hexadecimal digits.
 #[tactic(auto, unfolding(hex::specs::Hex::encode_with))]
 fn write_octet<W: WriteLines>(octet: u8, out: &mut W) -> io::Result<()>
-    ensures { Tells W.contents W.failed out.old out.new result (octet_text octet) }
+    ensures { Tells W.lines out.old out.new result (octet_text octet) }
 {
     let high = DIGITS[usize::from(octet / 16)];
     let low = DIGITS[usize::from(octet % 16)];

@@ -9,7 +9,7 @@ use std::io;
 
 /// Writes the line of a fault of collecting.
 pub fn write_collect_fault<W: WriteLines>(fault: CollectFault, out: &mut W) -> io::Result<()>
-    ensures { Tells W.contents W.failed out.old out.new result (collect_fault_line fault) }
+    ensures { Tells W.lines out.old out.new result (collect_fault_line fault) }
 {
     write_fault("collect", fault.number(), fault.name(), out)
 }

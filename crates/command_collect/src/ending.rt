@@ -99,7 +99,7 @@ pub fn tell<S: Source + Drop, E: WriteLines>(
 ) -> io::Result<()>
     ensures { let g = gathered.now in TellsEnded S.failure g.run.sources.items g.run.sessions.items
         (run_lines job.now origins.now g.sampling.items g.times.items g.run.table g.filtered)
-        (Tells E.contents E.failed err.old err.new result) }
+        (Tells E.lines err.old err.new result) }
 {
     let run = &gathered.run;
     write_told_reports(
@@ -120,7 +120,7 @@ fn tell_counts<S: Drop, E: WriteLines>(
     gathered: &Gathered<S>,
     err: &mut E,
 ) -> io::Result<()>
-    ensures { Tells E.contents E.failed err.old err.new result
+    ensures { Tells E.lines err.old err.new result
         (counts_told job.now origins.now gathered.now.sampling.items gathered.now.times.items
         gathered.now.run.table gathered.now.filtered) }
 {
@@ -136,7 +136,7 @@ fn tell_table<E: WriteLines>(
     filtered: u64,
     err: &mut E,
 ) -> io::Result<()>
-    ensures { Tells E.contents E.failed err.old err.new result
+    ensures { Tells E.lines err.old err.new result
         (table_told job.now table.now filtered) }
 {
     write_tally_with(&table.tally(), if_filtered(job, filtered), err)?;

@@ -41,7 +41,7 @@ pub fn write_failure<W: WriteLines>(
     failure: &CollectFailure,
     out: &mut W,
 ) -> io::Result<()>
-    ensures { Tells W.contents W.failed out.old out.new result
+    ensures { Tells W.lines out.old out.new result
         (lines.failure_lines verbosity plan.now origins.now failure.now) }
 {
     write_collect_fault(failure.fault, out)?;
@@ -55,7 +55,7 @@ fn write_large<W: WriteLines>(
     failure: &CollectFailure,
     out: &mut W,
 ) -> io::Result<()>
-    ensures { Tells W.contents W.failed out.old out.new result
+    ensures { Tells W.lines out.old out.new result
         (lines.large_lines verbosity plan.now origins.now failure.now) }
 {
     if verbosity.verbose {
@@ -71,7 +71,7 @@ fn write_named<W: WriteLines>(
     failure: &CollectFailure,
     out: &mut W,
 ) -> io::Result<()>
-    ensures { Tells W.contents W.failed out.old out.new result
+    ensures { Tells W.lines out.old out.new result
         (lines.row_lines plan.now failure.now.row
         ++ lines.session_lines origins.now failure.now.session) }
 {
@@ -83,7 +83,7 @@ fn write_named<W: WriteLines>(
 }
 
 fn write_if_row<W: WriteLines>(plan: &Plan, row: &Option<RowPlace>, out: &mut W) -> io::Result<()>
-    ensures { Tells W.contents W.failed out.old out.new result
+    ensures { Tells W.lines out.old out.new result
         (lines.row_lines plan.now row.now) }
 {
     match row {
@@ -93,7 +93,7 @@ fn write_if_row<W: WriteLines>(plan: &Plan, row: &Option<RowPlace>, out: &mut W)
 }
 
 fn write_row<W: WriteLines>(plan: &Plan, row: &RowPlace, out: &mut W) -> io::Result<()>
-    ensures { Tells W.contents W.failed out.old out.new result
+    ensures { Tells W.lines out.old out.new result
         (lines.row_line plan.now row.now) }
 {
     write_interval(plan, row.interval, out)?;
@@ -103,7 +103,7 @@ fn write_row<W: WriteLines>(plan: &Plan, row: &RowPlace, out: &mut W) -> io::Res
 
 // The first and the last millisecond, in 128 bits since no bound is known of the number.
 fn write_interval<W: WriteLines>(plan: &Plan, interval: u64, out: &mut W) -> io::Result<()>
-    ensures { Tells W.contents W.failed out.old out.new result (lines.interval_text
+    ensures { Tells W.lines out.old out.new result (lines.interval_text
         (first_in OfPlan plan.now interval) (last_in OfPlan plan.now interval)) }
 {
     let length = u128::from(plan.length());
@@ -113,7 +113,7 @@ fn write_interval<W: WriteLines>(plan: &Plan, interval: u64, out: &mut W) -> io:
 
 #[tactic(auto, unfolding(crate::specs::Large::interval_text))]
 fn write_bounds<W: WriteLines>(first: u128, last: u128, out: &mut W) -> io::Result<()>
-    ensures { Tells W.contents W.failed out.old out.new result
+    ensures { Tells W.lines out.old out.new result
         (lines.interval_text first last) }
 {
     write!(out, "collectd: collect: too large: {first},{last}")
@@ -121,7 +121,7 @@ fn write_bounds<W: WriteLines>(first: u128, last: u128, out: &mut W) -> io::Resu
 
 // A comma and a cell for each, as tables show it.
 fn write_key<W: WriteLines>(keys: &[Key], cells: &[Cell], out: &mut W) -> io::Result<()>
-    ensures { Tells W.contents W.failed out.old out.new result
+    ensures { Tells W.lines out.old out.new result
         (flat_map next_cell (shown_cells keys.now cells.now)) }
 {
     for index in 0..cells.len() {
@@ -142,7 +142,7 @@ fn shown_under(keys: &[Key], index: usize, cell: Cell) -> Cell
 }
 
 fn write_next_cell<W: WriteLines>(cell: &Cell, out: &mut W) -> io::Result<()>
-    ensures { Tells W.contents W.failed out.old out.new result (next_cell cell.now) }
+    ensures { Tells W.lines out.old out.new result (next_cell cell.now) }
 {
     write!(out, ",")?;
     write_cell(cell, out)
@@ -150,7 +150,7 @@ fn write_next_cell<W: WriteLines>(cell: &Cell, out: &mut W) -> io::Result<()>
 
 // The session of a number, from 0.
 fn write_session<W: WriteLines>(origins: &[Origin], place: usize, out: &mut W) -> io::Result<()>
-    ensures { Tells W.contents W.failed out.old out.new result
+    ensures { Tells W.lines out.old out.new result
         (lines.session_line origins.now place) }
 {
     write_number(place as u128 + 1, out)?;
@@ -160,13 +160,13 @@ fn write_session<W: WriteLines>(origins: &[Origin], place: usize, out: &mut W) -
 
 #[tactic(auto, unfolding(report_writing::specs::Origins::number_text))]
 fn write_number<W: WriteLines>(session: u128, out: &mut W) -> io::Result<()>
-    ensures { Tells W.contents W.failed out.old out.new result (number_text session) }
+    ensures { Tells W.lines out.old out.new result (number_text session) }
 {
     write!(out, "collectd: session {session}")
 }
 
 fn write_origin_at<W: WriteLines>(origins: &[Origin], place: usize, out: &mut W) -> io::Result<()>
-    ensures { Tells W.contents W.failed out.old out.new result
+    ensures { Tells W.lines out.old out.new result
         (origin_text (lines.origin_at origins.now place)) }
 {
     match origins.get(place) {

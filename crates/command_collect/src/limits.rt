@@ -19,7 +19,7 @@ pub fn write_limit<W: WriteLines>(
     sessions: usize,
     out: &mut W,
 ) -> io::Result<()>
-    ensures { Tells W.contents W.failed out.old out.new result
+    ensures { Tells W.lines out.old out.new result
         (limit_lines verbosity engine (due_fault engine sessions)) }
 {
     match engine.refusal(sessions) {
@@ -34,7 +34,7 @@ fn write_if_verbose<W: WriteLines>(
     fault: CollectFault,
     out: &mut W,
 ) -> io::Result<()>
-    ensures { Tells W.contents W.failed out.old out.new result
+    ensures { Tells W.lines out.old out.new result
         (if_verbose verbosity (limit_line engine fault)) }
 {
     if verbosity.verbose {
@@ -47,7 +47,7 @@ fn write_if_verbose<W: WriteLines>(
 
 #[tactic(auto, unfolding(crate::specs::Limits::limit_text))]
 fn write_words<W: WriteLines>(number: u8, name: &str, words: &str, out: &mut W) -> io::Result<()>
-    ensures { Tells W.contents W.failed out.old out.new result
+    ensures { Tells W.lines out.old out.new result
         (limit_text number name.now words.now) }
 {
     writeln!(out, "collectd: collect: fault {number} {name}{words}")

@@ -3,6 +3,7 @@
 ghost use Rattle.std.specs.Prelude.{IfErr, IfOk};
 ghost use Rattle.flow_table.specs.Fitting.{FitsPlan};
 ghost use Rattle.command_collect.specs.Jobs.{GathersJob, HasJobFaults, TellsJobLarge};
+ghost use Rattle.report_writing.specs.Lines.{StaysFailed};
 ghost use Rattle.report_writing.specs.Statuses.{number_of};
 ghost use Rattle.report_writing.specs.Told.{AreToldTo};
 ghost use Rattle.command_collect.specs.Runs.{RunsJob, RunsPlainly};
@@ -47,9 +48,9 @@ pub fn run<S: Source + Send + Drop, W: Write, E: WriteLines, R: Threads + Wait +
     // well exactly if no session had a fault: then the table is that of all whole texts, and each of them ends
     // with a whole message.
     ensures runs { RunsPlainly W.contents out.old out.new
-        (AreToldTo E.contents E.failed err.old err.new) S.seen sources.items plan.now (Engine.Links pool) output
+        (AreToldTo E.lines err.old err.new) S.seen sources.items plan.now (Engine.Links pool) output
         result }
-    ensures kept { E.failed err.old → E.failed err.new }
+    ensures kept { StaysFailed E.lines err.old err.new }
 {
     let elements = Elements::built_in(alloc);
     let job = CollectJob::plain(&elements, plan, Engine::Links(pool), output);
@@ -75,9 +76,9 @@ pub fn run_with<S: Source + Send + Drop, W: Write, E: WriteLines, R: Threads + W
     // The same, with what `job` says beside: all was well exactly if no session had a fault, and if the run is
     // strict exactly if it was spotless.
     ensures runs { RunsJob W.contents out.old out.new
-        (AreToldTo E.contents E.failed err.old err.new) S.seen S.failure sources.items job.now
+        (AreToldTo E.lines err.old err.new) S.seen S.failure sources.items job.now
         origins.now (number_of result) }
-    ensures kept { E.failed err.old → E.failed err.new }
+    ensures kept { StaysFailed E.lines err.old err.new }
 {
     let gathered = match collect_job(rt, alloc, sources, origins, job) {
         Ok(gathered) => gathered,

@@ -2,6 +2,7 @@
 
 ghost use Rattle.std.specs.Prelude.{false, [], ◌∷◌, None};
 ghost use Rattle.ipfix_dump.specs.DumpLines.{dump_line};
+ghost use Rattle.report_writing.specs.Lines.{StaysFailed};
 ghost use Rattle.report_writing.specs.Told.{AreToldTo};
 ghost use Rattle.report_sessions.specs.ReportLines.{report_lines};
 ghost use Rattle.command_dump.specs.Dumps.{RunsDump, RunsDumpWith};
@@ -28,8 +29,8 @@ pub fn run_dump<S: Source, W: Write, E: WriteLines>(
     ensures runs { RunsDump (dump_line []) None S.seen source.old source.new
         (W.contents out.old) (W.contents out.new) result false
         (λ full AreTold. AreTold (report_lines (full.report ∷ [])))
-        (AreToldTo E.contents E.failed err.old err.new) }
-    ensures kept { E.failed err.old → E.failed err.new }
+        (AreToldTo E.lines err.old err.new) }
+    ensures kept { StaysFailed E.lines err.old err.new }
 {
     let elements = Elements::built_in(alloc);
     let job = DumpJob {
@@ -57,8 +58,8 @@ pub fn run_dump_with<T: ReadText, S: Source, W: Write, E: WriteLines>(
     err: &mut E,
 ) -> Status
     ensures runs { RunsDumpWith S.seen S.failure source.old source.new W.contents out.old out.new job.now
-        T.has T.refuses files.now (AreToldTo E.contents E.failed err.old err.new) result }
-    ensures kept { E.failed err.old → E.failed err.new }
+        T.has T.refuses files.now (AreToldTo E.lines err.old err.new) result }
+    ensures kept { StaysFailed E.lines err.old err.new }
 {
     let elements = match load_elements(files, alloc, job.element_files, job.verbosity, err) {
         Some(elements) => elements,

@@ -9,7 +9,7 @@ use std::io;
 
 /// Writes the line of a fault of the dump.
 pub fn write_dump_fault<W: WriteLines>(fault: DumpFault, out: &mut W) -> io::Result<()>
-    ensures { Tells W.contents W.failed out.old out.new result (dump_fault_line fault) }
+    ensures { Tells W.lines out.old out.new result (dump_fault_line fault) }
 {
     write_fault("dump", fault.number(), fault.name(), out)
 }

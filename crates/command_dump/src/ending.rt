@@ -2,6 +2,7 @@
 
 ghost use Rattle.std.specs.Prelude.{◌≡◌, ◌⊎◌, ◌↔◌, IfOk, IsTrue};
 ghost use Rattle.ipfix_dump.specs.Dumped.{DumpsInFull, line_in};
+ghost use Rattle.report_writing.specs.Lines.{StaysFailed};
 ghost use Rattle.report_writing.specs.Statuses.{number_of};
 ghost use Rattle.report_writing.specs.Told.{AreToldTo};
 ghost use Rattle.report_writing.specs.Writing.{Tells};
@@ -30,8 +31,8 @@ pub fn dump_to_end<S: Source, W: Write, E: WriteLines>(
     err: &mut E,
 ) -> Status
     ensures runs { DumpsFor S.seen S.failure source.old source.new W.contents out.old out.new job.now
-        (number_of result) elements.now (AreToldTo E.contents E.failed err.old err.new) }
-    ensures kept { E.failed err.old → E.failed err.new }
+        (number_of result) elements.now (AreToldTo E.lines err.old err.new) }
+    ensures kept { StaysFailed E.lines err.old err.new }
 {
     let options = DumpOptions {
         form: job.form,
@@ -59,7 +60,7 @@ fn tell<E: WriteLines>(
     full: &FullReport,
     err: &mut E,
 ) -> io::Result<()>
-    ensures { Tells E.contents E.failed err.old err.new result
+    ensures { Tells E.lines err.old err.new result
         (dump_lines job.now elements.now reason full.now) }
 {
     write_told_session(job.verbosity, elements, 1, &job.origin, None, full, err)?;

@@ -8,7 +8,7 @@ use std::io;
 
 /// Writes the line that says that a word fits no element.
 pub fn write_none<W: WriteLines>(out: &mut W) -> io::Result<()>
-    ensures { Tells W.contents W.failed out.old out.new result none_line }
+    ensures { Tells W.lines out.old out.new result none_line }
 {
     writeln!(
         out,
@@ -18,14 +18,14 @@ pub fn write_none<W: WriteLines>(out: &mut W) -> io::Result<()>
 
 /// Writes the line of a fault of writing, which has this number and name wherever something is written.
 pub fn write_failed<W: WriteLines>(out: &mut W) -> io::Result<()>
-    ensures { Tells W.contents W.failed out.old out.new result failed_line }
+    ensures { Tells W.lines out.old out.new result failed_line }
 {
     writeln!(out, "collectd: elements: fault 2 WriteFailed")
 }
 
 /// Writes the line that says that there is no memory to begin with.
 pub fn write_out_of_memory<W: WriteLines>(out: &mut W) -> io::Result<()>
-    ensures { Tells W.contents W.failed out.old out.new result memory_line }
+    ensures { Tells W.lines out.old out.new result memory_line }
 {
     writeln!(out, "collectd: elements: fault 10 OutOfMemory")
 }

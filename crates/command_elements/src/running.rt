@@ -4,6 +4,7 @@ ghost use Rattle.std.specs.Prelude.{◌≡◌, ◌⊎◌, true, false, [], map};
 ghost use Rattle.std.specs.Option.{option_copied};
 ghost use Rattle.ipfix_elements.specs.Writers.{Writes};
 ghost use Rattle.input_files.specs.Loaded.{Loads};
+ghost use Rattle.report_writing.specs.Lines.{StaysFailed};
 ghost use Rattle.report_writing.specs.Told.{AreToldTo};
 ghost use Rattle.command_elements.specs.ErrorLines.{failed_line, none_line};
 ghost use Rattle.command_elements.specs.Runs.{RunsElements};
@@ -34,8 +35,8 @@ pub fn run_elements<T: ReadText, W: Write, E: WriteLines>(
     ensures runs { RunsElements
         (Loads (T.has files.now) (T.refuses files.now) verbosity [] (map (λ path. path.now) paths.now))
         (option_copied word.entry) (Writes W.contents out.old out.new)
-        (AreToldTo E.contents E.failed err.old err.new) result }
-    ensures kept { E.failed err.old → E.failed err.new }
+        (AreToldTo E.lines err.old err.new) result }
+    ensures kept { StaysFailed E.lines err.old err.new }
 {
     match load_elements(files, alloc, paths, verbosity, err) {
         Some(elements) => {
@@ -58,10 +59,10 @@ fn list_known<W: Write, E: WriteLines>(search: &Search, out: &mut W, err: &mut E
     ensures none { result ≡ Status.NotOpened
         → Shows search.now (all_in search.now) (Writes W.contents out.old out.new) false }
     ensures none_told { result ≡ Status.NotOpened
-        → AreToldTo E.contents E.failed err.old err.new none_line }
+        → AreToldTo E.lines err.old err.new none_line }
     ensures failed { result ≡ Status.Failed
-        → AreToldTo E.contents E.failed err.old err.new failed_line }
-    ensures kept { E.failed err.old → E.failed err.new }
+        → AreToldTo E.lines err.old err.new failed_line }
+    ensures kept { StaysFailed E.lines err.old err.new }
 {
     match list_elements(search, out) {
         Ok(true) => Status::Well,

@@ -6,6 +6,7 @@ ghost use Rattle.std.specs.Option.{option_map};
 ghost use Rattle.std.specs.Io.KnownBytes.{Appends};
 ghost use Rattle.command_explain.specs.declared.ending_fault.EndingFault.{EndingFault};
 ghost use Rattle.command_explain.specs.Explained.{IsWordOf, answer, explanation_text, failed_line, fault_line, list_text, named, names, none_line, rule_lines};
+ghost use Rattle.report_writing.specs.Lines.{StaysFailed};
 ghost use Rattle.report_writing.specs.Told.{AreToldTo};
 ghost use Rattle.report_writing.specs.Writing.{Tells};
 
@@ -119,10 +120,10 @@ pub fn run_explain<W: Write, E: WriteLines>(word: Option<&str>, out: &mut W, err
     // What was told: nothing, or one line.
     ensures untold { result ≡ Status.Well → err.new ≡ err.old }
     ensures none_told { result ≡ Status.NotOpened
-        → AreToldTo E.contents E.failed err.old err.new none_line }
+        → AreToldTo E.lines err.old err.new none_line }
     ensures failed { result ≡ Status.Failed
-        → AreToldTo E.contents E.failed err.old err.new failed_line }
-    ensures kept { E.failed err.old → E.failed err.new }
+        → AreToldTo E.lines err.old err.new failed_line }
+    ensures kept { StaysFailed E.lines err.old err.new }
 {
     match word {
         None => status_of(list_faults(out), err),
@@ -143,8 +144,8 @@ fn status_of<E: WriteLines>(written: io::Result<()>, err: &mut E) -> Status
     ensures well { result ≡ Status.Well → IsOk written }
     ensures untold { result ≡ Status.Well → err.new ≡ err.old }
     ensures failed { result ≡ Status.Failed
-        → AreToldTo E.contents E.failed err.old err.new failed_line }
-    ensures kept { E.failed err.old → E.failed err.new }
+        → AreToldTo E.lines err.old err.new failed_line }
+    ensures kept { StaysFailed E.lines err.old err.new }
 {
     match written {
         Ok(()) => Status::Well,
@@ -157,7 +158,7 @@ fn status_of<E: WriteLines>(written: io::Result<()>, err: &mut E) -> Status
 
 // The line that says that a word names no fault.
 fn write_none<E: WriteLines>(err: &mut E) -> io::Result<()>
-    ensures { Tells E.contents E.failed err.old err.new result none_line }
+    ensures { Tells E.lines err.old err.new result none_line }
 {
     writeln!(
         err,
@@ -167,7 +168,7 @@ fn write_none<E: WriteLines>(err: &mut E) -> io::Result<()>
 
 // The line that says that the explanation could not be written.
 fn write_failed<E: WriteLines>(err: &mut E) -> io::Result<()>
-    ensures { Tells E.contents E.failed err.old err.new result failed_line }
+    ensures { Tells E.lines err.old err.new result failed_line }
 {
     let fault = DumpFault::WriteFailed;
     write_fault("explain", fault.number(), fault.name(), err)

@@ -3,6 +3,7 @@
 ghost use Rattle.std.specs.Prelude.{IfErr, IfOk, OnOk};
 ghost use Rattle.flow_merge.specs.RowRecords.{CanTakeRows};
 ghost use Rattle.flow_table.specs.Fitting.{FitsPlan};
+ghost use Rattle.report_writing.specs.Lines.{Adds, StaysFailed};
 ghost use Rattle.report_writing.specs.OpeningLines.{if_verbose};
 ghost use Rattle.report_writing.specs.Told.{AreToldTo};
 ghost use Rattle.command_merge.specs.MergeLines.{file_opened_line, files_opened_lines};
@@ -44,8 +45,8 @@ pub fn run_merge_with<S: Source + Drop, O: OpenSource<S>, W: Write, E: WriteLine
     // The source of each path, in their order, each opened once, gave an export; the rows of all of them,
     // added up, were written, and nothing else; or what kept them from it was told.
     ensures runs { MergesFiles S.seen S.failure O.opens O.refuses O.coming files.old files.new paths.now
-        job.now W.contents out.old out.new (AreToldTo E.contents E.failed err.old err.new) result }
-    ensures kept { E.failed err.old → E.failed err.new }
+        job.now W.contents out.old out.new (AreToldTo E.lines err.old err.new) result }
+    ensures kept { StaysFailed E.lines err.old err.new }
 {
     let table = match merge_files(files, alloc, paths, job, err) {
         Ok(table) => table,
@@ -76,12 +77,12 @@ fn merge_files<'a, S: Source + Drop, O: OpenSource<S>, E: WriteLines>(
         (PathsAreOpened O.opens O.coming files.old files.new paths.now)
         job.now.intervals job.now.plan.now) }
     ensures fits { IfOk result (FitsPlan job.now.plan.now) }
-    ensures told { OnOk result (AreToldTo E.contents E.failed err.old err.new
+    ensures told { OnOk result (AreToldTo E.lines err.old err.new
         (files_opened_lines job.now.verbosity (names_of paths.now))) }
     ensures stops { IfErr result (StopsMerge (IsDueOpened S.seen S.failure O.opens O.refuses O.coming
         files.old files.new job.now.intervals job.now.plan.now) (names_of paths.now) job.now.verbosity
-        (AreToldTo E.contents E.failed err.old err.new)) }
-    ensures kept { E.failed err.old → E.failed err.new }
+        (AreToldTo E.lines err.old err.new)) }
+    ensures kept { StaysFailed E.lines err.old err.new }
 {
     let mut merging = match Merging::new(alloc, job.plan, job.intervals) {
         Ok(merging) => merging,
@@ -109,11 +110,11 @@ fn add_file<'a, 'b, S: Source + Drop, O: OpenSource<S>, E: WriteLines>(
         (IsOpened (O.opens files.old path.now) (O.coming files.old) (O.coming files.new)) merging.entry) }
     ensures same { HoldBefore (O.opens files.old) (O.opens files.new) }
     ensures same_reason { HoldBefore (O.refuses files.old) (O.refuses files.new) }
-    ensures told { OnOk result (AreToldTo E.contents E.failed err.old err.new
+    ensures told { OnOk result (AreToldTo E.lines err.old err.new
         (if_verbose verbosity (file_opened_line number path.now))) }
     ensures stops { IfErr result (IsNotAdded S.seen S.failure O.opens O.refuses O.coming files.old files.new
-        merging.entry verbosity number path.now (AreToldTo E.contents E.failed err.old err.new)) }
-    ensures kept { E.failed err.old → E.failed err.new }
+        merging.entry verbosity number path.now (AreToldTo E.lines err.old err.new)) }
+    ensures kept { StaysFailed E.lines err.old err.new }
 {
     let mut source = match files.open_source(path) {
         Ok(opened) => opened.source,

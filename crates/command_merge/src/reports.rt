@@ -18,7 +18,7 @@ use std::io;
 /// Writes the line that counts the files that were merged, and the rows of their table.
 #[tactic(auto, unfolding(crate::specs::MergeLines::merged_line))]
 pub fn write_merged<W: WriteLines>(files: usize, rows: usize, out: &mut W) -> io::Result<()>
-    ensures { Tells W.contents W.failed out.old out.new result (merged_line files rows) }
+    ensures { Tells W.lines out.old out.new result (merged_line files rows) }
 {
     writeln!(out, "collectd: merged: files {files} rows {rows}")
 }
@@ -29,7 +29,7 @@ pub fn write_not_merged<W: WriteLines>(
     not_merged: &NotMerged,
     out: &mut W,
 ) -> io::Result<()>
-    ensures { Tells W.contents W.failed out.old out.new result
+    ensures { Tells W.lines out.old out.new result
         (not_merged_lines verbosity not_merged.now) }
 {
     match not_merged {
@@ -47,7 +47,7 @@ pub fn write_not_merged<W: WriteLines>(
 
 // The line of a fault that is no file's.
 fn write_merge_fault<W: WriteLines>(fault: MergeFault, out: &mut W) -> io::Result<()>
-    ensures { Tells W.contents W.failed out.old out.new result (merge_fault_line fault) }
+    ensures { Tells W.lines out.old out.new result (merge_fault_line fault) }
 {
     write_fault("merge", fault.number(), fault.name(), out)
 }
@@ -62,7 +62,7 @@ fn write_file_fault<W: WriteLines>(
     fault: FileFault,
     out: &mut W,
 ) -> io::Result<()>
-    ensures { Tells W.contents W.failed out.old out.new result
+    ensures { Tells W.lines out.old out.new result
         (file_fault_lines verbosity file name.now fault) }
 {
     write_numbered_fault(file, fault.fault, out)?;
@@ -77,7 +77,7 @@ fn write_if_verbose<W: WriteLines>(
     fault: MergeFault,
     out: &mut W,
 ) -> io::Result<()>
-    ensures { Tells W.contents W.failed out.old out.new result
+    ensures { Tells W.lines out.old out.new result
         (if_verbose verbosity (named_file_line file name.now (merge_fault_text fault))) }
 {
     if verbosity.verbose {
@@ -92,7 +92,7 @@ fn write_numbered_fault<W: WriteLines>(
     fault: MergeFault,
     out: &mut W,
 ) -> io::Result<()>
-    ensures { Tells W.contents W.failed out.old out.new result (file_fault_line file fault) }
+    ensures { Tells W.lines out.old out.new result (file_fault_line file fault) }
 {
     write_file_start(file, out)?;
     write_merge_fault_text(fault, out)
@@ -104,7 +104,7 @@ fn write_named_fault<W: WriteLines>(
     fault: MergeFault,
     out: &mut W,
 ) -> io::Result<()>
-    ensures { Tells W.contents W.failed out.old out.new result
+    ensures { Tells W.lines out.old out.new result
         (named_file_line file name.now (merge_fault_text fault)) }
 {
     write_file_start(file, out)?;
@@ -115,7 +115,7 @@ fn write_named_fault<W: WriteLines>(
 // The fault of a file, and after it that of its session or of its record, or the number of the row that crosses a
 // border, to the end of the line.
 fn write_merge_fault_text<W: WriteLines>(fault: MergeFault, out: &mut W) -> io::Result<()>
-    ensures { Tells W.contents W.failed out.old out.new result (merge_fault_text fault) }
+    ensures { Tells W.lines out.old out.new result (merge_fault_text fault) }
 {
     match fault {
         MergeFault::Session(inner) => {
@@ -130,7 +130,7 @@ fn write_merge_fault_text<W: WriteLines>(fault: MergeFault, out: &mut W) -> io::
 // The last fault, after what stands before it.
 #[tactic(auto, unfolding(report_writing::specs::FaultLines::fault_text))]
 fn write_inner<W: WriteLines>(what: &str, number: u8, name: &str, out: &mut W) -> io::Result<()>
-    ensures { Tells W.contents W.failed out.old out.new result
+    ensures { Tells W.lines out.old out.new result
         (what.now ++ fault_text number name.now) }
 {
     writeln!(out, "{what}: fault {number} {name}")
@@ -139,7 +139,7 @@ fn write_inner<W: WriteLines>(what: &str, number: u8, name: &str, out: &mut W) -
 // A row that crosses a border, by its number.
 #[tactic(auto, unfolding(crate::specs::MergeLines::border_text))]
 fn write_border<W: WriteLines>(row: u64, out: &mut W) -> io::Result<()>
-    ensures { Tells W.contents W.failed out.old out.new result (border_text row) }
+    ensures { Tells W.lines out.old out.new result (border_text row) }
 {
     writeln!(out, ": fault 12 Border: row {row}")
 }
@@ -152,7 +152,7 @@ pub fn write_file_opened<W: WriteLines>(
     name: &str,
     out: &mut W,
 ) -> io::Result<()>
-    ensures { Tells W.contents W.failed out.old out.new result
+    ensures { Tells W.lines out.old out.new result
         (if_verbose verbosity (file_opened_line file name.now)) }
 {
     if verbosity.verbose {
@@ -163,7 +163,7 @@ pub fn write_file_opened<W: WriteLines>(
 }
 
 fn write_opened_line<W: WriteLines>(file: usize, name: &str, out: &mut W) -> io::Result<()>
-    ensures { Tells W.contents W.failed out.old out.new result (file_opened_line file name.now) }
+    ensures { Tells W.lines out.old out.new result (file_opened_line file name.now) }
 {
     write_file_start(file, out)?;
     write_origin(&Origin::File { name, size: None }, out)?;
@@ -173,7 +173,7 @@ fn write_opened_line<W: WriteLines>(file: usize, name: &str, out: &mut W) -> io:
 /// Writes how the lines of a file begin, counted from 1.
 #[tactic(auto, unfolding(crate::specs::MergeLines::file_start))]
 pub fn write_file_start<W: WriteLines>(file: usize, out: &mut W) -> io::Result<()>
-    ensures { Tells W.contents W.failed out.old out.new result (file_start file) }
+    ensures { Tells W.lines out.old out.new result (file_start file) }
 {
     write!(out, "collectd: merge: file {file}")
 }

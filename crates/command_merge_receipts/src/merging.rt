@@ -3,6 +3,7 @@
 ghost use Rattle.std.specs.Prelude.{IfErr, IfOk, OnOk};
 ghost use Rattle.flow_merge.specs.RowRecords.{CanTakeRows};
 ghost use Rattle.flow_table.specs.Fitting.{FitsPlan};
+ghost use Rattle.report_writing.specs.Lines.{Adds, StaysFailed};
 ghost use Rattle.report_writing.specs.OpeningLines.{if_verbose};
 ghost use Rattle.report_writing.specs.Told.{AreToldTo};
 ghost use Rattle.command_merge.specs.MergeLines.{file_opened_line, files_opened_lines};
@@ -31,12 +32,12 @@ pub fn merge_tables<'a, T: ReadText, E: WriteLines>(
     requires { CanTakeRows job.now.intervals }
     ensures merged { IfOk result (AreMergedInto (T.has texts.now) job.now tables.now) }
     ensures fits { IfOk result (FitsPlan job.now.plan.now) }
-    ensures told { OnOk result (AreToldTo E.contents E.failed err.old err.new
+    ensures told { OnOk result (AreToldTo E.lines err.old err.new
         (files_opened_lines job.now.verbosity (names_in tables.now))) }
     ensures stops { IfErr result (StopsAmong
         (T.has texts.now) (T.refuses texts.now) job.now.intervals job.now.plan.now
-        tables.now job.now.verbosity (AreToldTo E.contents E.failed err.old err.new)) }
-    ensures kept { E.failed err.old → E.failed err.new }
+        tables.now job.now.verbosity (AreToldTo E.lines err.old err.new)) }
+    ensures kept { StaysFailed E.lines err.old err.new }
 {
     let mut merging = match Merging::new(alloc, job.plan, job.intervals) {
         Ok(merging) => merging,
@@ -62,12 +63,12 @@ fn add_table<'a, 'b, T: ReadText, E: WriteLines>(
     err: &mut E,
 ) -> Result<Merging<'b>, NotMergedParts<'a>>
     ensures added { IfOk result (AddsNext (T.has texts.now) table.now merging.entry) }
-    ensures told { OnOk result (AreToldTo E.contents E.failed err.old err.new
+    ensures told { OnOk result (AreToldTo E.lines err.old err.new
         (if_verbose verbosity (file_opened_line number table.now.files.table.now))) }
     ensures stops { IfErr result (IsNotAdded (T.has texts.now)
         (T.refuses texts.now) merging.entry number table.now verbosity
-        (AreToldTo E.contents E.failed err.old err.new)) }
-    ensures kept { E.failed err.old → E.failed err.new }
+        (AreToldTo E.lines err.old err.new)) }
+    ensures kept { StaysFailed E.lines err.old err.new }
 {
     let path = table.files.table;
     let octets = match texts.read_text(alloc, path) {

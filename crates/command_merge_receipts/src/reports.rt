@@ -20,7 +20,7 @@ pub fn write_not_merged_parts<W: WriteLines>(
     not_merged: &NotMergedParts,
     out: &mut W,
 ) -> io::Result<()>
-    ensures { Tells W.contents W.failed out.old out.new result
+    ensures { Tells W.lines out.old out.new result
         (not_merged_parts_lines verbosity not_merged.now) }
 {
     match not_merged {
@@ -61,7 +61,7 @@ fn write_part<W: WriteLines>(
     what: &PartText,
     out: &mut W,
 ) -> io::Result<()>
-    ensures { Tells W.contents W.failed out.old out.new result
+    ensures { Tells W.lines out.old out.new result
         (part_lines verbosity number name.now (shown what.now)) }
 {
     write_numbered(number, what, out)?;
@@ -73,7 +73,7 @@ fn write_part<W: WriteLines>(
 }
 
 fn write_numbered<W: WriteLines>(number: usize, what: &PartText, out: &mut W) -> io::Result<()>
-    ensures { Tells W.contents W.failed out.old out.new result
+    ensures { Tells W.lines out.old out.new result
         (file_start number ++ shown what.now) }
 {
     write_file_start(number, out)?;
@@ -86,7 +86,7 @@ fn write_named<W: WriteLines>(
     what: &PartText,
     out: &mut W,
 ) -> io::Result<()>
-    ensures { Tells W.contents W.failed out.old out.new result
+    ensures { Tells W.lines out.old out.new result
         (named_file_line number name.now (shown what.now)) }
 {
     write_file_start(number, out)?;
@@ -95,7 +95,7 @@ fn write_named<W: WriteLines>(
 }
 
 fn write_what<W: WriteLines>(what: &PartText, out: &mut W) -> io::Result<()>
-    ensures { Tells W.contents W.failed out.old out.new result (shown what.now) }
+    ensures { Tells W.lines out.old out.new result (shown what.now) }
 {
     match what {
         PartText::Fault(fault) => write_part_fault(*fault, out),
@@ -105,7 +105,7 @@ fn write_what<W: WriteLines>(what: &PartText, out: &mut W) -> io::Result<()>
 
 #[tactic(auto, unfolding(report_writing::specs::FaultLines::fault_text))]
 fn write_part_fault<W: WriteLines>(fault: PartFault, out: &mut W) -> io::Result<()>
-    ensures { Tells W.contents W.failed out.old out.new result (part_text fault) }
+    ensures { Tells W.lines out.old out.new result (part_text fault) }
 {
     let number = fault.number();
     let name = fault.name();
@@ -113,7 +113,7 @@ fn write_part_fault<W: WriteLines>(fault: PartFault, out: &mut W) -> io::Result<
 }
 
 fn write_twice<W: WriteLines>(first: &str, second: &str, out: &mut W) -> io::Result<()>
-    ensures { Tells W.contents W.failed out.old out.new result (twice_text first.now second.now) }
+    ensures { Tells W.lines out.old out.new result (twice_text first.now second.now) }
 {
     out.write_all(b": fault 10 InputTwice:")?;
     write_both(first, second, out)
@@ -125,7 +125,7 @@ pub fn write_counted_twice<W: WriteLines>(
     twice: Option<(usize, usize)>,
     out: &mut W,
 ) -> io::Result<()>
-    ensures { Tells W.contents W.failed out.old out.new result (counted_twice_lines inputs.now twice) }
+    ensures { Tells W.lines out.old out.new result (counted_twice_lines inputs.now twice) }
 {
     match twice {
         Some((first, second)) => {
@@ -136,7 +136,7 @@ pub fn write_counted_twice<W: WriteLines>(
 }
 
 fn write_twice_counted<W: WriteLines>(first: &str, second: &str, out: &mut W) -> io::Result<()>
-    ensures { Tells W.contents W.failed out.old out.new result
+    ensures { Tells W.lines out.old out.new result
         (counted_twice_line first.now second.now) }
 {
     write_counted_start(out)?;
@@ -145,7 +145,7 @@ fn write_twice_counted<W: WriteLines>(first: &str, second: &str, out: &mut W) ->
 
 #[tactic(auto, unfolding(crate::specs::Lines::counted_start))]
 fn write_counted_start<W: WriteLines>(out: &mut W) -> io::Result<()>
-    ensures { Tells W.contents W.failed out.old out.new result counted_start }
+    ensures { Tells W.lines out.old out.new result counted_start }
 {
     write!(
         out,
@@ -155,7 +155,7 @@ fn write_counted_start<W: WriteLines>(out: &mut W) -> io::Result<()>
 
 // Writes the names of two inputs at the end of a line.
 fn write_both<W: WriteLines>(first: &str, second: &str, out: &mut W) -> io::Result<()>
-    ensures { Tells W.contents W.failed out.old out.new result (both_text first.now second.now) }
+    ensures { Tells W.lines out.old out.new result (both_text first.now second.now) }
 {
     write_name(first, out)?;
     out.write_all(b" and")?;
@@ -164,7 +164,7 @@ fn write_both<W: WriteLines>(first: &str, second: &str, out: &mut W) -> io::Resu
 }
 
 fn write_name<W: WriteLines>(name: &str, out: &mut W) -> io::Result<()>
-    ensures { Tells W.contents W.failed out.old out.new result (whole_name name.now) }
+    ensures { Tells W.lines out.old out.new result (whole_name name.now) }
 {
     write_origin(&Origin::File { name, size: None }, out)
 }

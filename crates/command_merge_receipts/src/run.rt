@@ -2,6 +2,7 @@
 
 ghost use Rattle.std.specs.Prelude.{◌≡◌};
 ghost use Rattle.flow_merge.specs.RowRecords.{CanTakeRows};
+ghost use Rattle.report_writing.specs.Lines.{StaysFailed};
 ghost use Rattle.report_writing.specs.Told.{AreToldTo};
 ghost use Rattle.command_merge_receipts.specs.Lines.{not_merged_parts_lines, parts_status_of};
 ghost use Rattle.command_merge_receipts.specs.Runs.{MergesParts, ended_by};
@@ -38,8 +39,8 @@ pub fn run_merge_parts<T: ReadText, W: Write + Drop, P: ReceiptPlace + Drop, E: 
 ) -> MergedEnd<W, P>
     requires { CanTakeRows job.now.merge.intervals }
     ensures runs { MergesParts (T.has texts.now) (T.refuses texts.now)
-        job.now W.contents P.holds to result.to (AreToldTo E.contents E.failed err.old err.new) result.status }
-    ensures kept { E.failed err.old → E.failed err.new }
+        job.now W.contents P.holds to result.to (AreToldTo E.lines err.old err.new) result.status }
+    ensures kept { StaysFailed E.lines err.old err.new }
 {
     let verbosity = job.merge.verbosity;
     let taken = match take_parts(texts, alloc, job) {
@@ -77,9 +78,9 @@ fn tell_not_merged<E: WriteLines>(
     err: &mut E,
 ) -> Status
     ensures status { result ≡ parts_status_of not_merged.now }
-    ensures told { AreToldTo E.contents E.failed err.old err.new
+    ensures told { AreToldTo E.lines err.old err.new
         (not_merged_parts_lines verbosity not_merged.now) }
-    ensures kept { E.failed err.old → E.failed err.new }
+    ensures kept { StaysFailed E.lines err.old err.new }
 {
     let _ = write_not_merged_parts(verbosity, not_merged, err);
     not_merged.status()

@@ -1,11 +1,12 @@
 -- Which peers may send, by words that are prefixes, and the line of the first word that is none.
-use Rattle.std.specs.Prelude.{◌≡◌, ◌↔◌, ℕ, ◌++◌, Option, Some, List, take, codes, option_map, slice_get}
+use Rattle.std.specs.Prelude.{◌≡◌, ◌↔◌, ℕ, ◌++◌, Some, List, take, codes, option_map, slice_get}
 use denote.Bor.{Bor}
 use Rattle.std.specs.List.{AllZip}
 use Rattle.network_prefixes.specs.Prefixes.{IsPrefixWord, IsWordWithBitsAfter}
 use Rattle.network_prefixes.specs.declared.prefix.Prefix.{Prefix}
 use Rattle.network_prefixes.specs.declared.prefix.PrefixFault.{PrefixFault}
 use Rattle.network_prefixes.specs.declared.prefix.PrefixFault.TheVariants.{NotAPrefix, BitsAfter}
+use Rattle.report_writing.specs.Lines.{LinesView}
 use Rattle.report_writing.specs.Told.{AreToldTo}
 use Rattle.command_record.specs.declared.peer_prefixes.WordFault.{WordFault}
 use Rattle.command_record.specs.declared.peer_prefixes.WordFault.TheVariants.{NoPrefix, OutOfMemory}
@@ -49,5 +50,5 @@ fault_line (NoPrefix word fault) = prefix_line word.now fault
 fault_line OutOfMemory = codes "error: out of memory\n"
 
 -- exactly the line of a fault that these words have was told
-abbrev pub TellsWhy : {W : Type 0} → (W → Option (List ℕ)) → (W → Type 0) → W → W → List (Bor (List ℕ)) → Type 0
-TellsWhy contents has_failed old new words = (fault : WordFault) × IsWordFault words fault × AreToldTo contents has_failed old new (fault_line fault)
+abbrev pub TellsWhy : {W : Type 0} → (W → LinesView) → W → W → List (Bor (List ℕ)) → Type 0
+TellsWhy lines old new words = (fault : WordFault) × IsWordFault words fault × AreToldTo lines old new (fault_line fault)

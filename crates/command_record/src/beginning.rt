@@ -56,7 +56,7 @@ pub(crate) fn write_beginning<W: WriteLines>(
     intake: Intake,
     out: &mut W,
 ) -> io::Result<()>
-    ensures { Tells W.contents W.failed out.old out.new result (beginning_line folder.now intake) }
+    ensures { Tells W.lines out.old out.new result (beginning_line folder.now intake) }
 {
     write_folder(folder, out)?;
     write_intake(intake, out)
@@ -64,13 +64,13 @@ pub(crate) fn write_beginning<W: WriteLines>(
 
 #[tactic(auto, unfolding(crate::specs::Beginning::folder_text))]
 fn write_folder<W: WriteLines>(folder: &str, out: &mut W) -> io::Result<()>
-    ensures { Tells W.contents W.failed out.old out.new result (folder_text folder.now) }
+    ensures { Tells W.lines out.old out.new result (folder_text folder.now) }
 {
     write!(out, "collectd: recording: {folder}")
 }
 
 fn write_intake<W: WriteLines>(intake: Intake, out: &mut W) -> io::Result<()>
-    ensures { Tells W.contents W.failed out.old out.new result (intake_texts intake) }
+    ensures { Tells W.lines out.old out.new result (intake_texts intake) }
 {
     write_addresses(intake.listen, intake.udp, out)?;
     write_most(intake, out)
@@ -81,7 +81,7 @@ fn write_addresses<W: WriteLines>(
     udp: Option<SocketAddr>,
     out: &mut W,
 ) -> io::Result<()>
-    ensures { Tells W.contents W.failed out.old out.new result (addresses_text listen udp) }
+    ensures { Tells W.lines out.old out.new result (addresses_text listen udp) }
 {
     write_address("listen", listen, out)?;
     write_address("udp", udp, out)
@@ -92,7 +92,7 @@ fn write_address<W: WriteLines>(
     address: Option<SocketAddr>,
     out: &mut W,
 ) -> io::Result<()>
-    ensures { Tells W.contents W.failed out.old out.new result (address_part word.now address) }
+    ensures { Tells W.lines out.old out.new result (address_part word.now address) }
 {
     match address {
         None => Ok(()),
@@ -102,34 +102,34 @@ fn write_address<W: WriteLines>(
 
 #[tactic(auto, unfolding(crate::specs::Beginning::address_text))]
 fn write_address_text<W: WriteLines>(word: &str, address: SocketAddr, out: &mut W) -> io::Result<()>
-    ensures { Tells W.contents W.failed out.old out.new result (address_text word.now address) }
+    ensures { Tells W.lines out.old out.new result (address_text word.now address) }
 {
     write!(out, " {word} {address}")
 }
 
 fn write_most<W: WriteLines>(intake: Intake, out: &mut W) -> io::Result<()>
-    ensures { Tells W.contents W.failed out.old out.new result (most_texts intake) }
+    ensures { Tells W.lines out.old out.new result (most_texts intake) }
 {
     write_most_part("sessions", intake.sessions, out)?;
     write_datagrams(intake, out)
 }
 
 fn write_datagrams<W: WriteLines>(intake: Intake, out: &mut W) -> io::Result<()>
-    ensures { Tells W.contents W.failed out.old out.new result (datagram_texts intake) }
+    ensures { Tells W.lines out.old out.new result (datagram_texts intake) }
 {
     write_most_part("peers", intake.peers, out)?;
     write_rooms(intake, out)
 }
 
 fn write_rooms<W: WriteLines>(intake: Intake, out: &mut W) -> io::Result<()>
-    ensures { Tells W.contents W.failed out.old out.new result (room_texts intake) }
+    ensures { Tells W.lines out.old out.new result (room_texts intake) }
 {
     write_most_text("templates", intake.templates as usize, out)?;
     write_last(intake.buffer, out)
 }
 
 fn write_last<W: WriteLines>(buffer: Option<usize>, out: &mut W) -> io::Result<()>
-    ensures { Tells W.contents W.failed out.old out.new result
+    ensures { Tells W.lines out.old out.new result
         (most_part (codes "buffer") buffer ++ codes "\n") }
 {
     write_most_part("buffer", buffer, out)?;
@@ -137,7 +137,7 @@ fn write_last<W: WriteLines>(buffer: Option<usize>, out: &mut W) -> io::Result<(
 }
 
 fn write_most_part<W: WriteLines>(word: &str, most: Option<usize>, out: &mut W) -> io::Result<()>
-    ensures { Tells W.contents W.failed out.old out.new result (most_part word.now most) }
+    ensures { Tells W.lines out.old out.new result (most_part word.now most) }
 {
     match most {
         None => Ok(()),
@@ -147,7 +147,7 @@ fn write_most_part<W: WriteLines>(word: &str, most: Option<usize>, out: &mut W) 
 
 #[tactic(auto, unfolding(crate::specs::Beginning::most_text))]
 fn write_most_text<W: WriteLines>(word: &str, most: usize, out: &mut W) -> io::Result<()>
-    ensures { Tells W.contents W.failed out.old out.new result (most_text word.now most) }
+    ensures { Tells W.lines out.old out.new result (most_text word.now most) }
 {
     write!(out, " {word} {most}")
 }

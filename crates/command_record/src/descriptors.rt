@@ -39,7 +39,7 @@ pub(crate) fn peers_of<E: WriteLines>(
     err: &mut E,
 ) -> NonZeroUsize
     ensures kept { non_zero_usize_get result ≡ kept_of limit arguments.now }
-    ensures told { AreToldTo E.contents E.failed err.old err.new (peers_lines limit arguments.now) }
+    ensures told { AreToldTo E.lines err.old err.new (peers_lines limit arguments.now) }
 {
     let kept = kept_peers(limit, arguments);
     if let Some(limit) = limit {
@@ -81,7 +81,7 @@ fn peers_within(limit: u64, sessions: usize, peers: NonZeroUsize) -> NonZeroUsiz
 
 // Writes how many peers are kept since there are no more descriptors, if those are fewer than are asked for.
 fn write_fewer<W: WriteLines>(limit: u64, kept: usize, peers: usize, out: &mut W) -> io::Result<()>
-    ensures { Tells W.contents W.failed out.old out.new result (fewer_lines limit kept peers) }
+    ensures { Tells W.lines out.old out.new result (fewer_lines limit kept peers) }
 {
     if kept < peers {
         write_descriptors(limit, kept, peers, out)
@@ -97,7 +97,7 @@ fn write_descriptors<W: WriteLines>(
     peers: usize,
     out: &mut W,
 ) -> io::Result<()>
-    ensures { Tells W.contents W.failed out.old out.new result
+    ensures { Tells W.lines out.old out.new result
         (descriptors_line limit within peers) }
 {
     writeln!(

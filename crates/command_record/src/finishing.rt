@@ -31,7 +31,7 @@ fn end_of<E: WriteLines>(
         (λ _. result ≡ Err Status.NotOpened) }
     ensures told { MatchResult stayed
         (λ _. err.new ≡ err.old)
-        (λ fault. AreToldTo E.contents E.failed err.old err.new (folder_line folder.now fault)) }
+        (λ fault. AreToldTo E.lines err.old err.new (folder_line folder.now fault)) }
 {
     match stayed {
         Ok(stayed) => Ok(status_of(stayed)),

@@ -26,7 +26,7 @@ pub(crate) fn filter_of<E: WriteLines>(
     ensures prefixes { IfOk result (λ filter. ArePrefixes words.now filter.prefixes.items) }
     ensures silent { OnOk result (err.new ≡ err.old) }
     ensures refused { IfErr result (λ status. status ≡ Status.NotOpened) }
-    ensures told { OnErr result (TellsWhy E.contents E.failed err.old err.new words.now) }
+    ensures told { OnErr result (TellsWhy E.lines err.old err.new words.now) }
 {
     match prefixes_in(alloc, words) {
         Ok(prefixes) => Ok(PeerFilter { prefixes }),
@@ -57,7 +57,7 @@ fn prefixes_in<'w>(alloc: Global, words: &[&'w str]) -> Result<Vec<Prefix>, Word
 }
 
 fn write_fault<W: WriteLines>(fault: &WordFault, out: &mut W) -> io::Result<()>
-    ensures { Tells W.contents W.failed out.old out.new result (fault_line fault.now) }
+    ensures { Tells W.lines out.old out.new result (fault_line fault.now) }
 {
     match fault {
         WordFault::NoPrefix(word, why) => write_prefix(*word, *why, out),
@@ -67,7 +67,7 @@ fn write_fault<W: WriteLines>(fault: &WordFault, out: &mut W) -> io::Result<()>
 
 // Writes why a word is no prefix.
 fn write_prefix<W: WriteLines>(word: &str, fault: PrefixFault, out: &mut W) -> io::Result<()>
-    ensures { Tells W.contents W.failed out.old out.new result (prefix_line word.now fault) }
+    ensures { Tells W.lines out.old out.new result (prefix_line word.now fault) }
 {
     match fault {
         PrefixFault::NotAPrefix => write_no_prefix(word, out),
@@ -77,14 +77,14 @@ fn write_prefix<W: WriteLines>(word: &str, fault: PrefixFault, out: &mut W) -> i
 
 #[tactic(auto, unfolding(crate::specs::PeerPrefixes::no_prefix_line))]
 fn write_no_prefix<W: WriteLines>(word: &str, out: &mut W) -> io::Result<()>
-    ensures { Tells W.contents W.failed out.old out.new result (no_prefix_line word.now) }
+    ensures { Tells W.lines out.old out.new result (no_prefix_line word.now) }
 {
     writeln!(out, "error: '{word}' of --from is no address and no prefix")
 }
 
 #[tactic(auto, unfolding(crate::specs::PeerPrefixes::bits_after_line))]
 fn write_bits_after<W: WriteLines>(word: &str, out: &mut W) -> io::Result<()>
-    ensures { Tells W.contents W.failed out.old out.new result (bits_after_line word.now) }
+    ensures { Tells W.lines out.old out.new result (bits_after_line word.now) }
 {
     writeln!(
         out,

@@ -88,7 +88,7 @@ fn check_addresses<E: WriteLines>(arguments: &RecordArguments, err: &mut E) -> R
     ensures given { IsOk result ↔ (IsSome arguments.now.listen ⊎ IsSome arguments.now.udp) }
     ensures silent { OnOk result (err.new ≡ err.old) }
     ensures refused { IfErr result (λ status. status ≡ Status.NotOpened) }
-    ensures told { OnErr result (AreToldTo E.contents E.failed err.old err.new no_address_text) }
+    ensures told { OnErr result (AreToldTo E.lines err.old err.new no_address_text) }
 {
     if arguments.listen.is_some() || arguments.udp.is_some() {
         return Ok(());
@@ -138,7 +138,7 @@ fn open_socket(
 
 // Writes the line of a socket for datagrams that can't be had.
 fn tell_socket<E: WriteLines>(addr: &str, error: &io::Error, err: &mut E)
-    ensures { AreToldTo E.contents E.failed err.old err.new
+    ensures { AreToldTo E.lines err.old err.new
         (because_line (codes "udp") addr.now (reason_of (error_kind error.now))) }
 {
     let reason = Reason::of(error);
@@ -200,7 +200,7 @@ fn order_of<E: WriteLines>(
     ensures silent { OnOk result (err.new ≡ err.old) }
     ensures refused { IfErr result (λ status. status ≡ Status.NotOpened) }
     ensures told { OnErr result
-        (TellsWhy E.contents E.failed err.old err.new arguments.now.prefixes.now) }
+        (TellsWhy E.lines err.old err.new arguments.now.prefixes.now) }
 {
     Ok(RecordOrder {
         every: arguments.every,

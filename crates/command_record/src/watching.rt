@@ -124,7 +124,7 @@ fn tell_folder<W: WriteLines>(
     out: &mut W,
 ) -> io::Result<()>
     ensures kept { watch.new ≡ record watch.old { is_gone = is_some gone } }
-    ensures told { Tells W.contents W.failed out.old out.new result
+    ensures told { Tells W.lines out.old out.new result
         (folder_lines watch.old.is_gone path.now gone) }
 {
     let is_told = watch.take_folder(gone.is_none());
@@ -150,7 +150,7 @@ fn seconds_since<R: Clock>(rt: &R, start: Option<Instant>) -> Option<u64> {
 
 /// Tells how the clock was set, if it was.
 fn tell_step<W: WriteLines>(step: Option<ClockStep>, out: &mut W) -> io::Result<()>
-    ensures { Tells W.contents W.failed out.old out.new result (set_lines step) }
+    ensures { Tells W.lines out.old out.new result (set_lines step) }
 {
     match step {
         None => Ok(()),
@@ -161,7 +161,7 @@ fn tell_step<W: WriteLines>(step: Option<ClockStep>, out: &mut W) -> io::Result<
 
 #[tactic(auto, unfolding(crate::specs::Watching::forward_line))]
 fn write_forward<W: WriteLines>(seconds: u64, out: &mut W) -> io::Result<()>
-    ensures { Tells W.contents W.failed out.old out.new result (forward_line seconds) }
+    ensures { Tells W.lines out.old out.new result (forward_line seconds) }
 {
     writeln!(
         out,
@@ -171,7 +171,7 @@ fn write_forward<W: WriteLines>(seconds: u64, out: &mut W) -> io::Result<()>
 
 #[tactic(auto, unfolding(crate::specs::Watching::back_line))]
 fn write_back<W: WriteLines>(seconds: u64, out: &mut W) -> io::Result<()>
-    ensures { Tells W.contents W.failed out.old out.new result (back_line seconds) }
+    ensures { Tells W.lines out.old out.new result (back_line seconds) }
 {
     writeln!(out, "collectd: record: clock set back by {seconds} seconds")
 }

@@ -1,7 +1,8 @@
 -- What became of the table of a day.
-use Rattle.std.specs.Prelude.{◌≡◌, ◌⊎◌, ℕ, Bool, List, Option, None, Some, string_bytes}
+use Rattle.std.specs.Prelude.{◌≡◌, ◌⊎◌, ℕ, Bool, List, None, Some, string_bytes}
 use Rattle.std.specs.Borrow.{Bor}
 use Rattle.recording_names.specs.declared.period.Period.{Period}
+use Rattle.report_writing.specs.Lines.{LinesView}
 use Rattle.report_writing.specs.Told.{AreToldTo}
 use Rattle.report_writing.specs.declared.reason.Reason.{Reason}
 use Rattle.report_writing.specs.declared.status.Status.TheVariants.{Failed}
@@ -77,7 +78,7 @@ module _ {T : Type 0} (sees : PlaceView T) where
   IsDueOutcome job parts begins AreTold (NotPut reason) tables before after = IsNotPut job parts begins AreTold reason tables before after
   IsDueOutcome job parts begins AreTold outcome tables before after = ⊥
 
-  module _ {E : Type 0} (contents : E → Option (List ℕ)) (failed : E → Type 0) where
+  module _ {E : Type 0} (lines : E → LinesView) where
     -- of any
     abbrev pub IsPartsOutcome : DayJob → Bor (List PartFiles) → ℕ → Outcome → T → T → T → E → E → Type 0
     IsPartsOutcome job parts begins UpToDate tables before after told tells = (after ≡ before) × (tells ≡ told) × StandsNow job parts begins tables before
@@ -85,7 +86,7 @@ module _ {T : Type 0} (sees : PlaceView T) where
         (after ≡ before) × (tells ≡ told) × HasGone job parts begins (string_bytes name) tables before
     IsPartsOutcome job parts begins (NotRead reason) tables before after told tells = (after ≡ before) × (tells ≡ told) × IsNotSettled begins before reason
     IsPartsOutcome job parts begins outcome tables before after told tells =
-        StandsNot job parts begins tables before × IsDueOutcome job parts begins (AreToldTo contents failed told tells) outcome tables before after
+        StandsNot job parts begins tables before × IsDueOutcome job parts begins (AreToldTo lines told tells) outcome tables before after
 
     -- of the day of these periods; for want of memory for their names nothing was done
     abbrev pub IsDayOutcome : DayJob → List Period → ℕ → Outcome → T → T → T → E → E → Type 0

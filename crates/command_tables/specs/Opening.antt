@@ -7,6 +7,7 @@ use Rattle.command_collect.specs.CollectLines.{collect_fault_line}
 use Rattle.command_collect.specs.Engines.{due_fault}
 use Rattle.command_collect.specs.declared.engine.Engine.{Engine}
 use Rattle.flow_collect.specs.declared.fault.CollectFault.{CollectFault}
+use Rattle.report_writing.specs.Lines.{LinesView}
 use Rattle.report_writing.specs.FaultLines.{not_had_line}
 use Rattle.report_writing.specs.Reasons.{reason_of, words_of}
 use Rattle.report_writing.specs.Told.{AreToldTo}
@@ -60,12 +61,12 @@ abbrev pub plan_line : List ℕ → List ℕ → PlanFault → List ℕ
 plan_line into name OtherPlan = not_had_line (codes "tables of another plan") name
 plan_line into name (NotHad error) = not_had_line (codes "folder") (into ++ (codes ": " ++ words_of (reason_of (error_kind error))))
 
-module _ {E : Type 0} (contents : E → Option (List ℕ)) (has_failed : E → Type 0) (before after : E) where
+module _ {E : Type 0} (lines : E → LinesView) (before after : E) where
   -- an engine that can't collect, even from one file
   pub record IsRefused (engine : Engine) (status : Status) : Type 0 where
     pub fault : CollectFault
     pub due : due_fault engine 1 ≡ Some fault
-    pub told : AreToldTo contents has_failed before after (collect_fault_line fault)
+    pub told : AreToldTo lines before after (collect_fault_line fault)
     pub status_is : status ≡ Failed
 
   -- a plan that has no name for a folder
@@ -73,7 +74,7 @@ module _ {E : Type 0} (contents : E → Option (List ℕ)) (has_failed : E → T
     pub name : List ℕ
     pub is_plan : IsPlanName path name
     pub none : (name ≡ []) ⊎ (is_hidden name ≡ true)
-    pub told : AreToldTo contents has_failed before after (nameless_line path)
+    pub told : AreToldTo lines before after (nameless_line path)
     pub status_is : status ≡ NotOpened
 
   -- one of these plans has none; or memory ran out
@@ -86,7 +87,7 @@ module _ {E : Type 0} (contents : E → Option (List ℕ)) (has_failed : E → T
     pub plans_of : ArePlansOf paths plans
     pub name : List ℕ
     pub twice : name_twice (names_of plans) ≡ Some name
-    pub told : AreToldTo contents has_failed before after (twice_line name)
+    pub told : AreToldTo lines before after (twice_line name)
     pub status_is : status ≡ NotOpened
 
   abbrev pub AreNotNamed : List (Bor (List ℕ)) → Status → Type 0

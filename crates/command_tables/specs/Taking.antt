@@ -26,8 +26,8 @@ module _ {F M T P L : Type 0} {as_place : placing.Ghosts T} {as_out : writing.Gh
     pub is_name : IsPeriodName begins name
     pub is_path : as_place.seen.path_at texts begins path
     pub taken : IsTextOutcome as_place.seen job begins outcome before.desk.tables texts texts_after
-    pub paths : AreToldTo as_out.contents as_out.failed before.out after.out (text_paths path outcome)
-    pub lines : AreToldTo as_err.contents as_err.failed before.err after.err (text_lines (label_text round.plan name) outcome)
+    pub paths : AreToldTo as_out.lines before.out after.out (text_paths path outcome)
+    pub lines : AreToldTo as_err.lines before.err after.err (text_lines (label_text round.plan name) outcome)
     pub rest : after ≡ record before { out = after.out; err = after.err }
     pub status_is : status ≡ text_status outcome
 

@@ -26,9 +26,9 @@ module _ {F M T P L : Type 0} {as_place : placing.Ghosts T} {as_out : writing.Gh
     pub path : List ℕ
     pub between : L
     pub is_path : as_place.seen.path_at made.place begins path
-    pub taken : IsDayOutcome as_place.seen as_err.contents as_err.failed made.job periods begins outcome before.desk.tables made.place made_after.place before.err between
-    pub paths : AreToldTo as_out.contents as_out.failed before.out after.out (outcome_paths path outcome)
-    pub lines : AreToldTo as_err.contents as_err.failed between after.err (outcome_lines true path path outcome)
+    pub taken : IsDayOutcome as_place.seen as_err.lines made.job periods begins outcome before.desk.tables made.place made_after.place before.err between
+    pub paths : AreToldTo as_out.lines before.out after.out (outcome_paths path outcome)
+    pub lines : AreToldTo as_err.lines between after.err (outcome_lines true path path outcome)
     pub rest : after ≡ record before { out = after.out; err = after.err }
     pub made_rest : made_after ≡ record made { place = made_after.place }
     pub status_is : status ≡ outcome_status outcome
@@ -56,8 +56,8 @@ module _ {F M T P L : Type 0} {as_place : placing.Ghosts T} {as_out : writing.Gh
     pub is_table : as_place.seen.path_at made.place begins table
     pub is_path : as_place.seen.path_at texts.place begins path
     pub taken : IsTextOutcome as_place.seen texts.job begins outcome made.place texts.place texts_after.place
-    pub paths : AreToldTo as_out.contents as_out.failed before.out after.out (text_paths path outcome)
-    pub lines : AreToldTo as_err.contents as_err.failed before.err after.err (text_lines table outcome)
+    pub paths : AreToldTo as_out.lines before.out after.out (text_paths path outcome)
+    pub lines : AreToldTo as_err.lines before.err after.err (text_lines table outcome)
     pub rest : after ≡ record before { out = after.out; err = after.err }
     pub texts_rest : texts_after ≡ record texts { place = texts_after.place }
     pub status_is : status ≡ text_status outcome

@@ -21,7 +21,7 @@ use tables_folder::{PlanFault, plan_name};
 /// Sees to it that the engine can collect from a file. If it can't, `err` has a line.
 pub(crate) fn check_engine<E: WriteLines>(engine: Engine, err: &mut E) -> Result<(), Status>
     ensures ok { OnOk result (due_fault engine 1 ≡ None) }
-    ensures err { IfErr result (IsRefused E.contents E.failed err.old err.new engine) }
+    ensures err { IfErr result (IsRefused E.lines err.old err.new engine) }
     ensures silent { OnOk result (err.new ≡ err.old) }
 {
     match engine.refusal(1) {
@@ -47,7 +47,7 @@ pub(crate) fn name_plans<'p, E: WriteLines>(
     err: &mut E,
 ) -> Result<Vec<NamedPlan<'p>>, Status>
     ensures ok { IfOk result (λ plans. AreNamed paths.now plans.items) }
-    ensures err { IfErr result (AreNotNamed E.contents E.failed err.old err.new paths.now) }
+    ensures err { IfErr result (AreNotNamed E.lines err.old err.new paths.now) }
     ensures silent { OnOk result (err.new ≡ err.old) }
 {
     let plans = name_each(alloc, paths, err)?;
@@ -66,7 +66,7 @@ fn name_each<'p, E: WriteLines>(
     err: &mut E,
 ) -> Result<Vec<NamedPlan<'p>>, Status>
     ensures ok { IfOk result (λ plans. ArePlansOf paths.now plans.items) }
-    ensures err { IfErr result (HaveOneNameless E.contents E.failed err.old err.new paths.now) }
+    ensures err { IfErr result (HaveOneNameless E.lines err.old err.new paths.now) }
     ensures silent { OnOk result (err.new ≡ err.old) }
 {
     let mut plans = Vec::new(alloc);
@@ -107,7 +107,7 @@ fn is_among(name: &str, mut plans: &[NamedPlan]) -> bool
 
 #[tactic(auto, unfolding(crate::specs::Opening::twice_line))]
 fn write_twice<E: WriteLines>(name: &str, err: &mut E) -> io::Result<()>
-    ensures { Tells E.contents E.failed err.old err.new result (twice_line name.now) }
+    ensures { Tells E.lines err.old err.new result (twice_line name.now) }
 {
     writeln!(err, "error: two plans have the name '{name}'")
 }
@@ -115,7 +115,7 @@ fn write_twice<E: WriteLines>(name: &str, err: &mut E) -> io::Result<()>
 // The name of a plan by its path. If it has none, `err` has a line.
 fn name_of_plan<'p, E: WriteLines>(path: &'p str, err: &mut E) -> Result<&'p str, Status>
     ensures ok { IfOk result (λ name. IsFolderName path.now name.now) }
-    ensures err { IfErr result (IsNameless E.contents E.failed err.old err.new path.now) }
+    ensures err { IfErr result (IsNameless E.lines err.old err.new path.now) }
     ensures silent { OnOk result (err.new ≡ err.old) }
 {
     match plan_name(path) {
@@ -139,7 +139,7 @@ fn is_hidden(name: &str) -> bool
 
 #[tactic(auto, unfolding(crate::specs::Opening::nameless_line))]
 fn write_nameless<E: WriteLines>(path: &str, err: &mut E) -> io::Result<()>
-    ensures { Tells E.contents E.failed err.old err.new result (nameless_line path.now) }
+    ensures { Tells E.lines err.old err.new result (nameless_line path.now) }
 {
     writeln!(err, "error: the plan '{path}' has no name for a folder")
 }
@@ -176,7 +176,7 @@ pub(crate) fn tell_plan<E: WriteLines>(
     err: &mut E,
 ) -> Status
     ensures status { result ≡ Status.NotOpened }
-    ensures told { AreToldTo E.contents E.failed err.old err.new
+    ensures told { AreToldTo E.lines err.old err.new
         (plan_line into.now name.now fault.now) }
 {
     let _ = write_plan(into, name, fault, err);
@@ -189,7 +189,7 @@ fn write_plan<E: WriteLines>(
     fault: &PlanFault,
     err: &mut E,
 ) -> io::Result<()>
-    ensures { Tells E.contents E.failed err.old err.new result
+    ensures { Tells E.lines err.old err.new result
         (plan_line into.now name.now fault.now) }
 {
     match fault {

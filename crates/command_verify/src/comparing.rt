@@ -1,6 +1,7 @@
 //! Comparing a table with its receipt, and with the one that files give.
 
 ghost use Rattle.std.specs.Prelude.{◌≡◌, ◌++◌, IfOk};
+ghost use Rattle.report_writing.specs.Lines.{StaysFailed};
 ghost use Rattle.report_writing.specs.Told.{AreToldTo};
 ghost use Rattle.report_writing.specs.Writing.{Tells};
 ghost use Rattle.table_receipts.specs.Values.{table_value};
@@ -50,8 +51,8 @@ pub fn compare_files<
 ) -> Status
     ensures compares { ComparesFiles S.seen job.now (there_value there.now) result
         O.opens O.sizes O.refuses O.coming files.old files.new
-        (AreToldTo E.contents E.failed err.old err.new) (T.has texts.now) (T.refuses texts.now) elements }
-    ensures kept { E.failed err.old → E.failed err.new }
+        (AreToldTo E.lines err.old err.new) (T.has texts.now) (T.refuses texts.now) elements }
+    ensures kept { StaysFailed E.lines err.old err.new }
 {
     if job.again.is_empty() {
         return compare_alone(job.alloc, there, b"", err);
@@ -70,8 +71,8 @@ fn compare_alone<E: WriteLines>(
     err: &mut E,
 ) -> Status
     ensures compares { ComparesAlone (there_value there.now) result
-        behind.now (AreToldTo E.contents E.failed err.old err.new) }
-    ensures kept { E.failed err.old → E.failed err.new }
+        behind.now (AreToldTo E.lines err.old err.new) }
+    ensures kept { StaysFailed E.lines err.old err.new }
 {
     match differences_of(alloc, &there.receipt.table, there.table, behind) {
         Ok(lines) => tell_differences(there.receipt, &lines, err),
@@ -99,8 +100,8 @@ fn compare_given<
 ) -> Status
     ensures compares { ComparesGiven S.seen job.now (there_value there.now) result
         O.opens O.sizes O.refuses O.coming files.old files.new
-        (AreToldTo E.contents E.failed err.old err.new) (T.has texts.now) (T.refuses texts.now) elements }
-    ensures kept { E.failed err.old → E.failed err.new }
+        (AreToldTo E.lines err.old err.new) (T.has texts.now) (T.refuses texts.now) elements }
+    ensures kept { StaysFailed E.lines err.old err.new }
 {
     let Ok(lines) = given_differences(job, there) else {
         return tell_fault(ReceiptFault::OutOfMemory, err);
@@ -134,8 +135,8 @@ fn compare_loaded<
 ) -> Status
     ensures compares { ComparesLoaded S.seen job.now (there_value there.now) result
         O.opens O.sizes O.refuses O.coming files.old files.new
-        (AreToldTo E.contents E.failed err.old err.new) (T.has texts.now) (T.refuses texts.now) loaded }
-    ensures kept { E.failed err.old → E.failed err.new }
+        (AreToldTo E.lines err.old err.new) (T.has texts.now) (T.refuses texts.now) loaded }
+    ensures kept { StaysFailed E.lines err.old err.new }
 {
     if loaded.maps.maps.is_empty() {
         open_with(rt, files, job, loaded, None, there, progress, err)
@@ -164,8 +165,8 @@ fn compare_mapped<
 ) -> Status
     ensures compares { ComparesMapped S.seen job.now (there_value there.now) result
         O.opens O.sizes O.refuses O.coming files.old files.new
-        (AreToldTo E.contents E.failed err.old err.new) (T.has texts.now) (T.refuses texts.now) loaded }
-    ensures kept { E.failed err.old → E.failed err.new }
+        (AreToldTo E.lines err.old err.new) (T.has texts.now) (T.refuses texts.now) loaded }
+    ensures kept { StaysFailed E.lines err.old err.new }
 {
     match load_said_maps(
         texts,
@@ -199,8 +200,8 @@ fn compare_with<
 ) -> Status
     ensures compares { ComparesWith S.seen job.now (there_value there.now) result
         O.opens O.sizes O.refuses O.coming files.old files.new
-        (AreToldTo E.contents E.failed err.old err.new) loaded maps }
-    ensures kept { E.failed err.old → E.failed err.new }
+        (AreToldTo E.lines err.old err.new) loaded maps }
+    ensures kept { StaysFailed E.lines err.old err.new }
 {
     let Ok(others) = file_differences(job.alloc, &maps, there) else {
         return tell_fault(ReceiptFault::OutOfMemory, err);
@@ -231,8 +232,8 @@ fn open_with<
 ) -> Status
     ensures opens { OpensBy S.seen job.now (there_value there.now) result
         O.opens O.sizes O.refuses O.coming files.old files.new
-        (AreToldTo E.contents E.failed err.old err.new) loaded maps }
-    ensures kept { E.failed err.old → E.failed err.new }
+        (AreToldTo E.lines err.old err.new) loaded maps }
+    ensures kept { StaysFailed E.lines err.old err.new }
 {
     match made_by(job, loaded, maps) {
         Ok(by) => open_files(rt, files, job, &by, there, progress, err),
@@ -258,8 +259,8 @@ fn open_files<
 ) -> Status
     ensures opens { OpensOrLacks S.seen job.now (there_value there.now) result
         O.opens O.sizes O.refuses O.coming files.old files.new
-        (AreToldTo E.contents E.failed err.old err.new) by.now }
-    ensures kept { E.failed err.old → E.failed err.new }
+        (AreToldTo E.lines err.old err.new) by.now }
+    ensures kept { StaysFailed E.lines err.old err.new }
 {
     match open_all(
         rt,
@@ -304,8 +305,8 @@ fn tell_again<S: Source + Send + Drop, E: WriteLines, R: Threads + Wait + Sync>(
     err: &mut E,
 ) -> Status
     ensures tells { TellsAgain S.seen (there_value there.now) result
-        by.now sources.items origins.now (AreToldTo E.contents E.failed err.old err.new) }
-    ensures kept { E.failed err.old → E.failed err.new }
+        by.now sources.items origins.now (AreToldTo E.lines err.old err.new) }
+    ensures kept { StaysFailed E.lines err.old err.new }
 {
     match compare_again(rt, alloc, sources, origins, by, there) {
         Ok(lines) => tell_differences(there.receipt, &lines, err),
@@ -365,7 +366,7 @@ fn file_differences(
 }
 
 fn write_again_fault<E: WriteLines>(fault: AgainFault, err: &mut E) -> io::Result<()>
-    ensures { Tells E.contents E.failed err.old err.new result (again_fault_line fault) }
+    ensures { Tells E.lines err.old err.new result (again_fault_line fault) }
 {
     match fault {
         AgainFault::NotMade(RemakeFault::Collect(fault)) => write_collect_fault(fault, err),

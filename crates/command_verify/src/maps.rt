@@ -1,6 +1,7 @@
 //! The maps of the plan in a receipt.
 
 ghost use Rattle.std.specs.Prelude.{◌≡◌, IfErr, IfOk, map};
+ghost use Rattle.report_writing.specs.Lines.{StaysFailed};
 ghost use Rattle.report_writing.specs.Told.{AreToldTo};
 ghost use Rattle.table_receipts.specs.Values.{file_value};
 ghost use Rattle.command_verify.specs.Again.{AreMapsNamed, HasNoMaps, names_of as names_in};
@@ -29,8 +30,8 @@ pub fn load_said_maps<T: ReadText, E: WriteLines>(
         (AreMapsNamed (T.has texts.now) (names_in (map file_value said.now)) keys.now) }
     ensures silent { IfOk result (λ _. err.new ≡ err.old) }
     ensures told { IfErr result (HasNoMaps (T.has texts.now) (T.refuses texts.now) verbosity
-        (names_in (map file_value said.now)) (AreToldTo E.contents E.failed err.old err.new)) }
-    ensures kept { E.failed err.old → E.failed err.new }
+        (names_in (map file_value said.now)) (AreToldTo E.lines err.old err.new)) }
+    ensures kept { StaysFailed E.lines err.old err.new }
 {
     let Ok(names) = names_of(alloc, said) else {
         return Err(without_memory(err));
@@ -47,8 +48,8 @@ pub fn load_said_maps<T: ReadText, E: WriteLines>(
 // There was no memory for the names of files and what is told of them.
 fn without_memory<E: WriteLines>(err: &mut E) -> Status
     ensures failed { result ≡ Status.Failed }
-    ensures told { AreToldTo E.contents E.failed err.old err.new memory_line }
-    ensures kept { E.failed err.old → E.failed err.new }
+    ensures told { AreToldTo E.lines err.old err.new memory_line }
+    ensures kept { StaysFailed E.lines err.old err.new }
 {
     tell_fault(ReceiptFault::OutOfMemory, err)
 }

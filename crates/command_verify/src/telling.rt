@@ -1,6 +1,7 @@
 //! The lines of what was found.
 
 ghost use Rattle.std.specs.Prelude.{◌≡◌, codes, length, map};
+ghost use Rattle.report_writing.specs.Lines.{StaysFailed};
 ghost use Rattle.report_writing.specs.Told.{AreToldTo};
 ghost use Rattle.report_writing.specs.Writing.{Tells};
 ghost use Rattle.table_receipts.specs.Values.{receipt_value};
@@ -13,8 +14,8 @@ use table_receipts::{MergedInterval, Receipt, ReceiptFault};
 /// Tells what differs from a receipt, by its lines; or, if nothing does, that.
 pub fn tell_differences<E: WriteLines>(receipt: &Receipt, lines: &[u8], err: &mut E) -> Status
     ensures tells { TellsDifferences (receipt_value receipt.now) lines.now result
-        (AreToldTo E.contents E.failed err.old err.new) }
-    ensures kept { E.failed err.old → E.failed err.new }
+        (AreToldTo E.lines err.old err.new) }
+    ensures kept { StaysFailed E.lines err.old err.new }
 {
     match lines {
         [] => {
@@ -30,7 +31,7 @@ pub fn tell_differences<E: WriteLines>(receipt: &Receipt, lines: &[u8], err: &mu
 
 #[tactic(auto, unfolding(crate::specs::Verified::verified_line))]
 fn write_verified<E: WriteLines>(inputs: usize, rows: u64, err: &mut E) -> io::Result<()>
-    ensures { Tells E.contents E.failed err.old err.new result (verified_line inputs rows) }
+    ensures { Tells E.lines err.old err.new result (verified_line inputs rows) }
 {
     writeln!(err, "collectd: verified: inputs {inputs} rows {rows}")
 }
@@ -38,15 +39,15 @@ fn write_verified<E: WriteLines>(inputs: usize, rows: u64, err: &mut E) -> io::R
 /// Tells that a table isn't made again whose rows were merged into these intervals.
 pub fn tell_merged<E: WriteLines>(interval: MergedInterval, err: &mut E) -> Status
     ensures status { result ≡ Status.NotOpened }
-    ensures told { AreToldTo E.contents E.failed err.old err.new (merged_line interval) }
-    ensures kept { E.failed err.old → E.failed err.new }
+    ensures told { AreToldTo E.lines err.old err.new (merged_line interval) }
+    ensures kept { StaysFailed E.lines err.old err.new }
 {
     let _ = write_merged(interval.name(), err);
     Status::NotOpened
 }
 
 fn write_merged<E: WriteLines>(interval: &str, err: &mut E) -> io::Result<()>
-    ensures { Tells E.contents E.failed err.old err.new result (merged_into_line interval.now) }
+    ensures { Tells E.lines err.old err.new result (merged_into_line interval.now) }
 {
     writeln!(
         err,
@@ -57,8 +58,8 @@ fn write_merged<E: WriteLines>(interval: &str, err: &mut E) -> io::Result<()>
 /// Tells why a text isn't read as a receipt.
 pub fn tell_fault<E: WriteLines>(fault: ReceiptFault, err: &mut E) -> Status
     ensures status { result ≡ fault_status fault }
-    ensures told { AreToldTo E.contents E.failed err.old err.new (fault_line fault) }
-    ensures kept { E.failed err.old → E.failed err.new }
+    ensures told { AreToldTo E.lines err.old err.new (fault_line fault) }
+    ensures kept { StaysFailed E.lines err.old err.new }
 {
     let _ = write_receipt_fault(fault, err);
     match fault {
@@ -68,7 +69,7 @@ pub fn tell_fault<E: WriteLines>(fault: ReceiptFault, err: &mut E) -> Status
 }
 
 fn write_receipt_fault<E: WriteLines>(fault: ReceiptFault, err: &mut E) -> io::Result<()>
-    ensures { Tells E.contents E.failed err.old err.new result (fault_line fault) }
+    ensures { Tells E.lines err.old err.new result (fault_line fault) }
 {
     match fault {
         ReceiptFault::OutOfMemory => write_fault("verify", 1, "OutOfMemory", err),

@@ -1,6 +1,7 @@
 //! Comparing a table with its receipt.
 
 ghost use Rattle.std.specs.Prelude.{◌≡◌, IfErr, IfOk};
+ghost use Rattle.report_writing.specs.Lines.{StaysFailed};
 ghost use Rattle.report_writing.specs.Told.{AreToldTo};
 ghost use Rattle.table_receipts.specs.Texts.{receipt_text};
 ghost use Rattle.table_receipts.specs.Values.{receipt_value};
@@ -67,9 +68,9 @@ pub fn run_verify<
     err: &mut E,
 ) -> Status
     ensures verifies { RunsVerify S.seen job.now result O.opens O.sizes O.refuses O.coming
-        files.old files.new (AreToldTo E.contents E.failed err.old err.new)
+        files.old files.new (AreToldTo E.lines err.old err.new)
         (T.has texts.now) (T.refuses texts.now) elements }
-    ensures kept { E.failed err.old → E.failed err.new }
+    ensures kept { StaysFailed E.lines err.old err.new }
 {
     let text = match texts.read_text(job.alloc, job.receipt) {
         Ok(text) => text,

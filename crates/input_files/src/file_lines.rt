@@ -11,7 +11,7 @@ use std::io;
 
 /// Writes the line of what is wrong with a file of elements, and where.
 pub fn write_error<W: WriteLines>(path: &str, error: &ElementsError, out: &mut W) -> io::Result<()>
-    ensures { Tells W.contents W.failed out.old out.new result (error_line path.now error.now) }
+    ensures { Tells W.lines out.old out.new result (error_line path.now error.now) }
 {
     write_file_start(path, out)?;
     write_place(error, out)?;
@@ -20,7 +20,7 @@ pub fn write_error<W: WriteLines>(path: &str, error: &ElementsError, out: &mut W
 
 /// Writes the line of the first row of a file that has a type that is not known.
 pub fn write_unknown_type<W: WriteLines>(path: &str, line: u64, out: &mut W) -> io::Result<()>
-    ensures { Tells W.contents W.failed out.old out.new result (unknown_type_line path.now line) }
+    ensures { Tells W.lines out.old out.new result (unknown_type_line path.now line) }
 {
     write_file_start(path, out)?;
     write_line_number(line, out)?;
@@ -29,13 +29,13 @@ pub fn write_unknown_type<W: WriteLines>(path: &str, line: u64, out: &mut W) -> 
 
 #[tactic(auto, unfolding(crate::specs::FileLines::file_start))]
 fn write_file_start<W: WriteLines>(path: &str, out: &mut W) -> io::Result<()>
-    ensures { Tells W.contents W.failed out.old out.new result (file_start path.now) }
+    ensures { Tells W.lines out.old out.new result (file_start path.now) }
 {
     write!(out, "collectd: elements: {path}")
 }
 
 fn write_place<W: WriteLines>(error: &ElementsError, out: &mut W) -> io::Result<()>
-    ensures { Tells W.contents W.failed out.old out.new result (place_of error.now) }
+    ensures { Tells W.lines out.old out.new result (place_of error.now) }
 {
     match error.fault {
         ElementsFault::OutOfMemory => Ok(()),
@@ -45,13 +45,13 @@ fn write_place<W: WriteLines>(error: &ElementsError, out: &mut W) -> io::Result<
 
 #[tactic(auto, unfolding(crate::specs::FileLines::place_text))]
 fn write_line_number<W: WriteLines>(line: u64, out: &mut W) -> io::Result<()>
-    ensures { Tells W.contents W.failed out.old out.new result (place_text line) }
+    ensures { Tells W.lines out.old out.new result (place_text line) }
 {
     write!(out, ": line {line}")
 }
 
 fn write_fault_end<W: WriteLines>(fault: ElementsFault, out: &mut W) -> io::Result<()>
-    ensures { Tells W.contents W.failed out.old out.new result (fault_end fault) }
+    ensures { Tells W.lines out.old out.new result (fault_end fault) }
 {
     match fault {
         ElementsFault::Column(heading) => write_column_end(heading.name(), out),
@@ -61,14 +61,14 @@ fn write_fault_end<W: WriteLines>(fault: ElementsFault, out: &mut W) -> io::Resu
 
 #[tactic(auto, unfolding(crate::specs::FileLines::column_text))]
 fn write_column_end<W: WriteLines>(heading: &str, out: &mut W) -> io::Result<()>
-    ensures { Tells W.contents W.failed out.old out.new result (column_text heading.now) }
+    ensures { Tells W.lines out.old out.new result (column_text heading.now) }
 {
     writeln!(out, ": fault 3 Column: {heading}")
 }
 
 #[tactic(auto, unfolding(report_writing::specs::FaultLines::fault_text))]
 fn write_number_and_name<W: WriteLines>(number: u8, name: &str, out: &mut W) -> io::Result<()>
-    ensures { Tells W.contents W.failed out.old out.new result (fault_text number name.now) }
+    ensures { Tells W.lines out.old out.new result (fault_text number name.now) }
 {
     writeln!(out, ": fault {number} {name}")
 }

@@ -1,6 +1,7 @@
 //! Reading files of elements.
 
 ghost use Rattle.std.specs.Prelude.{ℕ, List, [], map, IfNone, IfSome};
+ghost use Rattle.report_writing.specs.Lines.{Adds, StaysFailed};
 ghost use Rattle.report_writing.specs.Told.{AreToldTo};
 ghost use Rattle.input_files.specs.FileLines.{unknown_type_lines};
 ghost use Rattle.input_files.specs.Loaded.{Adds, Loads, Stops};
@@ -24,8 +25,8 @@ pub fn load_elements<T: ReadText, E: WriteLines>(
     // The files were added one after another, and exactly what there is to tell of them was told.
     ensures loads { (lines : List ℕ) × Loads (T.has files.now) (T.refuses files.now) verbosity []
         (map (λ path. path.now) paths.entry.now) result lines
-        × AreToldTo E.contents E.failed err.old err.new lines }
-    ensures kept { E.failed err.old → E.failed err.new }
+        × AreToldTo E.lines err.old err.new lines }
+    ensures kept { StaysFailed E.lines err.old err.new }
 {
     let mut elements = Elements::built_in(alloc);
     while let [path, rest @ ..] = paths {
@@ -46,11 +47,11 @@ fn add_path<T: ReadText, E: WriteLines>(
 ) -> Option<Elements>
     ensures adds { IfSome result (λ more. (lines : List ℕ)
         × Adds (T.has files.now) elements path.now more lines
-        × AreToldTo E.contents E.failed err.old err.new lines) }
+        × AreToldTo E.lines err.old err.new lines) }
     ensures stops { IfNone result ((lines : List ℕ)
         × Stops (T.has files.now) (T.refuses files.now) verbosity elements path.now lines
-        × AreToldTo E.contents E.failed err.old err.new lines) }
-    ensures kept { E.failed err.old → E.failed err.new }
+        × AreToldTo E.lines err.old err.new lines) }
+    ensures kept { StaysFailed E.lines err.old err.new }
 {
     let octets = match files.read_text(alloc, path) {
         Ok(octets) => octets,
@@ -72,9 +73,9 @@ fn add_path<T: ReadText, E: WriteLines>(
 }
 
 fn tell_unknown_type<E: WriteLines>(path: &str, unknown_type: Option<u64>, err: &mut E)
-    ensures told { AreToldTo E.contents E.failed err.old err.new
+    ensures told { AreToldTo E.lines err.old err.new
         (unknown_type_lines path.now unknown_type) }
-    ensures kept { E.failed err.old → E.failed err.new }
+    ensures kept { StaysFailed E.lines err.old err.new }
 {
     if let Some(line) = unknown_type {
         let _ = write_unknown_type(path, line, err);

@@ -2,6 +2,7 @@
 
 ghost use Rattle.std.specs.Prelude.{◌≡◌, ◌<◌, IfErr, IfOk, IfSome, IsErr, OnErr};
 ghost use Rattle.std.specs.Duration.{as_nanos};
+ghost use Rattle.report_writing.specs.Lines.{StaysFailed};
 ghost use Rattle.report_writing.specs.Told.{AreToldTo};
 ghost use Rattle.input_sources.specs.Origins.{ArePeers};
 ghost use Rattle.input_sources.specs.Had.{AreAccepted, IsReasonOf};
@@ -110,12 +111,12 @@ pub fn accept_all<
     // The peer that is told of each is its own.
     ensures peers { IfOk result
         (λ all. ArePeers (L.is_of listener.old) all.sources all.origins.items) }
-    ensures told { IfOk result (λ all. AreToldTo E.contents E.failed err.old err.new
+    ensures told { IfOk result (λ all. AreToldTo E.lines err.old err.new
         (opened_lines verbosity all.origins.items)) }
     ensures stopped { OnErr result (TellsPeers (L.is_of listener.old) verbosity
-        (AreToldTo E.contents E.failed err.old err.new)) }
+        (AreToldTo E.lines err.old err.new)) }
     ensures reason { IfErr result (IsReasonOf (L.refuses listener.old)) }
-    ensures kept { E.failed err.old → E.failed err.new }
+    ensures kept { StaysFailed E.lines err.old err.new }
 {
     let accepted = accept_each(rt, alloc, listener, count, idle, progress, verbosity, err);
     listener.close();
@@ -145,12 +146,12 @@ fn accept_each<
     ensures no_time { IfSome idle (λ limit. as_nanos limit ≡ 0 → 0 < count → IsErr result) }
     ensures peers { IfOk result
         (λ all. ArePeers (L.is_of listener.old) all.sources all.origins.items) }
-    ensures told { IfOk result (λ all. AreToldTo E.contents E.failed err.old err.new
+    ensures told { IfOk result (λ all. AreToldTo E.lines err.old err.new
         (opened_lines verbosity all.origins.items)) }
     ensures stopped { OnErr result (TellsPeers (L.is_of listener.old) verbosity
-        (AreToldTo E.contents E.failed err.old err.new)) }
+        (AreToldTo E.lines err.old err.new)) }
     ensures reason { IfErr result (IsReasonOf (L.refuses listener.old)) }
-    ensures kept { E.failed err.old → E.failed err.new }
+    ensures kept { StaysFailed E.lines err.old err.new }
 {
     let mut sources = UnreadSources::new(alloc);
     let mut origins = Vec::new(alloc);

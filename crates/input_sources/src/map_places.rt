@@ -23,7 +23,7 @@ pub fn write_map_fault<W: WriteLines>(
     error: &PlanMapsError,
     out: &mut W,
 ) -> io::Result<()>
-    ensures { Tells W.contents W.failed out.old out.new result
+    ensures { Tells W.lines out.old out.new result
         (lines.map_lines elements.now error.now) }
 {
     match error {
@@ -34,7 +34,7 @@ pub fn write_map_fault<W: WriteLines>(
 }
 
 fn write_no_maps<W: WriteLines>(out: &mut W) -> io::Result<()>
-    ensures { Tells W.contents W.failed out.old out.new result
+    ensures { Tells W.lines out.old out.new result
         (lines.map_fault ++ key_line (codes "map") (codes "not an array of tables")) }
 {
     write_map_fault_line(out)?;
@@ -42,7 +42,7 @@ fn write_no_maps<W: WriteLines>(out: &mut W) -> io::Result<()>
 }
 
 fn write_no_map<W: WriteLines>(place: usize, fault: MapTableFault, out: &mut W) -> io::Result<()>
-    ensures { Tells W.contents W.failed out.old out.new result
+    ensures { Tells W.lines out.old out.new result
         (lines.map_fault ++ (lines.map_start place ++ words_end (lines.map_words fault))) }
 {
     write_map_fault_line(out)?;
@@ -50,13 +50,13 @@ fn write_no_map<W: WriteLines>(place: usize, fault: MapTableFault, out: &mut W) 
 }
 
 fn write_map_fault_line<W: WriteLines>(out: &mut W) -> io::Result<()>
-    ensures { Tells W.contents W.failed out.old out.new result lines.map_fault }
+    ensures { Tells W.lines out.old out.new result lines.map_fault }
 {
     write_fault("plan", 9, "Map", out)
 }
 
 fn write_map_place<W: WriteLines>(place: usize, fault: MapTableFault, out: &mut W) -> io::Result<()>
-    ensures { Tells W.contents W.failed out.old out.new result
+    ensures { Tells W.lines out.old out.new result
         (lines.map_start place ++ words_end (lines.map_words fault)) }
 {
     write_map_start(place, out)?;
@@ -65,7 +65,7 @@ fn write_map_place<W: WriteLines>(place: usize, fault: MapTableFault, out: &mut 
 
 #[tactic(auto, unfolding(crate::specs::MapLines::map_start))]
 fn write_map_start<W: WriteLines>(place: usize, out: &mut W) -> io::Result<()>
-    ensures { Tells W.contents W.failed out.old out.new result (lines.map_start place) }
+    ensures { Tells W.lines out.old out.new result (lines.map_start place) }
 {
     write!(out, "collectd: plan: map {place}")
 }
@@ -85,14 +85,14 @@ fn words_of(fault: MapTableFault) -> &'static str
 
 /// Writes the line of a fault by which the keys of maps can't be added to the elements.
 pub fn write_key_fault<W: WriteLines>(fault: ElementsFault, out: &mut W) -> io::Result<()>
-    ensures { Tells W.contents W.failed out.old out.new result (lines.key_lines fault) }
+    ensures { Tells W.lines out.old out.new result (lines.key_lines fault) }
 {
     write_fault("plan: keys of maps", fault.number(), fault.name(), out)
 }
 
 /// Writes the line of what is wrong with the file of a map, and where.
 pub fn write_file_fault<W: WriteLines>(path: &str, error: MapError, out: &mut W) -> io::Result<()>
-    ensures { Tells W.contents W.failed out.old out.new result (lines.file_line path.now error) }
+    ensures { Tells W.lines out.old out.new result (lines.file_line path.now error) }
 {
     write_file_start(path, out)?;
     write_line(error, out)?;
@@ -101,13 +101,13 @@ pub fn write_file_fault<W: WriteLines>(path: &str, error: MapError, out: &mut W)
 
 #[tactic(auto, unfolding(crate::specs::MapLines::file_start))]
 fn write_file_start<W: WriteLines>(path: &str, out: &mut W) -> io::Result<()>
-    ensures { Tells W.contents W.failed out.old out.new result (lines.file_start path.now) }
+    ensures { Tells W.lines out.old out.new result (lines.file_start path.now) }
 {
     write!(out, "collectd: map: {path}")
 }
 
 fn write_line<W: WriteLines>(error: MapError, out: &mut W) -> io::Result<()>
-    ensures { Tells W.contents W.failed out.old out.new result
+    ensures { Tells W.lines out.old out.new result
         (lines.line_of error.fault error.line) }
 {
     match error.fault {
@@ -118,14 +118,14 @@ fn write_line<W: WriteLines>(error: MapError, out: &mut W) -> io::Result<()>
 
 #[tactic(auto, unfolding(crate::specs::MapLines::line_text))]
 fn write_line_number<W: WriteLines>(line: u64, out: &mut W) -> io::Result<()>
-    ensures { Tells W.contents W.failed out.old out.new result (lines.line_text line) }
+    ensures { Tells W.lines out.old out.new result (lines.line_text line) }
 {
     write!(out, ": line {line}")
 }
 
 #[tactic(auto, unfolding(report_writing::specs::FaultLines::fault_text))]
 fn write_fault_end<W: WriteLines>(fault: MapFault, out: &mut W) -> io::Result<()>
-    ensures { Tells W.contents W.failed out.old out.new result
+    ensures { Tells W.lines out.old out.new result
         (fault_text (files.number_of fault) (files.name_of fault)) }
 {
     write_number_and_name(fault.number(), fault.name(), out)
@@ -133,7 +133,7 @@ fn write_fault_end<W: WriteLines>(fault: MapFault, out: &mut W) -> io::Result<()
 
 #[tactic(auto, unfolding(report_writing::specs::FaultLines::fault_text))]
 fn write_number_and_name<W: WriteLines>(number: u8, name: &str, out: &mut W) -> io::Result<()>
-    ensures { Tells W.contents W.failed out.old out.new result (fault_text number name.now) }
+    ensures { Tells W.lines out.old out.new result (fault_text number name.now) }
 {
     writeln!(out, ": fault {number} {name}")
 }

@@ -2,6 +2,7 @@
 
 ghost use Rattle.std.specs.Prelude.{◌≡◌, ℕ, List, map, IfNone, IfSome};
 ghost use Rattle.prefix_numbers.specs.Maps.{IsMapOf};
+ghost use Rattle.report_writing.specs.Lines.{StaysFailed};
 ghost use Rattle.report_writing.specs.Told.{AreToldTo};
 ghost use Rattle.input_sources.specs.MapsLoaded.{AreMapsOf, IsLoadedFrom, IsMapAt, TellsNoMap, TellsNoMaps};
 
@@ -44,8 +45,8 @@ pub fn load_maps<T: ReadText, E: WriteLines>(
     // Nothing is told if all were read.
     ensures silent { IfSome result (λ _. err.new ≡ err.old) }
     ensures told { IfNone result (TellsNoMaps (T.has files.now) (T.refuses files.now) verbosity
-        (map (λ path. path.now) paths.entry.now) (AreToldTo E.contents E.failed err.old err.new)) }
-    ensures kept { E.failed err.old → E.failed err.new }
+        (map (λ path. path.now) paths.entry.now) (AreToldTo E.lines err.old err.new)) }
+    ensures kept { StaysFailed E.lines err.old err.new }
 {
     let mut maps = Vec::new(alloc);
     while let [path, rest @ ..] = paths {
@@ -72,8 +73,8 @@ fn load_map<T: ReadText, E: WriteLines>(
     ensures map { IfSome result (IsMapAt (T.has files.now) path.now) }
     ensures silent { IfSome result (λ _. err.new ≡ err.old) }
     ensures told { IfNone result (TellsNoMap (T.has files.now) (T.refuses files.now) verbosity
-        path.now (AreToldTo E.contents E.failed err.old err.new)) }
-    ensures kept { E.failed err.old → E.failed err.new }
+        path.now (AreToldTo E.lines err.old err.new)) }
+    ensures kept { StaysFailed E.lines err.old err.new }
 {
     let octets = match files.read_text(alloc, path) {
         Ok(octets) => octets,

@@ -4,6 +4,7 @@ ghost use Rattle.std.specs.Prelude.{◌≡◌, map, IfErr, IfOk};
 ghost use Rattle.input_sources.specs.Had.{ComesNext, HoldBefore, IsReasonOf, IsUnread, PathsAreOpened};
 ghost use Rattle.input_sources.specs.Origins.{AreFiles, IsFileNamed};
 ghost use Rattle.input_sources.specs.InputsTold.{opened_lines, StopsAt};
+ghost use Rattle.report_writing.specs.Lines.{StaysFailed};
 ghost use Rattle.report_writing.specs.Told.{AreToldTo};
 
 use crate::opening::{OpenSource, Opened};
@@ -54,14 +55,14 @@ pub fn open_all<
     // What is told of each is its path and its size.
     ensures named { IfOk result
         (λ all. AreFiles (O.sizes files.old) paths.now all.origins.items) }
-    ensures told { IfOk result (λ all. AreToldTo E.contents E.failed err.old err.new
+    ensures told { IfOk result (λ all. AreToldTo E.lines err.old err.new
         (opened_lines verbosity all.origins.items)) }
     ensures stops { IfErr result
         (λ stopped. StopsAt (O.sizes files.old) (map (λ path. path.now) paths.now) verbosity
-        (AreToldTo E.contents E.failed err.old err.new) stopped.path.now) }
+        (AreToldTo E.lines err.old err.new) stopped.path.now) }
     ensures reason { IfErr result
         (λ stopped. IsReasonOf (O.refuses files.old stopped.path.now) stopped.reason) }
-    ensures kept { E.failed err.old → E.failed err.new }
+    ensures kept { StaysFailed E.lines err.old err.new }
 {
     let mut sources = UnreadSources::new(alloc);
     let mut origins = Vec::new(alloc);

@@ -18,7 +18,7 @@ pub fn write_place<W: WriteLines>(
     error: &PlanTextError,
     out: &mut W,
 ) -> io::Result<()>
-    ensures { Tells W.contents W.failed out.old out.new result (place_line elements.now error.now) }
+    ensures { Tells W.lines out.old out.new result (place_line elements.now error.now) }
 {
     match error {
         PlanTextError::NotUtf8 { line } => write_line(*line, "not UTF-8", out),
@@ -42,7 +42,7 @@ pub fn write_place<W: WriteLines>(
 
 #[tactic(auto, unfolding(crate::specs::PlaceLines::line_line))]
 fn write_line<W: WriteLines>(line: usize, words: &str, out: &mut W) -> io::Result<()>
-    ensures { Tells W.contents W.failed out.old out.new result (line_line line words.now) }
+    ensures { Tells W.lines out.old out.new result (line_line line words.now) }
 {
     writeln!(out, "collectd: plan: line {line}: {words}")
 }
@@ -54,7 +54,7 @@ fn write_toml_line<W: WriteLines>(
     message: &str,
     out: &mut W,
 ) -> io::Result<()>
-    ensures { Tells W.contents W.failed out.old out.new result (toml_line line column message.now) }
+    ensures { Tells W.lines out.old out.new result (toml_line line column message.now) }
 {
     write_column_start(line, column, out)?;
     write_octets(message.as_bytes(), out)?;
@@ -63,21 +63,21 @@ fn write_toml_line<W: WriteLines>(
 
 #[tactic(auto, unfolding(crate::specs::PlaceLines::column_start))]
 fn write_column_start<W: WriteLines>(line: usize, column: usize, out: &mut W) -> io::Result<()>
-    ensures { Tells W.contents W.failed out.old out.new result (column_start line column) }
+    ensures { Tells W.lines out.old out.new result (column_start line column) }
 {
     write!(out, "collectd: plan: line {line}, column {column}: ")
 }
 
 /// Writes the line of a key, and what is wrong with it.
 pub fn write_key_line<W: WriteLines>(key: &str, words: &str, out: &mut W) -> io::Result<()>
-    ensures { Tells W.contents W.failed out.old out.new result (key_line key.now words.now) }
+    ensures { Tells W.lines out.old out.new result (key_line key.now words.now) }
 {
     write_key(key, out)?;
     write_words_end(words, out)
 }
 
 fn write_key<W: WriteLines>(key: &str, out: &mut W) -> io::Result<()>
-    ensures { Tells W.contents W.failed out.old out.new result (key_start key.now) }
+    ensures { Tells W.lines out.old out.new result (key_start key.now) }
 {
     write!(out, "collectd: plan: key ")?;
     write_quoted(key, out)
@@ -86,7 +86,7 @@ fn write_key<W: WriteLines>(key: &str, out: &mut W) -> io::Result<()>
 /// Writes what is wrong, at the end of a line.
 #[tactic(auto, unfolding(crate::specs::PlaceLines::words_end))]
 pub fn write_words_end<W: WriteLines>(words: &str, out: &mut W) -> io::Result<()>
-    ensures { Tells W.contents W.failed out.old out.new result (words_end words.now) }
+    ensures { Tells W.lines out.old out.new result (words_end words.now) }
 {
     writeln!(out, ": {words}")
 }
@@ -94,7 +94,7 @@ pub fn write_words_end<W: WriteLines>(words: &str, out: &mut W) -> io::Result<()
 /// Writes at the end of a line that no element has a name.
 #[tactic(auto, unfolding(crate::specs::PlaceLines::name_end))]
 pub fn write_name_end<W: WriteLines>(text: &str, out: &mut W) -> io::Result<()>
-    ensures { Tells W.contents W.failed out.old out.new result (name_end text.now) }
+    ensures { Tells W.lines out.old out.new result (name_end text.now) }
 {
     write!(out, ": no element is named ")?;
     write_quoted(text, out)?;
@@ -108,7 +108,7 @@ fn write_rule<W: WriteLines>(
     place: &PlanPlace,
     out: &mut W,
 ) -> io::Result<()>
-    ensures { Tells W.contents W.failed out.old out.new result
+    ensures { Tells W.lines out.old out.new result
         (rule_line elements.now fault place.now) }
 {
     let words = rule_words(elements, fault);
@@ -127,13 +127,13 @@ fn write_rule<W: WriteLines>(
 
 #[tactic(auto, unfolding(crate::specs::PlaceLines::count_end))]
 fn write_count_end<W: WriteLines>(count: usize, words: &str, out: &mut W) -> io::Result<()>
-    ensures { Tells W.contents W.failed out.old out.new result (count_end count words.now) }
+    ensures { Tells W.lines out.old out.new result (count_end count words.now) }
 {
     writeln!(out, ": {count} elements, {words}")
 }
 
 fn write_text_end<W: WriteLines>(text: &str, words: &str, out: &mut W) -> io::Result<()>
-    ensures { Tells W.contents W.failed out.old out.new result (text_end text.now words.now) }
+    ensures { Tells W.lines out.old out.new result (text_end text.now words.now) }
 {
     write!(out, ": ")?;
     write_quoted(text, out)?;
@@ -141,7 +141,7 @@ fn write_text_end<W: WriteLines>(text: &str, words: &str, out: &mut W) -> io::Re
 }
 
 fn write_end<W: WriteLines>(words: &str, out: &mut W) -> io::Result<()>
-    ensures { Tells W.contents W.failed out.old out.new result (words.now ++ codes "\n") }
+    ensures { Tells W.lines out.old out.new result (words.now ++ codes "\n") }
 {
     writeln!(out, "{words}")
 }

@@ -4,6 +4,7 @@ ghost use Rattle.std.specs.Prelude.{ℕ, List, IfNone, IfSome, ◌≡◌};
 ghost use Rattle.std.specs.Option.{ForSome};
 ghost use Rattle.flow_table.specs.Plans.{IsPlan};
 ghost use Rattle.flow_plan_fields.specs.Tables.{IsSaid};
+ghost use Rattle.report_writing.specs.Lines.{StaysFailed};
 ghost use Rattle.report_writing.specs.Told.{AreToldTo};
 ghost use Rattle.input_sources.specs.PlansTold.{IsLoaded, TellsNoPlan, TellsNoText, table_of};
 
@@ -43,8 +44,8 @@ pub fn load_plan<T: ReadText, E: WriteLines>(
     // Else why the path has none was told, and nothing else.
     ensures told { IfNone result (TellsNoPlan elements (T.has files.now path.now)
         (T.refuses files.now path.now) verbosity path.now
-        (AreToldTo E.contents E.failed err.old err.new)) }
-    ensures kept { E.failed err.old → E.failed err.new }
+        (AreToldTo E.lines err.old err.new)) }
+    ensures kept { StaysFailed E.lines err.old err.new }
 {
     let octets = match files.read_text(alloc, path) {
         Ok(octets) => octets,
@@ -69,8 +70,8 @@ pub fn load_plan_text<E: WriteLines>(
     ensures sound { ForSome result (λ loaded. IsPlan loaded.read.plan) }
     ensures silent { IfSome result (λ _. err.new ≡ err.old) }
     ensures told { IfNone result (TellsNoText elements octets.now
-        (AreToldTo E.contents E.failed err.old err.new)) }
-    ensures kept { E.failed err.old → E.failed err.new }
+        (AreToldTo E.lines err.old err.new)) }
+    ensures kept { StaysFailed E.lines err.old err.new }
 {
     let maps = match read_plan_maps(alloc, &elements, octets) {
         Ok(maps) => maps,

@@ -25,7 +25,7 @@ pub fn write_plan_fault<W: WriteLines>(
     error: &PlanTextError,
     out: &mut W,
 ) -> io::Result<()>
-    ensures { Tells W.contents W.failed out.old out.new result
+    ensures { Tells W.lines out.old out.new result
         (plan_lines elements.now error.now) }
 {
     write_plan_fault_line(error.fault(), out)?;
@@ -39,7 +39,7 @@ pub fn write_filtered_fault<W: WriteLines>(
     error: &FilteredPlanError,
     out: &mut W,
 ) -> io::Result<()>
-    ensures { Tells W.contents W.failed out.old out.new result
+    ensures { Tells W.lines out.old out.new result
         (filtered_lines elements.now error.now) }
 {
     match error {
@@ -51,7 +51,7 @@ pub fn write_filtered_fault<W: WriteLines>(
 }
 
 fn write_no_conditions<W: WriteLines>(out: &mut W) -> io::Result<()>
-    ensures { Tells W.contents W.failed out.old out.new result
+    ensures { Tells W.lines out.old out.new result
         (filter_fault ++ key_line (codes "where") (codes "not an array of tables")) }
 {
     write_filter_fault(out)?;
@@ -63,7 +63,7 @@ fn write_no_condition<W: WriteLines>(
     fault: &WhereFault,
     out: &mut W,
 ) -> io::Result<()>
-    ensures { Tells W.contents W.failed out.old out.new result
+    ensures { Tells W.lines out.old out.new result
         (filter_fault ++ (where_start place ++ where_end fault.now)) }
 {
     write_filter_fault(out)?;
@@ -71,13 +71,13 @@ fn write_no_condition<W: WriteLines>(
 }
 
 fn write_filter_fault<W: WriteLines>(out: &mut W) -> io::Result<()>
-    ensures { Tells W.contents W.failed out.old out.new result filter_fault }
+    ensures { Tells W.lines out.old out.new result filter_fault }
 {
     write_fault("plan", 8, "Filter", out)
 }
 
 fn write_plan_fault_line<W: WriteLines>(fault: PlanTextFault, out: &mut W) -> io::Result<()>
-    ensures { Tells W.contents W.failed out.old out.new result
+    ensures { Tells W.lines out.old out.new result
         (codes "collectd: plan" ++ plan_fault_text fault) }
 {
     match fault {
@@ -87,14 +87,14 @@ fn write_plan_fault_line<W: WriteLines>(fault: PlanTextFault, out: &mut W) -> io
 }
 
 fn write_text_fault<W: WriteLines>(fault: PlanTextFault, out: &mut W) -> io::Result<()>
-    ensures { Tells W.contents W.failed out.old out.new result
+    ensures { Tells W.lines out.old out.new result
         (codes "collectd: plan" ++ fault_text (text.number_of fault) (text.name_of fault)) }
 {
     write_fault("plan", fault.number(), fault.name(), out)
 }
 
 fn write_inner_fault<W: WriteLines>(fault: PlanFault, out: &mut W) -> io::Result<()>
-    ensures { Tells W.contents W.failed out.old out.new result
+    ensures { Tells W.lines out.old out.new result
         (codes "collectd: plan: fault 6 Plan"
         ++ fault_text (plan.number_of fault) (plan.name_of fault)) }
 {

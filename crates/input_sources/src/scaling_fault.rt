@@ -14,28 +14,28 @@ use std::io;
 /// Writes the line of the fault of a plan whose value of `sampling` is none of the words that there are, and then the
 /// line that tells where it is.
 pub fn write_no_sampling<W: WriteLines>(out: &mut W) -> io::Result<()>
-    ensures { Tells W.contents W.failed out.old out.new result lines.sampling_lines }
+    ensures { Tells W.lines out.old out.new result lines.sampling_lines }
 {
     write_with("not \"ignore\", \"refuse\" or \"scale\"", out)
 }
 
 /// Writes the line of the fault of a plan whose counters can't be scaled, and then the line that tells why.
 pub fn write_scaling_fault<W: WriteLines>(fault: ScalingFault, out: &mut W) -> io::Result<()>
-    ensures { Tells W.contents W.failed out.old out.new result (lines.scaling_lines fault) }
+    ensures { Tells W.lines out.old out.new result (lines.scaling_lines fault) }
 {
     write_with(words_of(fault), out)
 }
 
 // Writes the line of the fault, and then the line that tells with these words what it is.
 fn write_with<W: WriteLines>(words: &str, out: &mut W) -> io::Result<()>
-    ensures { Tells W.contents W.failed out.old out.new result (lines.fault_with words.now) }
+    ensures { Tells W.lines out.old out.new result (lines.fault_with words.now) }
 {
     write_sampling_fault(out)?;
     write_key_line("sampling", words, out)
 }
 
 fn write_sampling_fault<W: WriteLines>(out: &mut W) -> io::Result<()>
-    ensures { Tells W.contents W.failed out.old out.new result lines.sampling_fault }
+    ensures { Tells W.lines out.old out.new result lines.sampling_fault }
 {
     write_fault("plan", 10, "Sampling", out)
 }

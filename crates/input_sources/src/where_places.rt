@@ -12,7 +12,7 @@ use std::io;
 
 /// Writes which `[[where]]` has the fault, and what is wrong with it.
 pub fn write_where<W: WriteLines>(place: usize, fault: &WhereFault, out: &mut W) -> io::Result<()>
-    ensures { Tells W.contents W.failed out.old out.new result
+    ensures { Tells W.lines out.old out.new result
         (where_start place ++ where_end fault.now) }
 {
     write_where_start(place, out)?;
@@ -21,13 +21,13 @@ pub fn write_where<W: WriteLines>(place: usize, fault: &WhereFault, out: &mut W)
 
 #[tactic(auto, unfolding(crate::specs::WhereLines::where_start))]
 fn write_where_start<W: WriteLines>(place: usize, out: &mut W) -> io::Result<()>
-    ensures { Tells W.contents W.failed out.old out.new result (where_start place) }
+    ensures { Tells W.lines out.old out.new result (where_start place) }
 {
     write!(out, "collectd: plan: where {place}")
 }
 
 fn write_where_end<W: WriteLines>(fault: &WhereFault, out: &mut W) -> io::Result<()>
-    ensures { Tells W.contents W.failed out.old out.new result (where_end fault.now) }
+    ensures { Tells W.lines out.old out.new result (where_end fault.now) }
 {
     match fault {
         WhereFault::NoTable => write_words_end("not a table", out),
@@ -53,7 +53,7 @@ fn write_where_end<W: WriteLines>(fault: &WhereFault, out: &mut W) -> io::Result
 
 // Writes a key, and what is wrong with it.
 fn write_key_words<W: WriteLines>(key: &str, words: &str, out: &mut W) -> io::Result<()>
-    ensures { Tells W.contents W.failed out.old out.new result
+    ensures { Tells W.lines out.old out.new result
         (where_key key.now ++ words_end words.now) }
 {
     write_key(key, out)?;
@@ -61,14 +61,14 @@ fn write_key_words<W: WriteLines>(key: &str, words: &str, out: &mut W) -> io::Re
 }
 
 fn write_key<W: WriteLines>(key: &str, out: &mut W) -> io::Result<()>
-    ensures { Tells W.contents W.failed out.old out.new result (where_key key.now) }
+    ensures { Tells W.lines out.old out.new result (where_key key.now) }
 {
     write!(out, ": key ")?;
     write_quoted(key, out)
 }
 
 fn write_key_name<W: WriteLines>(text: &str, out: &mut W) -> io::Result<()>
-    ensures { Tells W.contents W.failed out.old out.new result
+    ensures { Tells W.lines out.old out.new result
         (where_key (codes "element") ++ name_end text.now) }
 {
     write_key("element", out)?;
@@ -76,7 +76,7 @@ fn write_key_name<W: WriteLines>(text: &str, out: &mut W) -> io::Result<()>
 }
 
 fn write_key_count<W: WriteLines>(key: &str, count: usize, out: &mut W) -> io::Result<()>
-    ensures { Tells W.contents W.failed out.old out.new result
+    ensures { Tells W.lines out.old out.new result
         (where_key key.now ++ count_end count) }
 {
     write_key(key, out)?;
@@ -85,13 +85,13 @@ fn write_key_count<W: WriteLines>(key: &str, count: usize, out: &mut W) -> io::R
 
 #[tactic(auto, unfolding(crate::specs::WhereLines::count_end))]
 fn write_count_end<W: WriteLines>(count: usize, out: &mut W) -> io::Result<()>
-    ensures { Tells W.contents W.failed out.old out.new result (count_end count) }
+    ensures { Tells W.lines out.old out.new result (count_end count) }
 {
     writeln!(out, ": {count} texts, must be 1 to 64")
 }
 
 fn write_key_text<W: WriteLines>(key: &str, text: &str, out: &mut W) -> io::Result<()>
-    ensures { Tells W.contents W.failed out.old out.new result
+    ensures { Tells W.lines out.old out.new result
         (where_key key.now ++ text_end text.now) }
 {
     write_key(key, out)?;
@@ -99,7 +99,7 @@ fn write_key_text<W: WriteLines>(key: &str, text: &str, out: &mut W) -> io::Resu
 }
 
 fn write_text_end<W: WriteLines>(text: &str, out: &mut W) -> io::Result<()>
-    ensures { Tells W.contents W.failed out.old out.new result (text_end text.now) }
+    ensures { Tells W.lines out.old out.new result (text_end text.now) }
 {
     write!(out, ": ")?;
     write_quoted(text, out)?;
@@ -107,7 +107,7 @@ fn write_text_end<W: WriteLines>(text: &str, out: &mut W) -> io::Result<()>
 }
 
 fn write_no_values<W: WriteLines>(out: &mut W) -> io::Result<()>
-    ensures { Tells W.contents W.failed out.old out.new result
+    ensures { Tells W.lines out.old out.new result
         (codes ": no values of the element\n") }
 {
     writeln!(out, ": no values of the element")

@@ -9,7 +9,7 @@ use std::io;
 
 /// Writes the line of a fault of the export.
 pub fn write_export_fault<W: WriteLines>(fault: ExportFault, out: &mut W) -> io::Result<()>
-    ensures { Tells W.contents W.failed out.old out.new result (export_fault_line fault) }
+    ensures { Tells W.lines out.old out.new result (export_fault_line fault) }
 {
     write_fault("export", fault.number(), fault.name(), out)
 }

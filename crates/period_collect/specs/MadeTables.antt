@@ -90,7 +90,7 @@ module _ {S O E : Type 0} {as_source : source.Ghosts S} {as_opener : opening.Gho
     pub same_made : IsSameMade to.made before.job.made.now
     pub left_out : map string_bytes to.made.left_out.items ≡ paths_at out (map string_bytes paths)
     pub runs : ReceiptedFiles (λ v. Some v.items) Holds to ended as_source.seen as_source.failure with_exporters as_opener.opens as_opener.sizes as_opener.refuses as_opener.coming
-        before.opening after.opening words (AreToldTo as_writer.contents as_writer.failed before.err after.err)
+        before.opening after.opening words (AreToldTo as_writer.lines before.err after.err)
     pub hindered : IfSome ended.hindrance (HinderFiles as_source.seen with_exporters as_opener.opens as_opener.sizes as_opener.coming before.opening after.opening words)
     pub same_job : after.job ≡ before.job
 

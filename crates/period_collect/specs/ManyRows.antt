@@ -76,7 +76,7 @@ module _ {S O E : Type 0} {as_source : source.Ghosts S} {as_opener : opening.Gho
     pub are_paths : AreFilePaths before.job.recordings.now begins files paths
     pub finds : FindsLarge before collected (kept_of out (map string_bytes paths)) large
     pub are : lot ≡ map (kept_place out (length paths)) large
-    pub told : AreToldTo as_writer.contents as_writer.failed collected.err after.err (large_lines before.job.rows_of_a_session (paths_at lot (map string_bytes paths)))
+    pub told : AreToldTo as_writer.lines collected.err after.err (large_lines before.job.rows_of_a_session (paths_at lot (map string_bytes paths)))
     pub same_opening : after.opening ≡ collected.opening
     pub same_job : after.job ≡ collected.job
 

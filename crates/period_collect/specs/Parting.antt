@@ -64,7 +64,7 @@ module _ {S O E : Type 0} {as_source : source.Ghosts S} {as_opener : opening.Gho
     pub opened : PathsAreOpened as_opener.opens as_opener.coming before.opening after.opening (word ∷ []) sources
     pub files : AreFiles (as_opener.sizes before.opening) (word ∷ []) origins
     pub gave : GiveAlone as_source.seen with_exporter sources origins alone
-    pub told : AreToldTo as_writer.contents as_writer.failed before.err after.err []
+    pub told : AreToldTo as_writer.lines before.err after.err []
     pub same : after.job ≡ before.job
 
   -- each of these files was, in their order
@@ -85,7 +85,7 @@ module _ {S O E : Type 0} {as_source : source.Ghosts S} {as_opener : opening.Gho
     pub collected : TableMaker S O E as_source as_opener as_writer
     pub are_paths : AreFilePaths before.job.recordings.now begins files paths
     pub leaves_out : LeavesOut before collected (map string_bytes paths) out
-    pub told : AreToldTo as_writer.contents as_writer.failed collected.err after.err (left_out_lines (paths_at out (map string_bytes paths)))
+    pub told : AreToldTo as_writer.lines collected.err after.err (left_out_lines (paths_at out (map string_bytes paths)))
     pub same_opening : after.opening ≡ collected.opening
     pub same_job : after.job ≡ collected.job
 
@@ -108,7 +108,7 @@ module _ {S O E : Type 0} {as_source : source.Ghosts S} {as_opener : opening.Gho
     pub paths : List (String Global)
     pub are_paths : AreFilePaths before.job.recordings.now begins files paths
     pub are : lot ≡ kept_place out (length paths) second ∷ []
-    pub told : AreToldTo as_writer.contents as_writer.failed before.err after.err
+    pub told : AreToldTo as_writer.lines before.err after.err
         (same_line (slice_index_or (map string_bytes paths) (kept_place out (length paths) first) []) (slice_index_or (map string_bytes paths) (kept_place out (length paths) second) []))
     pub same_opening : after.opening ≡ before.opening
     pub same_job : after.job ≡ before.job

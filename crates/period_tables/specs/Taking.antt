@@ -56,8 +56,8 @@ module _ {F S O E T P L : Type 0} {as_source : source.Ghosts S} {as_opener : ope
     pub is_name : IsPeriodName period.begins name
     pub is_path : as_place.seen.path_at before.desk.tables period.begins path
     pub taken : IsOutcome as_folder round.rule round.now unfinished period before.desk after.desk outcome
-    pub paths : AreToldTo as_out.contents as_out.failed before.out after.out (outcome_paths path outcome)
-    pub lines : AreToldTo as_err.contents as_err.failed before.err after.err (outcome_lines round.tells_waiting name (label_text round.plan name) outcome)
+    pub paths : AreToldTo as_out.lines before.out after.out (outcome_paths path outcome)
+    pub lines : AreToldTo as_err.lines before.err after.err (outcome_lines round.tells_waiting name (label_text round.plan name) outcome)
     pub rounds : after.rounds ≡ before.rounds
     pub status : took.status ≡ outcome_status outcome
     pub settled : took.settled ≡ settles outcome
@@ -106,7 +106,7 @@ module _ {F S O E T P L : Type 0} {as_source : source.Ghosts S} {as_opener : ope
     pub why : as_folder.refuses after.desk.folder None reason
     pub none : as_folder.listed after.desk.folder ≡ as_folder.listed before.desk.folder
     pub rest : after ≡ record before { desk = record before.desk { folder = after.desk.folder }; err = after.err }
-    pub lines : AreToldTo as_err.contents as_err.failed before.err after.err (unlisted_lines round.tells_waiting round.from.now reason)
+    pub lines : AreToldTo as_err.lines before.err after.err (unlisted_lines round.tells_waiting round.from.now reason)
     pub status_is : status ≡ reason_status reason
 
   abbrev pub Takes : Round → List Period → Status → TablesWork F as_source as_opener as_writer as_place as_out as_err → TablesWork F as_source as_opener as_writer as_place as_out as_err → Type 0

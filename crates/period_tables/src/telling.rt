@@ -25,7 +25,7 @@ pub fn tell_outcome<E: WriteLines>(
     err: &mut E,
 ) -> Status
     ensures status { result ≡ outcome_status outcome.now }
-    ensures told { AreToldTo E.contents E.failed err.old err.new
+    ensures told { AreToldTo E.lines err.old err.new
         (outcome_lines tells period.now table.now outcome.now) }
 {
     // (a line that can't be written stops nothing)
@@ -40,7 +40,7 @@ fn write_outcome<E: WriteLines>(
     tells: bool,
     err: &mut E,
 ) -> io::Result<()>
-    ensures { Tells E.contents E.failed err.old err.new result
+    ensures { Tells E.lines err.old err.new result
         (outcome_lines tells period.now table.now outcome.now) }
 {
     match outcome {
@@ -73,7 +73,7 @@ pub fn write_period<E: WriteLines>(
     name: &str,
     err: &mut E,
 ) -> io::Result<()>
-    ensures { Tells E.contents E.failed err.old err.new result
+    ensures { Tells E.lines err.old err.new result
         (period_line period.now what.now name.now) }
 {
     writeln!(err, "collectd: tables: {period}: {what}: {name}")
@@ -81,14 +81,14 @@ pub fn write_period<E: WriteLines>(
 
 #[tactic(auto, unfolding(crate::specs::Telling::state_line))]
 fn write_state<E: WriteLines>(period: &str, state: &str, err: &mut E) -> io::Result<()>
-    ensures { Tells E.contents E.failed err.old err.new result (state_line period.now state.now) }
+    ensures { Tells E.lines err.old err.new result (state_line period.now state.now) }
 {
     writeln!(err, "collectd: tables: {period}: {state}")
 }
 
 /// Writes the path of a table if it was made.
 pub fn write_paths<O: WriteLines>(path: &str, outcome: &Outcome, out: &mut O)
-    ensures { AreToldTo O.contents O.failed out.old out.new (outcome_paths path.now outcome.now) }
+    ensures { AreToldTo O.lines out.old out.new (outcome_paths path.now outcome.now) }
 {
     if let Outcome::Made(_) = outcome {
         let _ = write_path(path, out);
@@ -98,14 +98,14 @@ pub fn write_paths<O: WriteLines>(path: &str, outcome: &Outcome, out: &mut O)
 /// Writes the path of a table.
 #[tactic(auto, unfolding(crate::specs::Telling::path_line))]
 pub fn write_path<O: WriteLines>(path: &str, out: &mut O) -> io::Result<()>
-    ensures { Tells O.contents O.failed out.old out.new result (path_line path.now) }
+    ensures { Tells O.lines out.old out.new result (path_line path.now) }
 {
     writeln!(out, "{path}")
 }
 
 /// Writes that the folder of recordings of this path can't be listed, if it is time for that.
 pub fn tell_unlisted<E: WriteLines>(from: &str, reason: Reason, tells: bool, err: &mut E)
-    ensures { AreToldTo E.contents E.failed err.old err.new (unlisted_lines tells from.now reason) }
+    ensures { AreToldTo E.lines err.old err.new (unlisted_lines tells from.now reason) }
 {
     if tells {
         let _ = write_not_had_because(WITH_REASONS, "folder", from, reason, err);
@@ -115,7 +115,7 @@ pub fn tell_unlisted<E: WriteLines>(from: &str, reason: Reason, tells: bool, err
 /// Writes that the recordings of the period of this name were removed, or why not, and answers how the command ends by it.
 pub fn tell_removal<E: WriteLines>(period: &str, removed: Result<(), Reason>, err: &mut E) -> Status
     ensures status { result ≡ removal_status removed }
-    ensures told { AreToldTo E.contents E.failed err.old err.new (removal_line period.now removed) }
+    ensures told { AreToldTo E.lines err.old err.new (removal_line period.now removed) }
 {
     match removed {
         Ok(()) => {

@@ -124,7 +124,7 @@ fn tell_taken<E: WriteLines>(
 ) -> Took
     ensures status { result.status ≡ outcome_status outcome.now }
     ensures settled { result.settled ≡ settles outcome.now }
-    ensures told { AreToldTo E.contents E.failed err.old err.new
+    ensures told { AreToldTo E.lines err.old err.new
         (outcome_lines tells period.now table.now outcome.now) }
 {
     Took {

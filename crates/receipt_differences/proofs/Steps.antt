@@ -5,14 +5,15 @@ use Rattle.std.specs.List.{flat_map}
 use Rattle.std.specs.Io.KnownBytes.{Appends}
 use Rattle.std.proofs.KnownBytes.{Appends-trans}
 use Rattle.std.proofs.lemmas.List.{flat_map_more, take_more}
+use Rattle.report_writing.specs.Lines.{LinesView}
 use Rattle.report_writing.specs.Writing.{Tells}
 
 -- what a call tells after what was told before
-pub after : {W A E : Type 0} (C : W → Option (List ℕ)) (F : W → Type 0) (old mid new : W) (r : Result A E) (xs ys : List ℕ)
-    → Appends (C old) (C mid) xs → (F old → F mid) → Tells C F mid new r ys → Tells C F old new r (xs ++ ys)
-after C F old mid new (Ok v) xs ys told kept tells =
-    record { told = Appends-trans (C old) (C mid) (C new) xs ys told tells.told; failed = tells.failed; kept = λ failed. tells.kept (kept failed) }
-after C F old mid new (Err e) xs ys told kept tells =
+pub after : {W A E : Type 0} (out_lines : W → LinesView) (old mid new : W) (r : Result A E) (xs ys : List ℕ)
+    → Appends (out_lines old).contents (out_lines mid).contents xs → ((out_lines old).failed → (out_lines mid).failed) → Tells out_lines mid new r ys → Tells out_lines old new r (xs ++ ys)
+after out_lines old mid new (Ok v) xs ys told kept tells =
+    record { told = Appends-trans (out_lines old).contents (out_lines mid).contents (out_lines new).contents xs ys told tells.told; failed = tells.failed; kept = λ failed. tells.kept (kept failed) }
+after out_lines old mid new (Err e) xs ys told kept tells =
     record { told = tells.told; failed = tells.failed; kept = λ failed. tells.kept (kept failed) }
 
 -- and the lines of one more

@@ -27,7 +27,7 @@ pub fn write_input_differences<E: WriteLines>(
 ) -> io::Result<()>
     requires of_inputs { IsOrderOf inputs.now own.now }
     requires of_files { IsOrderOf files.now others.now }
-    ensures { Tells E.contents E.failed err.old err.new result
+    ensures { Tells E.lines err.old err.new result
         (inputs_differ (map input_value inputs.now) (map input_value files.now)) }
 {
     write_inputs(inputs, own, others, err)?;
@@ -43,7 +43,7 @@ fn write_inputs<E: WriteLines>(
 ) -> io::Result<()>
     requires own { Ascends own.now }
     requires others { Ascends others.now }
-    ensures { Tells E.contents E.failed err.old err.new result (flat_map (λ (i : Input).
+    ensures { Tells E.lines err.old err.new result (flat_map (λ (i : Input).
         input_differs (values_of own.now) (values_of others.now) (input_value i)) inputs.now) }
 {
     for input in inputs {
@@ -60,7 +60,7 @@ fn write_input<E: WriteLines>(
 ) -> io::Result<()>
     requires own { Ascends own.now }
     requires others { Ascends others.now }
-    ensures { Tells E.contents E.failed err.old err.new result (input_differs
+    ensures { Tells E.lines err.old err.new result (input_differs
         (values_of own.now) (values_of others.now) (input_value input.now)) }
 {
     if lacks(Likeness::Report, input, own, others) {
@@ -108,7 +108,7 @@ fn write_files<E: WriteLines>(
 ) -> io::Result<()>
     requires own { Ascends own.now }
     requires others { Ascends others.now }
-    ensures { Tells E.contents E.failed err.old err.new result (flat_map (λ (f : Input).
+    ensures { Tells E.lines err.old err.new result (flat_map (λ (f : Input).
         file_differs (values_of own.now) (values_of others.now) (input_value f)) files.now) }
 {
     for file in files {
@@ -125,7 +125,7 @@ fn write_file<E: WriteLines>(
 ) -> io::Result<()>
     requires own { Ascends own.now }
     requires others { Ascends others.now }
-    ensures { Tells E.contents E.failed err.old err.new result (file_differs
+    ensures { Tells E.lines err.old err.new result (file_differs
         (values_of own.now) (values_of others.now) (input_value file.now)) }
 {
     if lacks(Likeness::Exporter, file, others, own) {
@@ -156,7 +156,7 @@ pub fn write_named<E: WriteLines>(
     end: &str,
     err: &mut E,
 ) -> io::Result<()>
-    ensures { Tells E.contents E.failed err.old err.new result
+    ensures { Tells E.lines err.old err.new result
         (named_line what.now (string_bytes file.now.name) end.now) }
 {
     let name = file.name.as_str();
@@ -167,7 +167,7 @@ pub fn write_named<E: WriteLines>(
 
 #[tactic(auto, unfolding(crate::specs::DifferenceLines::line_start))]
 fn write_start<E: WriteLines>(what: &str, err: &mut E) -> io::Result<()>
-    ensures { Tells E.contents E.failed err.old err.new result (line_start what.now) }
+    ensures { Tells E.lines err.old err.new result (line_start what.now) }
 {
     write!(err, "collectd: verify: {what}")
 }

@@ -19,7 +19,7 @@ pub fn write_map_differences<E: WriteLines>(
     said: &[FileReceipt],
     err: &mut E,
 ) -> io::Result<()>
-    ensures { Tells E.contents E.failed err.old err.new result
+    ensures { Tells E.lines err.old err.new result
         (maps_differ (map file_value found.now) (map file_value said.now)) }
 {
     match found {
@@ -35,7 +35,7 @@ pub fn write_map_differences<E: WriteLines>(
 }
 
 fn write_unless_none<E: WriteLines>(said: &[FileReceipt], err: &mut E) -> io::Result<()>
-    ensures { Tells E.contents E.failed err.old err.new result
+    ensures { Tells E.lines err.old err.new result
         (maps_differ [] (map file_value said.now)) }
 {
     match said {
@@ -49,7 +49,7 @@ fn write_map_difference<E: WriteLines>(
     said: &FileReceipt,
     err: &mut E,
 ) -> io::Result<()>
-    ensures { Tells E.contents E.failed err.old err.new result
+    ensures { Tells E.lines err.old err.new result
         (map_differs (file_value found.now) (file_value said.now)) }
 {
     if is_same_file(found, said) {

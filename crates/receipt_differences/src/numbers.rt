@@ -14,7 +14,7 @@ pub fn write_count_differences<E: WriteLines>(
     said: &RecordCounts,
     err: &mut E,
 ) -> io::Result<()>
-    ensures { Tells E.contents E.failed err.old err.new result
+    ensures { Tells E.lines err.old err.new result
         (counts_differ found.now said.now) }
 {
     write_unless_equal("records: used", found.used, said.used, err)?;
@@ -32,7 +32,7 @@ pub fn write_unless_equal<E: WriteLines>(
     said: u64,
     err: &mut E,
 ) -> io::Result<()>
-    ensures { Tells E.contents E.failed err.old err.new result
+    ensures { Tells E.lines err.old err.new result
         (number_differs what.now found said) }
 {
     write_unless_same(what, u128::from(found), u128::from(said), err)
@@ -46,7 +46,7 @@ pub fn write_unless_same<E: WriteLines>(
     said: u128,
     err: &mut E,
 ) -> io::Result<()>
-    ensures { Tells E.contents E.failed err.old err.new result
+    ensures { Tells E.lines err.old err.new result
         (number_differs what.now found said) }
 {
     if found == said {
@@ -58,7 +58,7 @@ pub fn write_unless_same<E: WriteLines>(
 
 #[tactic(auto, unfolding(crate::specs::DifferenceLines::number_line))]
 fn write_number<E: WriteLines>(what: &str, found: u128, said: u128, err: &mut E) -> io::Result<()>
-    ensures { Tells E.contents E.failed err.old err.new result
+    ensures { Tells E.lines err.old err.new result
         (number_line what.now found said) }
 {
     writeln!(
@@ -70,7 +70,7 @@ fn write_number<E: WriteLines>(what: &str, found: u128, said: u128, err: &mut E)
 /// Writes the line of what is another one than in the receipt.
 #[tactic(auto, unfolding(crate::specs::DifferenceLines::other_line))]
 pub fn write_other<E: WriteLines>(what: &str, err: &mut E) -> io::Result<()>
-    ensures { Tells E.contents E.failed err.old err.new result (other_line what.now) }
+    ensures { Tells E.lines err.old err.new result (other_line what.now) }
 {
     writeln!(err, "collectd: verify: {what}: not that of the receipt")
 }
@@ -78,7 +78,7 @@ pub fn write_other<E: WriteLines>(what: &str, err: &mut E) -> io::Result<()>
 /// The same, unless it is the same.
 #[tactic(auto, unfolding(crate::specs::DifferenceLines::other_unless))]
 pub fn write_other_unless<E: WriteLines>(is_same: bool, what: &str, err: &mut E) -> io::Result<()>
-    ensures { Tells E.contents E.failed err.old err.new result (other_unless is_same what.now) }
+    ensures { Tells E.lines err.old err.new result (other_unless is_same what.now) }
 {
     if is_same {
         Ok(())

@@ -26,7 +26,7 @@ pub fn write_remade_differences<E: WriteLines>(
 ) -> io::Result<()>
     requires of_inputs { IsOrderOf said.now.inputs.items own.now }
     requires of_files { IsOrderOf found.now.inputs.items others.now }
-    ensures { Tells E.contents E.failed err.old err.new result
+    ensures { Tells E.lines err.old err.new result
         (remade_differs (receipt_value found.now) (receipt_value said.now)) }
 {
     write_input_differences(
@@ -62,7 +62,7 @@ pub fn write_text_difference<E: WriteLines>(
     table: &[u8],
     err: &mut E,
 ) -> io::Result<()>
-    ensures { Tells E.contents E.failed err.old err.new result
+    ensures { Tells E.lines err.old err.new result
         (text_differs found.now table.now) }
 {
     if found == table {
@@ -73,7 +73,7 @@ pub fn write_text_difference<E: WriteLines>(
 }
 
 fn write_again<E: WriteLines>(err: &mut E) -> io::Result<()>
-    ensures { Tells E.contents E.failed err.old err.new result again_line }
+    ensures { Tells E.lines err.old err.new result again_line }
 {
     err.write_all(b"collectd: verify: table: made again, it is another\n")
 }
@@ -84,7 +84,7 @@ pub fn write_element_differences<E: WriteLines>(
     said: &[FileReceipt],
     err: &mut E,
 ) -> io::Result<()>
-    ensures { Tells E.contents E.failed err.old err.new result
+    ensures { Tells E.lines err.old err.new result
         (elements_differ (map file_value found.now) (map file_value said.now)) }
 {
     write_other_unless(are_same_files(found, said), "files of elements", err)

@@ -19,7 +19,7 @@ pub fn write_table_differences<E: WriteLines>(
     table: &[u8],
     err: &mut E,
 ) -> io::Result<()>
-    ensures { Tells E.contents E.failed err.old err.new result
+    ensures { Tells E.lines err.old err.new result
         (table_differs (table_value said.now) table.now) }
 {
     write_unless_equal("table: octets", table.len() as u64, said.octets, err)?;
@@ -38,7 +38,7 @@ pub fn write_row_differences<E: WriteLines>(
     said: &TableReceipt,
     err: &mut E,
 ) -> io::Result<()>
-    ensures { Tells E.contents E.failed err.old err.new result
+    ensures { Tells E.lines err.old err.new result
         (rows_differ (table_value found.now) (table_value said.now)) }
 {
     write_unless_equal("table: rows", found.rows, said.rows, err)?;
@@ -51,7 +51,7 @@ fn write_sums<E: WriteLines>(
     said: &[CounterSum],
     err: &mut E,
 ) -> io::Result<()>
-    ensures { Tells E.contents E.failed err.old err.new result
+    ensures { Tells E.lines err.old err.new result
         (sums_differ (map sum_value found.now) (map sum_value said.now)) }
 {
     match found {
@@ -67,7 +67,7 @@ fn write_sums<E: WriteLines>(
 }
 
 fn write_unless_empty<E: WriteLines>(said: &[CounterSum], err: &mut E) -> io::Result<()>
-    ensures { Tells E.contents E.failed err.old err.new result
+    ensures { Tells E.lines err.old err.new result
         (sums_differ [] (map sum_value said.now)) }
 {
     match said {
@@ -77,7 +77,7 @@ fn write_unless_empty<E: WriteLines>(said: &[CounterSum], err: &mut E) -> io::Re
 }
 
 fn write_sum<E: WriteLines>(found: &CounterSum, said: &CounterSum, err: &mut E) -> io::Result<()>
-    ensures { Tells E.contents E.failed err.old err.new result
+    ensures { Tells E.lines err.old err.new result
         (sum_differs (sum_value found.now) (sum_value said.now)) }
 {
     if found.name.as_str() == said.name.as_str() {
@@ -94,7 +94,7 @@ fn write_sum_unless_same<E: WriteLines>(
     said: u128,
     err: &mut E,
 ) -> io::Result<()>
-    ensures { Tells E.contents E.failed err.old err.new result
+    ensures { Tells E.lines err.old err.new result
         (number_differs (codes "table: sum of " ++ name.now) found said) }
 {
     if found == said {
@@ -111,7 +111,7 @@ fn write_sum_number<E: WriteLines>(
     said: u128,
     err: &mut E,
 ) -> io::Result<()>
-    ensures { Tells E.contents E.failed err.old err.new result
+    ensures { Tells E.lines err.old err.new result
         (number_line (codes "table: sum of " ++ name.now) found said) }
 {
     writeln!(

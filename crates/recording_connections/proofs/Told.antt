@@ -5,6 +5,7 @@ use Rattle.std.specs.Prelude.{IfSome}
 use Rattle.std.specs.Result.{result_and}
 use Rattle.ipfix_session.specs.Sources.{one_more}
 use Rattle.ipfix_session.specs.declared.session_limits.SessionLimits.{SessionLimits}
+use Rattle.report_writing.specs.Lines.{LinesView}
 use Rattle.report_writing.specs.Writing.{Tells}
 use Rattle.report_writing.specs.declared.verbosity.Verbosity.{Verbosity}
 use Rattle.recording_connections.specs.Serving.{IsServed, MakesRecordings, Views}
@@ -17,10 +18,10 @@ pub next-of : (before : SharedCounts) (session : Option SessionNumber) → IfSom
 next-of before None next = next
 next-of before (Some s) next = (before, next)
 
-module _ {W A E : Type 0} (contents : W → Option (List ℕ)) (failed : W → Type 0) (old mid new : W) (xs ys : List ℕ) where
-  both-told : (first second : Result A E) → Tells contents failed old mid first xs → Tells contents failed mid new second ys → Tells contents failed old new (result_and first second) (xs ++ ys)
+module _ {W A E : Type 0} (out_lines : W → LinesView) (old mid new : W) (xs ys : List ℕ) where
+  both-told : (first second : Result A E) → Tells out_lines old mid first xs → Tells out_lines mid new second ys → Tells out_lines old new (result_and first second) (xs ++ ys)
   both-told (Ok a) (Ok b) one two = record {
-    told = Appends-trans (contents old) (contents mid) (contents new) xs ys one.told two.told;
+    told = Appends-trans (out_lines old).contents (out_lines mid).contents (out_lines new).contents xs ys one.told two.told;
     failed = two.failed;
     kept = λ had. two.kept (one.kept had);
   }
@@ -35,8 +36,8 @@ module _ {W A E : Type 0} (contents : W → Option (List ℕ)) (failed : W → T
     kept = λ had. two.kept (one.kept had);
   }
 
-  pub told-and : (first second result : Result A E) → result ≡ result_and first second → Tells contents failed old mid first xs → Tells contents failed mid new second ys → Tells contents failed old new result (xs ++ ys)
-  told-and first second result is one two = subst (λ (r : Result A E). Tells contents failed old new r (xs ++ ys)) (sym is) (both-told first second one two)
+  pub told-and : (first second result : Result A E) → result ≡ result_and first second → Tells out_lines old mid first xs → Tells out_lines mid new second ys → Tells out_lines old new result (xs ++ ys)
+  told-and first second result is one two = subst (λ (r : Result A E). Tells out_lines old new r (xs ++ ys)) (sym is) (both-told first second one two)
 
 module _ {S F C : Type 0} (sees : Views S F C) (makes : MakesRecordings F C) where
   pub served-told : (before after : Connection S) (number : ℕ) (limits : SessionLimits) (verbosity : Verbosity) (tells tells' : List ℕ → Type 0) → ((lines : List ℕ) → tells lines → tells' lines)

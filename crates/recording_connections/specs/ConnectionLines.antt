@@ -2,6 +2,7 @@
 use Rattle.std.specs.Prelude.{ℕ, List, [], ◌++◌, Option, Some, None, Result, codes, decimal}
 use Rattle.std.specs.Net.Text.{socket_text}
 use Rattle.std.specs.declared.net.socket_addr.SocketAddr.{SocketAddr}
+use Rattle.report_writing.specs.Lines.{LinesView}
 use Rattle.report_writing.specs.OpeningLines.{if_verbose}
 use Rattle.report_writing.specs.Writing.{Tells}
 use Rattle.report_writing.specs.declared.verbosity.Verbosity.{Verbosity}
@@ -23,5 +24,5 @@ with_ends verbosity peer lines =
     (if_verbose verbosity (event_line peer (codes "connected")) ++ lines) ++ if_verbose verbosity (event_line peer (codes "ended"))
 
 -- such lines were told to a writer
-abbrev pub TellsEnds : {W A E : Type 0} → (W → Option (List ℕ)) → (W → Type 0) → W → W → Result A E → Verbosity → SocketAddr → List ℕ → Type 0
-TellsEnds contents failed old new result verbosity peer lines = Tells contents failed old new result (with_ends verbosity peer lines)
+abbrev pub TellsEnds : {W A E : Type 0} → (W → LinesView) → W → W → Result A E → Verbosity → SocketAddr → List ℕ → Type 0
+TellsEnds out_lines old new result verbosity peer lines = Tells out_lines old new result (with_ends verbosity peer lines)

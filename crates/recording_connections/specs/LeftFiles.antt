@@ -17,7 +17,7 @@ module _ {E F : Type 0} (seen : F → Option (List ℕ)) (contents : E → Optio
 
   -- what is told of a file is its line
   abbrev pub TellsNotice : WholeLines E → FileNotice → Result (Unit {0}) Error → WholeLines E → Type 0
-  TellsNotice before notice told after = Tells text_of (λ _. ⊤) before after told (notice_line notice)
+  TellsNotice before notice told after = Tells (λ lines. record { contents = text_of lines; failed = ⊤ }) before after told (notice_line notice)
 
   -- all in a folder were looked after, each that is told of by a line to this writer, and so many stay unfinished
   abbrev pub AreLookedIn : Folder → E → ℕ → Type 0

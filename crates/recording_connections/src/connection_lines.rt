@@ -14,7 +14,7 @@ pub(crate) fn write_turned_away<W: WriteLines>(
     peers: Option<RefusedPeers>,
     out: &mut W,
 ) -> io::Result<()>
-    ensures { Tells W.contents W.failed out.old out.new result (turned_away_lines peers) }
+    ensures { Tells W.lines out.old out.new result (turned_away_lines peers) }
 {
     match peers {
         None => Ok(()),
@@ -28,7 +28,7 @@ fn write_turned_away_line<W: WriteLines>(
     last: SocketAddr,
     out: &mut W,
 ) -> io::Result<()>
-    ensures { Tells W.contents W.failed out.old out.new result (turned_away_line count last) }
+    ensures { Tells W.lines out.old out.new result (turned_away_line count last) }
 {
     writeln!(
         out,
@@ -43,7 +43,7 @@ pub(crate) fn write_event<W: WriteLines>(
     event: &str,
     out: &mut W,
 ) -> io::Result<()>
-    ensures { Tells W.contents W.failed out.old out.new result
+    ensures { Tells W.lines out.old out.new result
         (if_verbose verbosity (event_line peer event.now)) }
 {
     if verbosity.verbose {
@@ -55,7 +55,7 @@ pub(crate) fn write_event<W: WriteLines>(
 
 #[tactic(auto, unfolding(crate::specs::ConnectionLines::event_line))]
 fn write_event_line<W: WriteLines>(peer: SocketAddr, event: &str, out: &mut W) -> io::Result<()>
-    ensures { Tells W.contents W.failed out.old out.new result (event_line peer event.now) }
+    ensures { Tells W.lines out.old out.new result (event_line peer event.now) }
 {
     writeln!(out, "collectd: session {peer}: {event}")
 }

@@ -211,7 +211,7 @@ fn serve<
     ensures unread { session ≡ None → connection.new ≡ connection.old }
     ensures untold { session ≡ None → out.new ≡ out.old }
     ensures served { IfSome session (λ s. IsServedBy (views S.seen S.failure F.seen C.asked F.finishes) P.makes recorder.now
-        s.number connection.old connection.new (TellsEnds W.contents W.failed out.old out.new result)) }
+        s.number connection.old connection.new (TellsEnds W.lines out.old out.new result)) }
 {
     match session {
         Some(number) => serve_session(recorder, connection, number, out),
@@ -233,7 +233,7 @@ fn serve_session<
     out: &mut W,
 ) -> io::Result<()>
     ensures { IsServedBy (views S.seen S.failure F.seen C.asked F.finishes) P.makes recorder.now number.number
-        connection.old connection.new (TellsEnds W.contents W.failed out.old out.new result) }
+        connection.old connection.new (TellsEnds W.lines out.old out.new result) }
 {
     let peer = connection.peer;
     let told = write_event(recorder.order.verbosity, peer, "connected", out);

@@ -38,7 +38,7 @@ pub fn record_connection<
 ) -> io::Result<()>
     ensures { IsServed (views S.seen S.failure F.seen C.asked F.finishes) (P.makes place.now)
         connection.old connection.new number.number limits verbosity
-        (Tells W.contents W.failed out.old out.new result) }
+        (Tells W.lines out.old out.new result) }
 {
     let peer = connection.peer;
     match place.session(alloc, peer, number.get()) {
@@ -65,7 +65,7 @@ fn record_source<S: Source, F: RecordingFiles, C: PeriodClock + Drop, W: WriteLi
 ) -> io::Result<()>
     requires { IsEmpty (F.seen recording.files).contents }
     ensures { IsRecorded (views S.seen S.failure F.seen C.asked F.finishes) source.old source.new
-        recording limits verbosity peer (Tells W.contents W.failed out.old out.new result) }
+        recording limits verbosity peer (Tells W.lines out.old out.new result) }
 {
     let Recording {
         mut files,
@@ -96,7 +96,7 @@ fn write_connection<W: WriteLines>(
     end: FilesEnd,
     out: &mut W,
 ) -> io::Result<()>
-    ensures { Tells W.contents W.failed out.old out.new result
+    ensures { Tells W.lines out.old out.new result
         (connection_lines verbosity peer failure session.now end) }
 {
     write_silence(peer, failure, out)?;
@@ -108,7 +108,7 @@ fn write_silence<W: WriteLines>(
     failure: Option<ErrorKind>,
     out: &mut W,
 ) -> io::Result<()>
-    ensures { Tells W.contents W.failed out.old out.new result (silence_lines peer failure) }
+    ensures { Tells W.lines out.old out.new result (silence_lines peer failure) }
 {
     match failure {
         Some(ErrorKind::WouldBlock) => write_peer_ended(peer, "idle", out),
@@ -125,7 +125,7 @@ fn write_lines<W: WriteLines>(
     end: FilesEnd,
     out: &mut W,
 ) -> io::Result<()>
-    ensures { Tells W.contents W.failed out.old out.new result
+    ensures { Tells W.lines out.old out.new result
         (session_lines peer session.now end ++ read_lines verbosity peer failure) }
 {
     write_session(peer, session, end, out)?;
@@ -139,7 +139,7 @@ fn write_unread<W: WriteLines>(
     failure: Option<ErrorKind>,
     out: &mut W,
 ) -> io::Result<()>
-    ensures { Tells W.contents W.failed out.old out.new result (read_lines verbosity peer failure) }
+    ensures { Tells W.lines out.old out.new result (read_lines verbosity peer failure) }
 {
     match failure {
         Some(kind) if verbosity.verbose => {
@@ -157,7 +157,7 @@ pub fn write_session<W: WriteLines>(
     end: FilesEnd,
     out: &mut W,
 ) -> io::Result<()>
-    ensures { Tells W.contents W.failed out.old out.new result (session_lines peer session.now end) }
+    ensures { Tells W.lines out.old out.new result (session_lines peer session.now end) }
 {
     write_peer_losses(peer, &session.report.report.domains, out)?;
     write_end(peer, session.ended, end, out)
@@ -170,7 +170,7 @@ fn write_end<W: WriteLines>(
     end: FilesEnd,
     out: &mut W,
 ) -> io::Result<()>
-    ensures { Tells W.contents W.failed out.old out.new result (end_lines peer ended end) }
+    ensures { Tells W.lines out.old out.new result (end_lines peer ended end) }
 {
     match ended {
         Ok(()) => write_finish(peer, end.reason, end.finished, out),
@@ -185,7 +185,7 @@ fn write_faults<W: WriteLines>(
     end: FilesEnd,
     out: &mut W,
 ) -> io::Result<()>
-    ensures { Tells W.contents W.failed out.old out.new result (fault_lines peer fault end) }
+    ensures { Tells W.lines out.old out.new result (fault_lines peer fault end) }
 {
     match fault {
         RecordFault::NotWritten => write_not_written(peer, end.reason, out),
@@ -203,7 +203,7 @@ fn write_finish<W: WriteLines>(
     finished: Result<(), NotWritten>,
     out: &mut W,
 ) -> io::Result<()>
-    ensures { Tells W.contents W.failed out.old out.new result (finish_lines peer reason finished) }
+    ensures { Tells W.lines out.old out.new result (finish_lines peer reason finished) }
 {
     match finished {
         Ok(()) => Ok(()),
@@ -217,7 +217,7 @@ fn write_not_written<W: WriteLines>(
     reason: Option<Reason>,
     out: &mut W,
 ) -> io::Result<()>
-    ensures { Tells W.contents W.failed out.old out.new result (not_written_line peer reason) }
+    ensures { Tells W.lines out.old out.new result (not_written_line peer reason) }
 {
     match reason {
         Some(reason) => write_reason(peer, RecordFault::NotWritten, reason, out),
@@ -226,7 +226,7 @@ fn write_not_written<W: WriteLines>(
 }
 
 fn write_fault<W: WriteLines>(peer: SocketAddr, fault: RecordFault, out: &mut W) -> io::Result<()>
-    ensures { Tells W.contents W.failed out.old out.new result (fault_line peer fault) }
+    ensures { Tells W.lines out.old out.new result (fault_line peer fault) }
 {
     write_peer_fault(peer, fault.number(), fault.name(), out)
 }
@@ -237,7 +237,7 @@ fn write_reason<W: WriteLines>(
     reason: Reason,
     out: &mut W,
 ) -> io::Result<()>
-    ensures { Tells W.contents W.failed out.old out.new result (reason_line peer fault reason) }
+    ensures { Tells W.lines out.old out.new result (reason_line peer fault reason) }
 {
     write_peer_reason(peer, fault.number(), fault.name(), reason.words(), out)
 }

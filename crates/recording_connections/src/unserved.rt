@@ -17,7 +17,7 @@ pub(crate) fn write_unserved<W: WriteLines>(
     not_accepted: u64,
     out: &mut W,
 ) -> io::Result<()>
-    ensures { Tells W.contents W.failed out.old out.new result
+    ensures { Tells W.lines out.old out.new result
         (unserved_lines refused turned_away not_accepted) }
 {
     let told = write_refused_peers(refused, out);
@@ -26,7 +26,7 @@ pub(crate) fn write_unserved<W: WriteLines>(
 }
 
 fn write_refused_peers<W: WriteLines>(refused: Option<RefusedPeers>, out: &mut W) -> io::Result<()>
-    ensures { Tells W.contents W.failed out.old out.new result (refused_lines refused) }
+    ensures { Tells W.lines out.old out.new result (refused_lines refused) }
 {
     match refused {
         None => Ok(()),
@@ -35,7 +35,7 @@ fn write_refused_peers<W: WriteLines>(refused: Option<RefusedPeers>, out: &mut W
 }
 
 fn write_accept_failures<W: WriteLines>(count: u64, out: &mut W) -> io::Result<()>
-    ensures { Tells W.contents W.failed out.old out.new result (not_accepted_lines count) }
+    ensures { Tells W.lines out.old out.new result (not_accepted_lines count) }
 {
     if count == 0 {
         return Ok(());

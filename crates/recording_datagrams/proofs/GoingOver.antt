@@ -1,6 +1,7 @@
 -- The turns of all peers, and the end of those that are silent.
-use Rattle.std.proofs.Common.{◌≡◌, ℕ, ◌+◌, ◌-◌, ◌<◌, ◌≤◌, ◌⊎◌, Bool, List, [], ◌∷◌, ◌++◌, length, take, Option, Some, Result, Ok, Err, refl, sym, ap, ◌∙◌, subst, inl, inr, arith, length-append, append-nil, append_assoc}
+use Rattle.std.proofs.Common.{◌≡◌, ℕ, ◌+◌, ◌-◌, ◌<◌, ◌≤◌, ◌⊎◌, Bool, List, [], ◌∷◌, ◌++◌, length, take, Some, Result, Ok, Err, refl, sym, ap, ◌∙◌, subst, inl, inr, arith, length-append, append-nil, append_assoc}
 use Rattle.std.specs.declared.net.socket_addr.SocketAddr.{SocketAddr}
+use Rattle.report_writing.specs.Lines.{LinesView}
 use Rattle.lru.specs.LruCache.{last_entry}
 use Rattle.lru.proofs.Pairs.{cut_end, last_of_push}
 use Rattle.recording_files.specs.Files.{FilesView}
@@ -85,10 +86,10 @@ module _ {F : Type 0} (seen : F → FilesView) (finishes : F → FileReport → 
       }
 
   -- it wasn't empty, so one had its turn
-  pub gone_later : {W A : Type 0} {contents : W → Option (List ℕ)} {has_failed : W → Type 0} {old new : W} {answer : Result (Unit {0}) A} {after : List (SocketAddr × PeerState F)}
+  pub gone_later : {W A : Type 0} {out_lines : W → LinesView} {old new : W} {answer : Result (Unit {0}) A} {after : List (SocketAddr × PeerState F)}
       (es now : List (SocketAddr × PeerState F)) (count : ℕ) (lines : List ℕ) → GoneOver es now count lines → count < length es
-      → (now ≡ []) ⊎ TellsSome contents has_failed old new answer (IsTurn seen finishes second is_over now after)
-      → (t : TellsSome contents has_failed old new answer (IsTurn seen finishes second is_over now after)) × GoneOver es after (count + 1) (lines ++ t.lines)
+      → (now ≡ []) ⊎ TellsSome out_lines old new answer (IsTurn seen finishes second is_over now after)
+      → (t : TellsSome out_lines old new answer (IsTurn seen finishes second is_over now after)) × GoneOver es after (count + 1) (lines ++ t.lines)
   gone_later {after = after} es now count lines g h t = elim t [
     | inl none ↦ (
         let long : length es ≡ length g.front + length g.behind = ap length g.those ∙ length-append g.front g.behind in

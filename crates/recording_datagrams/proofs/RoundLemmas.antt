@@ -1,6 +1,7 @@
 -- Rounds one after another.
-use Rattle.std.proofs.Common.{◌≡◌, ℕ, ◌+◌, List, [], ◌∷◌, ◌++◌, Option, Result, Ok, refl, sym, ap, ◌∙◌, subst, arith, length-append, append-nil, append_assoc}
+use Rattle.std.proofs.Common.{◌≡◌, ℕ, ◌+◌, List, [], ◌∷◌, ◌++◌, Result, Ok, refl, sym, ap, ◌∙◌, subst, arith, length-append, append-nil, append_assoc}
 use Rattle.std.specs.Result.{result_and}
+use Rattle.report_writing.specs.Lines.{LinesView}
 use Rattle.report_writing.specs.Writing.{Tells}
 use Rattle.std.proofs.lemmas.Grind.{flat_map-append}
 use Rattle.std.proofs.lemmas.List.{map-append}
@@ -44,13 +45,13 @@ module _ {F P W : Type 0} (seen : F → FilesView) (finishes : F → FileReport 
   rounds-push [] r old mid new are is = (new, subst (λ (x : DatagramTaker F P W). IsRound seen finishes made_for asked r x new) are is, refl)
   rounds-push (q ∷ rs) r old mid new are is = (are.0, are.1, rounds-push rs r are.0 mid new are.2 is)
 
-  pub no_rounds : {D A : Type 0} (answered : D → List Answer → Type 0) (contents : W → Option (List ℕ)) (has_failed : W → Type 0) (source : D) (old : DatagramTaker F P W) → TakesRounds seen finishes made_for asked {A = A} answered contents has_failed 0 source source old old (Ok tt)
-  no_rounds answered contents has_failed source old = record { rounds = []; as_many = refl; are = refl; given = gives_none answered source; told = tells_nothing }
+  pub no_rounds : {D A : Type 0} (answered : D → List Answer → Type 0) (out_lines : W → LinesView) (source : D) (old : DatagramTaker F P W) → TakesRounds seen finishes made_for asked {A = A} answered out_lines 0 source source old old (Ok tt)
+  no_rounds answered out_lines source old = record { rounds = []; as_many = refl; are = refl; given = gives_none answered source; told = tells_nothing }
 
-  pub one_more_round : {D A : Type 0} (answered : D → List Answer → Type 0) (contents : W → Option (List ℕ)) (has_failed : W → Type 0) (count : ℕ) (before between after : D) (old mid new : DatagramTaker F P W) (told answer : Result (Unit {0}) A)
-      → TakesRounds seen finishes made_for asked answered contents has_failed count before between old mid told → TakesRound seen finishes made_for asked answered contents has_failed between after mid new answer
-      → TakesRounds seen finishes made_for asked answered contents has_failed (count + 1) before after old new (result_and told answer)
-  one_more_round answered contents has_failed count before between after old mid new told answer rs r =
+  pub one_more_round : {D A : Type 0} (answered : D → List Answer → Type 0) (out_lines : W → LinesView) (count : ℕ) (before between after : D) (old mid new : DatagramTaker F P W) (told answer : Result (Unit {0}) A)
+      → TakesRounds seen finishes made_for asked answered out_lines count before between old mid told → TakesRound seen finishes made_for asked answered out_lines between after mid new answer
+      → TakesRounds seen finishes made_for asked answered out_lines (count + 1) before after old new (result_and told answer)
+  one_more_round answered out_lines count before between after old mid new told answer rs r =
       let many = rs.as_many in
       record {
         rounds = rs.rounds ++ r.round ∷ [];
@@ -58,7 +59,7 @@ module _ {F P W : Type 0} (seen : F → FilesView) (finishes : F → FileReport 
         are = rounds-push rs.rounds r.round old mid new rs.are r.is;
         given = subst (λ (l : List Answer). Gives answered l before after) (sym (answers-push rs.rounds r.round))
             (gives_both answered (answers_of rs.rounds) (answer_in r.round.given ∷ []) before between after rs.given r.given);
-        told = subst (λ (l : List ℕ). Tells contents has_failed old.out new.out (result_and told answer) l) (sym (lines-push rs.rounds r.round))
+        told = subst (λ (l : List ℕ). Tells out_lines old.out new.out (result_and told answer) l) (sym (lines-push rs.rounds r.round))
             (and_tells rs.told r.told);
       }
 

@@ -6,21 +6,22 @@ use Rattle.std.proofs.lemmas.List.{take_more}
 use Rattle.std.specs.List.{flat_map}
 use Rattle.std.specs.Result.{result_and}
 use Rattle.std.specs.Io.KnownBytes.{Appends}
+use Rattle.report_writing.specs.Lines.{LinesView}
 use Rattle.report_writing.specs.Writing.{Tells}
 
-module _ {W : Type 0} {contents : W → Option (List ℕ)} {has_failed : W → Type 0} where
-  pub tells_nothing : {T E : Type 0} {out : W} {x : T} → Tells {A = T} {E = E} contents has_failed out out (Ok x) []
-  tells_nothing {T} {E} {out} {x} = record { told = Appends-nil (contents out); failed = tt; kept = λ f. f }
+module _ {W : Type 0} {out_lines : W → LinesView} where
+  pub tells_nothing : {T E : Type 0} {out : W} {x : T} → Tells {A = T} {E = E} out_lines out out (Ok x) []
+  tells_nothing {T} {E} {out} {x} = record { told = Appends-nil (out_lines out).contents; failed = tt; kept = λ f. f }
 
   tells_both : {T U E : Type 0} (r : Result T E) (s : Result U E) (old mid new : W) (a b : List ℕ)
-      → Tells contents has_failed old mid r a → Tells contents has_failed mid new s b → Tells contents has_failed old new (result_and r s) (a ++ b)
+      → Tells out_lines old mid r a → Tells out_lines mid new s b → Tells out_lines old new (result_and r s) (a ++ b)
   tells_both (Err e) s old mid new a b h k = record { told = tt; failed = k.kept h.failed; kept = λ f. k.kept (h.kept f) }
   tells_both (Ok x) (Err e) old mid new a b h k = record { told = tt; failed = k.failed; kept = λ f. k.kept (h.kept f) }
-  tells_both (Ok x) (Ok y) old mid new a b h k = record { told = Appends-trans (contents old) (contents mid) (contents new) a b h.told k.told; failed = tt; kept = λ f. k.kept (h.kept f) }
+  tells_both (Ok x) (Ok y) old mid new a b h k = record { told = Appends-trans (out_lines old).contents (out_lines mid).contents (out_lines new).contents a b h.told k.told; failed = tt; kept = λ f. k.kept (h.kept f) }
 
   -- one text after another; the first error is the answer
   pub and_tells : {T U E : Type 0} {r : Result T E} {s : Result U E} {old mid new : W} {a b : List ℕ}
-      → Tells contents has_failed old mid r a → Tells contents has_failed mid new s b → Tells contents has_failed old new (result_and r s) (a ++ b)
+      → Tells out_lines old mid r a → Tells out_lines mid new s b → Tells out_lines old new (result_and r s) (a ++ b)
   and_tells {T} {U} {E} {r} {s} {old} {mid} {new} {a} {b} h k = tells_both r s old mid new a b h k
 
 -- one line more

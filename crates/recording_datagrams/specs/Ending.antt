@@ -19,6 +19,7 @@ use Rattle.recording_peers.specs.Calls.{Follows}
 use Rattle.ipfix_message.specs.Faults.{number_of, name_of}
 use Rattle.recording_peers.specs.declared.peer_state.PeerState.{PeerState}
 use Rattle.recording_peers.specs.declared.refusals.Refusals.{Refusals}
+use Rattle.report_writing.specs.Lines.{LinesView}
 use Rattle.report_writing.specs.Writing.{Tells}
 use Rattle.recording_lines.specs.RecordLines.{advance_line, order_line, peer_ended_line, refused_datagrams_line, resumed_line}
 use Rattle.recording_connections.specs.Serving.{session_lines}
@@ -101,7 +102,7 @@ module _ {F : Type 0} (seen : F → FilesView) where
         ++ ending_lines peer released.refused released.window cause session end
 
 -- what a call answers that writes lines of which this is true: there are such lines, and it tells them
-pub record TellsSome {W A : Type 0} (contents : W → Option (List ℕ)) (has_failed : W → Type 0) (old new : W) (result : Result (Unit {0}) A) (Are : List ℕ → Type 0) : Type 0 where
+pub record TellsSome {W A : Type 0} (out_lines : W → LinesView) (old new : W) (result : Result (Unit {0}) A) (Are : List ℕ → Type 0) : Type 0 where
   pub lines : List ℕ
   pub are : Are lines
-  pub told : Tells contents has_failed old new result lines
+  pub told : Tells out_lines old new result lines

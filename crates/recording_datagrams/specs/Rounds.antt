@@ -1,5 +1,5 @@
 -- Rounds of taking datagrams: what each had, and what it did.
-use Rattle.std.specs.Prelude.{◌≡◌, ◌≤◌, ◌<◌, ◌-◌, ◌⊎◌, ℕ, Bool, true, false, List, [], ◌∷◌, ◌++◌, length, map, flat_map, Option, Result, Ok, Err}
+use Rattle.std.specs.Prelude.{◌≡◌, ◌≤◌, ◌<◌, ◌-◌, ◌⊎◌, ℕ, Bool, true, false, List, [], ◌∷◌, ◌++◌, length, map, flat_map, Result, Ok, Err}
 use Rattle.std.specs.declared.net.socket_addr.SocketAddr.{SocketAddr}
 use Rattle.ipfix_session.specs.Sources.{one_more}
 use Rattle.recording_files.specs.Files.{FilesView}
@@ -12,6 +12,7 @@ use Rattle.recording_peers.specs.declared.datagram_source.NoDatagram.{NoDatagram
 use Rattle.recording_peers.specs.declared.datagram_source.NoDatagram.TheVariants.{Tick, Failed}
 use Rattle.recording_peers.specs.declared.peer_state.PeerState.{PeerState}
 use Rattle.recording_connections.specs.declared.shared_counts.SharedCounts.{SharedCounts}
+use Rattle.report_writing.specs.Lines.{LinesView}
 use Rattle.report_writing.specs.Writing.{Tells}
 use Rattle.recording_datagrams.specs.Ending.{TellsSome}
 use Rattle.recording_datagrams.specs.Taking.{Arrival, Arrives}
@@ -54,9 +55,9 @@ module _ {F : Type 0} (seen : F → FilesView) (finishes : F → FileReport → 
   HadTurnsIf false second es after lines = (after ≡ es) × (lines ≡ [])
 
 -- a call of a taker does this with it, and tells the lines of that
-abbrev pub Does : {F P W A : Type 0} → (W → Option (List ℕ)) → (W → Type 0) → DatagramTaker F P W → DatagramTaker F P W → Result (Unit {0}) A
+abbrev pub Does : {F P W A : Type 0} → (W → LinesView) → DatagramTaker F P W → DatagramTaker F P W → Result (Unit {0}) A
     → (DatagramTaker F P W → DatagramTaker F P W → List ℕ → Type 0) → Type 0
-Does contents has_failed old new answer This = TellsSome contents has_failed old.out new.out answer (This old new)
+Does out_lines old new answer This = TellsSome out_lines old.out new.out answer (This old new)
 
 module _ {F P W : Type 0} (seen : F → FilesView) (finishes : F → FileReport → FilesEnd → Type 0) where
   -- in a new second all peers have their turn, those that have been silent for longer than they may be go, and what had no
@@ -114,22 +115,22 @@ module _ {F P W : Type 0} (seen : F → FilesView) (finishes : F → FileReport 
   AreRounds (r ∷ rs) old new = (between : DatagramTaker F P W) × IsRound r old between × AreRounds rs between new
 
   -- one of them: the source was asked once, and its answer is that of the round
-  pub record TakesRound {D A : Type 0} (answered : D → List Answer → Type 0) (contents : W → Option (List ℕ)) (has_failed : W → Type 0) (before after : D)
+  pub record TakesRound {D A : Type 0} (answered : D → List Answer → Type 0) (out_lines : W → LinesView) (before after : D)
       (old new : DatagramTaker F P W) (answer : Result (Unit {0}) A) : Type 0 where
     pub round : Round
     pub is : IsRound round old new
     pub given : Gives answered (answer_in round.given ∷ []) before after
-    pub told : Tells contents has_failed old.out new.out answer round.lines
+    pub told : Tells out_lines old.out new.out answer round.lines
 
   -- so many rounds: the source was asked once in each, and what it answered is what was taken in them, each datagram once and in
   -- its order; and all their lines are told, unless a write failed
-  pub record TakesRounds {D A : Type 0} (answered : D → List Answer → Type 0) (contents : W → Option (List ℕ)) (has_failed : W → Type 0) (count : ℕ) (before after : D)
+  pub record TakesRounds {D A : Type 0} (answered : D → List Answer → Type 0) (out_lines : W → LinesView) (count : ℕ) (before after : D)
       (old new : DatagramTaker F P W) (answer : Result (Unit {0}) A) : Type 0 where
     pub rounds : List Round
     pub as_many : length rounds ≡ count
     pub are : AreRounds rounds old new
     pub given : Gives answered (answers_of rounds) before after
-    pub told : Tells contents has_failed old.out new.out answer (lines_of rounds)
+    pub told : Tells out_lines old.out new.out answer (lines_of rounds)
 
 -- rounds, before the first of which no peer was kept
 pub record FromNone {F P : Type 0} (W : Type 0) (seen : F → FilesView) (finishes : F → FileReport → FilesEnd → Type 0) (made_for : F → SocketAddr → Type 0)

@@ -46,7 +46,7 @@ impl<
 
     /// All peers have their turn, in which their files are finished, if the period of the place is over.
     pub fn keep_to_periods(&mut self, now: u64) -> io::Result<()>
-        ensures { (is_over : Bool) × Does W.contents W.failed self.old self.new result
+        ensures { (is_over : Bool) × Does W.lines self.old self.new result
             (KeepsToPeriods F.seen F.finishes P.made_for P.asked is_over now) }
     {
         if self.place.is_over() {
@@ -68,7 +68,7 @@ impl<
         requires { IfOk received (λ d. d.length ≤ length buffer.now) }
         ensures { (given : Result Arrival NoDatagram)
             × (answer_in given ≡ answer_of received buffer.now)
-            × Does W.contents W.failed self.old self.new result
+            × Does W.lines self.old self.new result
             (TakesGiven F.seen F.finishes P.made_for P.asked given now) }
     {
         match received {
@@ -86,7 +86,7 @@ impl<
     // `Peers::record` does, and each session that ends at that is reported; without memory to begin a session that is
     // told as its fault.
     fn take_from(&mut self, from: SocketAddr, datagram: &[u8], now: u64) -> io::Result<()>
-        ensures { (may_send : Bool) × Does W.contents W.failed self.old self.new result
+        ensures { (may_send : Bool) × Does W.lines self.old self.new result
             (TakesArrival F.seen F.finishes P.made_for P.asked
             (record { peer = from; octets = datagram.now; may_send = may_send }) now) }
     {
@@ -109,7 +109,7 @@ impl<
     /// Goes on to a second. If it is a new one, all peers have their turn, and the sessions of peers end that have
     /// been silent for longer than they may be.
     pub fn go_on_to(&mut self, now: u64) -> io::Result<()>
-        ensures { Does W.contents W.failed self.old self.new result
+        ensures { Does W.lines self.old self.new result
             (KeepsToSeconds F.seen F.finishes now) }
     {
         if now <= self.second {
@@ -120,7 +120,7 @@ impl<
 
     // All peers have their turn, and the sessions of those end that have been silent for too long.
     fn tell_and_end(&mut self, now: u64) -> io::Result<()>
-        ensures { Does W.contents W.failed self.old self.new result
+        ensures { Does W.lines self.old self.new result
             (TellsAndEnds F.seen F.finishes now) }
     {
         self.second = now;

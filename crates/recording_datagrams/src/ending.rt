@@ -49,7 +49,7 @@ pub fn end_peer<F: RecordingFiles, W: WriteLines>(
     cause: Option<EndCause>,
     out: &mut W,
 ) -> io::Result<()>
-    ensures { TellsSome W.contents W.failed out.old out.new result
+    ensures { TellsSome W.lines out.old out.new result
         (Ends F.seen F.finishes peer kept cause) }
 {
     let PeerState {
@@ -73,7 +73,7 @@ pub(crate) fn tell_resumed<W: WriteLines>(
     resumed: &[Resumption],
     out: &mut W,
 ) -> io::Result<()>
-    ensures { Tells W.contents W.failed out.old out.new result
+    ensures { Tells W.lines out.old out.new result
         (resumed_lines peer resumed.now) }
 {
     for resumption in resumed {
@@ -88,7 +88,7 @@ fn tell_resumption<W: WriteLines>(
     resumption: &Resumption,
     out: &mut W,
 ) -> io::Result<()>
-    ensures { Tells W.contents W.failed out.old out.new result
+    ensures { Tells W.lines out.old out.new result
         (resumption_line peer resumption.now) }
 {
     write_resumed(peer, resumption.domain, resumption.templates, out)
@@ -120,7 +120,7 @@ fn tell_end<W: WriteLines>(
     end: FilesEnd,
     out: &mut W,
 ) -> io::Result<()>
-    ensures { Tells W.contents W.failed out.old out.new result
+    ensures { Tells W.lines out.old out.new result
         (ending_lines peer refused window.now cause session.now end) }
 {
     tell_refusals(peer, refused, out)?;
@@ -136,7 +136,7 @@ fn tell_ordered<W: WriteLines>(
     end: FilesEnd,
     out: &mut W,
 ) -> io::Result<()>
-    ensures { Tells W.contents W.failed out.old out.new result
+    ensures { Tells W.lines out.old out.new result
         (ordered_lines peer window.now cause session.now end) }
 {
     tell_counted(peer, window, out)?;
@@ -145,7 +145,7 @@ fn tell_ordered<W: WriteLines>(
 
 // Tells what was counted of each domain since its counts began.
 fn tell_counted<W: WriteLines>(peer: SocketAddr, window: &Window, out: &mut W) -> io::Result<()>
-    ensures { Tells W.contents W.failed out.old out.new result
+    ensures { Tells W.lines out.old out.new result
         (counted_lines peer window.now) }
 {
     for index in 0..window.domain_count() {
@@ -160,7 +160,7 @@ pub(crate) fn tell_orders<W: WriteLines>(
     orders: &[OrderCounts],
     out: &mut W,
 ) -> io::Result<()>
-    ensures { Tells W.contents W.failed out.old out.new result
+    ensures { Tells W.lines out.old out.new result
         (order_lines peer orders.now) }
 {
     for counts in orders {
@@ -175,7 +175,7 @@ fn tell_domain_order<W: WriteLines>(
     counts: &OrderCounts,
     out: &mut W,
 ) -> io::Result<()>
-    ensures { Tells W.contents W.failed out.old out.new result
+    ensures { Tells W.lines out.old out.new result
         (domain_order_lines peer counts.now) }
 {
     let OrderCounts {
@@ -197,7 +197,7 @@ fn tell_rest<W: WriteLines>(
     end: FilesEnd,
     out: &mut W,
 ) -> io::Result<()>
-    ensures { Tells W.contents W.failed out.old out.new result
+    ensures { Tells W.lines out.old out.new result
         (rest_lines peer cause session.now end) }
 {
     tell_cause(peer, cause, out)?;
@@ -211,7 +211,7 @@ fn tell_counts<W: WriteLines>(
     end: FilesEnd,
     out: &mut W,
 ) -> io::Result<()>
-    ensures { Tells W.contents W.failed out.old out.new result
+    ensures { Tells W.lines out.old out.new result
         (told_lines peer session.now end) }
 {
     tell_advances(peer, &session.advances, out)?;
@@ -224,7 +224,7 @@ fn tell_advances<W: WriteLines>(
     advances: &SequenceAdvances,
     out: &mut W,
 ) -> io::Result<()>
-    ensures { Tells W.contents W.failed out.old out.new result
+    ensures { Tells W.lines out.old out.new result
         (advance_lines peer advances.now) }
 {
     for index in 0..advances.len() {
@@ -244,7 +244,7 @@ pub fn tell_refusals<W: WriteLines>(
     refused: Option<Refusals>,
     out: &mut W,
 ) -> io::Result<()>
-    ensures { Tells W.contents W.failed out.old out.new result
+    ensures { Tells W.lines out.old out.new result
         (refusal_lines peer refused) }
 {
     match refused {
@@ -260,7 +260,7 @@ fn tell_cause<W: WriteLines>(
     cause: Option<EndCause>,
     out: &mut W,
 ) -> io::Result<()>
-    ensures { Tells W.contents W.failed out.old out.new result
+    ensures { Tells W.lines out.old out.new result
         (cause_lines peer cause) }
 {
     match cause {

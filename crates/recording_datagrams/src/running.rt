@@ -34,7 +34,7 @@ pub fn record_datagrams<
     taker: &mut DatagramTaker<F, P, W>,
     rounds: u64,
 ) -> io::Result<()>
-    ensures { TakesRounds F.seen F.finishes P.made_for P.asked D.answered W.contents W.failed rounds
+    ensures { TakesRounds F.seen F.finishes P.made_for P.asked D.answered W.lines rounds
         source.old source.new taker.old taker.new result }
 {
     let mut told: io::Result<()> = Ok(());
@@ -74,7 +74,7 @@ fn take_round<
     buffer: &mut [u8],
     taker: &mut DatagramTaker<F, P, W>,
 ) -> io::Result<()>
-    ensures { TakesRound F.seen F.finishes P.made_for P.asked D.answered W.contents W.failed
+    ensures { TakesRound F.seen F.finishes P.made_for P.asked D.answered W.lines
         source.old source.new taker.old taker.new result }
 {
     let received = ask(rt, source, buffer);

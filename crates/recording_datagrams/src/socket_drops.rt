@@ -24,7 +24,7 @@ impl SocketDrops {
     /// Tells how many were dropped since that was told last, if any were, where these are dropped in all. They are counted as
     /// told though the line can't be written.
     pub fn tell<W: WriteLines>(&mut self, dropped: u64, out: &mut W) -> io::Result<()>
-        ensures told { Tells W.contents W.failed out.old out.new result
+        ensures told { Tells W.lines out.old out.new result
             (drop_lines self.old dropped) }
         ensures counted { self.new ≡ record self.old { dropped = dropped } }
     {

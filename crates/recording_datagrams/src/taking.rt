@@ -28,7 +28,7 @@ pub(crate) fn record_and_tell<F: RecordingFiles + Drop, P: PeerPlace<F>, W: Writ
     now: u64,
     out: &mut W,
 ) -> io::Result<()>
-    ensures { TellsSome W.contents W.failed out.old out.new result
+    ensures { TellsSome W.lines out.old out.new result
         (IsProcessed F.seen F.finishes P.made_for peers.old peers.new unserved.old unserved.new from
         datagram.now now) }
 {
@@ -54,7 +54,7 @@ fn tell_gone<F: RecordingFiles, W: WriteLines>(
     gone: Option<(SocketAddr, PeerState<F>)>,
     out: &mut W,
 ) -> io::Result<()>
-    ensures { TellsSome W.contents W.failed out.old out.new result
+    ensures { TellsSome W.lines out.old out.new result
         (GoneLines F.seen F.finishes gone) }
 {
     match gone {
@@ -70,7 +70,7 @@ fn tell_became<F: RecordingFiles, W: WriteLines>(
     became: Became<F>,
     out: &mut W,
 ) -> io::Result<()>
-    ensures { TellsSome W.contents W.failed out.old out.new result
+    ensures { TellsSome W.lines out.old out.new result
         (OutcomeLines F.seen F.finishes peer became) }
 {
     match became {
@@ -82,7 +82,7 @@ fn tell_became<F: RecordingFiles, W: WriteLines>(
 }
 
 fn tell_no_memory<W: WriteLines>(peer: SocketAddr, out: &mut W) -> io::Result<()>
-    ensures { Tells W.contents W.failed out.old out.new result
+    ensures { Tells W.lines out.old out.new result
         (no_memory_line peer) }
 {
     let fault = RecordFault::Message(MessageFault::OutOfMemory);

@@ -26,7 +26,7 @@ pub fn go_over<F: RecordingFiles + Drop, W: WriteLines>(
     is_over: bool,
     out: &mut W,
 ) -> io::Result<()>
-    ensures turns { TellsSome W.contents W.failed out.old out.new result
+    ensures turns { TellsSome W.lines out.old out.new result
         (HadTurns F.seen F.finishes second is_over peers.old.kept.entries peers.new.kept.entries) }
     ensures limits { KeepsLimits peers.old peers.new }
 {
@@ -45,7 +45,7 @@ fn go_on<F: RecordingFiles + Drop, W: WriteLines>(
     is_over: bool,
     out: &mut W,
 ) -> io::Result<()>
-    ensures turn { (peers.old.kept.entries ≡ []) ⊎ TellsSome W.contents W.failed out.old out.new result
+    ensures turn { (peers.old.kept.entries ≡ []) ⊎ TellsSome W.lines out.old out.new result
         (IsTurn F.seen F.finishes second is_over peers.old.kept.entries peers.new.kept.entries) }
     ensures limits { KeepsLimits peers.old peers.new }
 {
@@ -62,7 +62,7 @@ fn tell_turn<F: RecordingFiles, W: WriteLines>(
     turn: InTurn<F>,
     out: &mut W,
 ) -> io::Result<()>
-    ensures { TellsSome W.contents W.failed out.old out.new result
+    ensures { TellsSome W.lines out.old out.new result
         (IsTurnTold F.seen F.finishes turn) }
 {
     let InTurn {
@@ -85,7 +85,7 @@ fn end_if<F: RecordingFiles, W: WriteLines>(
     ended: Option<PeerState<F>>,
     out: &mut W,
 ) -> io::Result<()>
-    ensures { TellsSome W.contents W.failed out.old out.new result
+    ensures { TellsSome W.lines out.old out.new result
         (EndedLines F.seen F.finishes peer ended) }
 {
     match ended {
@@ -102,7 +102,7 @@ pub fn end_silent<F: RecordingFiles + Drop, W: WriteLines>(
     since: u64,
     out: &mut W,
 ) -> io::Result<()>
-    ensures silent { TellsSome W.contents W.failed out.old out.new result
+    ensures silent { TellsSome W.lines out.old out.new result
         (EndsSilent F.seen F.finishes since peers.old.kept.entries peers.new.kept.entries) }
     ensures limits { KeepsLimits peers.old peers.new }
 {
@@ -125,7 +125,7 @@ fn end_one<F: RecordingFiles + Drop, W: WriteLines>(
 ) -> Option<io::Result<()>>
     ensures none { result ≡ None → (peers.new ≡ peers.old) × (out.new ≡ out.old) }
     ensures heard { result ≡ None → LastIsHeard since peers.old.kept.entries }
-    ensures silent { IfSome result (λ answer. TellsSome W.contents W.failed out.old out.new answer
+    ensures silent { IfSome result (λ answer. TellsSome W.lines out.old out.new answer
         (EndsOneSilent F.seen F.finishes since peers.old.kept.entries peers.new.kept.entries)) }
     ensures limits { KeepsLimits peers.old peers.new }
 {
@@ -138,7 +138,7 @@ fn end_one<F: RecordingFiles + Drop, W: WriteLines>(
 /// Tells how many datagrams came from peers that may not send, and how often none could be received, if that
 /// was so. They are counted again then, though a line can't be written; its first error is the answer.
 pub fn tell_unserved<W: WriteLines>(unserved: &mut SharedCounts, out: &mut W) -> io::Result<()>
-    ensures told { Tells W.contents W.failed out.old out.new result
+    ensures told { Tells W.lines out.old out.new result
         (unserved_lines unserved.old) }
     ensures none_left { unserved.new ≡ none_unserved unserved.old }
 {
@@ -147,7 +147,7 @@ pub fn tell_unserved<W: WriteLines>(unserved: &mut SharedCounts, out: &mut W) ->
 }
 
 fn tell_turned_away<W: WriteLines>(refused: Option<RefusedPeers>, out: &mut W) -> io::Result<()>
-    ensures { Tells W.contents W.failed out.old out.new result
+    ensures { Tells W.lines out.old out.new result
         (turned_away_lines refused) }
 {
     match refused {
@@ -157,7 +157,7 @@ fn tell_turned_away<W: WriteLines>(refused: Option<RefusedPeers>, out: &mut W) -
 }
 
 fn tell_not_received<W: WriteLines>(count: u64, out: &mut W) -> io::Result<()>
-    ensures { Tells W.contents W.failed out.old out.new result
+    ensures { Tells W.lines out.old out.new result
         (not_received_lines count) }
 {
     if count == 0 {

@@ -16,7 +16,7 @@ pub fn write_refused_datagrams<W: WriteLines>(
     name: &str,
     out: &mut W,
 ) -> io::Result<()>
-    ensures { Tells W.contents W.failed out.old out.new result
+    ensures { Tells W.lines out.old out.new result
         (refused_datagrams_line peer count number name.now) }
 {
     writeln!(
@@ -28,7 +28,7 @@ pub fn write_refused_datagrams<W: WriteLines>(
 /// Writes that a peer was ended, and why.
 #[tactic(auto, unfolding(crate::specs::RecordLines::peer_ended_line))]
 pub fn write_peer_ended<W: WriteLines>(peer: SocketAddr, why: &str, out: &mut W) -> io::Result<()>
-    ensures { Tells W.contents W.failed out.old out.new result
+    ensures { Tells W.lines out.old out.new result
         (peer_ended_line peer why.now) }
 {
     writeln!(out, "collectd: session {peer}: ended: {why}")
@@ -43,7 +43,7 @@ pub fn write_advance<W: WriteLines>(
     came: u64,
     out: &mut W,
 ) -> io::Result<()>
-    ensures { Tells W.contents W.failed out.old out.new result
+    ensures { Tells W.lines out.old out.new result
         (advance_line peer domain advance came) }
 {
     writeln!(
@@ -62,7 +62,7 @@ pub fn write_order<W: WriteLines>(
     reordered: u64,
     out: &mut W,
 ) -> io::Result<()>
-    ensures { Tells W.contents W.failed out.old out.new result
+    ensures { Tells W.lines out.old out.new result
         (order_line peer domain doubled reordered) }
 {
     writeln!(
@@ -79,7 +79,7 @@ pub fn write_resumed<W: WriteLines>(
     templates: usize,
     out: &mut W,
 ) -> io::Result<()>
-    ensures { Tells W.contents W.failed out.old out.new result
+    ensures { Tells W.lines out.old out.new result
         (resumed_line peer domain templates) }
 {
     writeln!(
@@ -91,7 +91,7 @@ pub fn write_resumed<W: WriteLines>(
 /// Writes how many datagrams of peers that have no session were refused, and which peer sent the last.
 #[tactic(auto, unfolding(crate::specs::RecordLines::turned_away_line))]
 pub fn write_turned_away<W: WriteLines>(count: u64, last: SocketAddr, out: &mut W) -> io::Result<()>
-    ensures { Tells W.contents W.failed out.old out.new result
+    ensures { Tells W.lines out.old out.new result
         (turned_away_line count last) }
 {
     writeln!(out, "collectd: refused {count} datagrams, last {last}")
@@ -100,7 +100,7 @@ pub fn write_turned_away<W: WriteLines>(count: u64, last: SocketAddr, out: &mut 
 /// Writes how often no datagram could be received.
 #[tactic(auto, unfolding(crate::specs::RecordLines::not_received_line))]
 pub fn write_not_received<W: WriteLines>(count: u64, out: &mut W) -> io::Result<()>
-    ensures { Tells W.contents W.failed out.old out.new result
+    ensures { Tells W.lines out.old out.new result
         (not_received_line count) }
 {
     writeln!(out, "collectd: record: receive failed {count} times")
@@ -113,7 +113,7 @@ pub fn write_system_drops<W: WriteLines>(
     count: u64,
     out: &mut W,
 ) -> io::Result<()>
-    ensures { Tells W.contents W.failed out.old out.new result (system_drops_line address count) }
+    ensures { Tells W.lines out.old out.new result (system_drops_line address count) }
 {
     writeln!(
         out,

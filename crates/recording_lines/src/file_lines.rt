@@ -10,7 +10,7 @@ use std::io;
 /// Writes the line of a file that is finished: its path, what the exporter sent in it, and how many withdrawals
 /// were ignored, if some were.
 pub fn write_finished<W: WriteLines>(path: &str, report: &FileReport, out: &mut W) -> io::Result<()>
-    ensures { Tells W.contents W.failed out.old out.new result
+    ensures { Tells W.lines out.old out.new result
         (finished_line path.now report.now) }
 {
     write_start(path, out)?;
@@ -21,7 +21,7 @@ pub fn write_finished<W: WriteLines>(path: &str, report: &FileReport, out: &mut 
 
 /// Writes what a file has. Unknown sets and unaccounted records stand there only if there were some.
 pub(crate) fn write_report<W: WriteLines>(report: &FileReport, out: &mut W) -> io::Result<()>
-    ensures { Tells W.contents W.failed out.old out.new result (report_text report.now) }
+    ensures { Tells W.lines out.old out.new result (report_text report.now) }
 {
     write_counts(report, out)?;
     write_losses(report, out)?;
@@ -30,7 +30,7 @@ pub(crate) fn write_report<W: WriteLines>(report: &FileReport, out: &mut W) -> i
 
 // Nothing is written if none was ignored.
 fn write_ignored<W: WriteLines>(report: &FileReport, out: &mut W) -> io::Result<()>
-    ensures { Tells W.contents W.failed out.old out.new result (ignored_end report.now) }
+    ensures { Tells W.lines out.old out.new result (ignored_end report.now) }
 {
     if report.ignored_withdrawals == 0 {
         Ok(())
@@ -41,7 +41,7 @@ fn write_ignored<W: WriteLines>(report: &FileReport, out: &mut W) -> io::Result<
 
 #[tactic(auto, unfolding(crate::specs::RecordLines::ignored_text))]
 fn write_ignored_text<W: WriteLines>(report: &FileReport, out: &mut W) -> io::Result<()>
-    ensures { Tells W.contents W.failed out.old out.new result (ignored_text report.now) }
+    ensures { Tells W.lines out.old out.new result (ignored_text report.now) }
 {
     let FileReport {
         ignored_withdrawals,
@@ -53,7 +53,7 @@ fn write_ignored_text<W: WriteLines>(report: &FileReport, out: &mut W) -> io::Re
 /// Writes that a file could not be finished, by its path.
 #[tactic(auto, unfolding(crate::specs::RecordLines::not_finished_line))]
 pub fn write_not_finished<W: WriteLines>(path: &str, out: &mut W) -> io::Result<()>
-    ensures { Tells W.contents W.failed out.old out.new result
+    ensures { Tells W.lines out.old out.new result
         (not_finished_line path.now) }
 {
     writeln!(out, "collectd: not finished: {path}")
@@ -61,7 +61,7 @@ pub fn write_not_finished<W: WriteLines>(path: &str, out: &mut W) -> io::Result<
 
 #[tactic(auto, unfolding(crate::specs::RecordLines::line_start))]
 fn write_start<W: WriteLines>(path: &str, out: &mut W) -> io::Result<()>
-    ensures { Tells W.contents W.failed out.old out.new result
+    ensures { Tells W.lines out.old out.new result
         (line_start path.now) }
 {
     write!(out, "collectd: {path}")
@@ -69,7 +69,7 @@ fn write_start<W: WriteLines>(path: &str, out: &mut W) -> io::Result<()>
 
 #[tactic(auto, unfolding(crate::specs::RecordLines::counts_text))]
 fn write_counts<W: WriteLines>(report: &FileReport, out: &mut W) -> io::Result<()>
-    ensures { Tells W.contents W.failed out.old out.new result (counts_text report.now) }
+    ensures { Tells W.lines out.old out.new result (counts_text report.now) }
 {
     let FileReport {
         messages,
@@ -81,7 +81,7 @@ fn write_counts<W: WriteLines>(report: &FileReport, out: &mut W) -> io::Result<(
 
 #[tactic(auto, unfolding(crate::specs::RecordLines::losses_text))]
 fn write_losses<W: WriteLines>(report: &FileReport, out: &mut W) -> io::Result<()>
-    ensures { Tells W.contents W.failed out.old out.new result (losses_text report.now) }
+    ensures { Tells W.lines out.old out.new result (losses_text report.now) }
 {
     let FileReport { lost, backward, .. } = *report;
     write!(out, ", lost {lost}, backward {backward}")
@@ -89,7 +89,7 @@ fn write_losses<W: WriteLines>(report: &FileReport, out: &mut W) -> io::Result<(
 
 // Nothing is written if there were none.
 fn write_uncounted<W: WriteLines>(report: &FileReport, out: &mut W) -> io::Result<()>
-    ensures { Tells W.contents W.failed out.old out.new result (uncounted_end report.now) }
+    ensures { Tells W.lines out.old out.new result (uncounted_end report.now) }
 {
     if report.unknown_sets == 0 && report.unaccounted == 0 {
         Ok(())
@@ -100,7 +100,7 @@ fn write_uncounted<W: WriteLines>(report: &FileReport, out: &mut W) -> io::Resul
 
 #[tactic(auto, unfolding(crate::specs::RecordLines::uncounted_text))]
 fn write_uncounted_text<W: WriteLines>(report: &FileReport, out: &mut W) -> io::Result<()>
-    ensures { Tells W.contents W.failed out.old out.new result (uncounted_text report.now) }
+    ensures { Tells W.lines out.old out.new result (uncounted_text report.now) }
 {
     let FileReport {
         unknown_sets,

@@ -12,7 +12,7 @@ use std::io::{self, Write};
 
 impl<E: Write + Drop> FinishedFiles for WholeLines<E> {
     ghost tells = { λ before notice told after.
-        Tells ⟦<WholeLines<E> as WriteLines>⟧.contents ⟦<WholeLines<E> as WriteLines>⟧.failed
+        Tells ⟦<WholeLines<E> as WriteLines>⟧.lines
         before after told (notice_line notice) };
 
     fn finished(&mut self, path: &str, report: &FileReport) -> io::Result<()> {

@@ -10,6 +10,6 @@ use std::io::Write;
 /// Where the last line has ended nothing is kept back: the writer has all.
 pub fn ended_lines_are_written<E: Write + Drop>()
     ensures { (lines : WholeLines E) (text : List ℕ)
-        → ⟦<WholeLines<E> as WriteLines>⟧.contents lines ≡ Some (text ++ codes "\n")
+        → (⟦<WholeLines<E> as WriteLines>⟧.lines lines).contents ≡ Some (text ++ codes "\n")
         → E.contents lines.out ≡ Some (text ++ codes "\n") }
 {}

@@ -10,7 +10,7 @@ use std::net::SocketAddr;
 /// Writes how many peers were refused, and which was the last.
 #[tactic(auto, unfolding(crate::specs::RecordLines::refused_line))]
 pub fn write_refused<W: WriteLines>(count: u64, last: SocketAddr, out: &mut W) -> io::Result<()>
-    ensures { Tells W.contents W.failed out.old out.new result
+    ensures { Tells W.lines out.old out.new result
         (refused_line count last) }
 {
     writeln!(out, "collectd: refused {count} connections, last {last}")
@@ -19,7 +19,7 @@ pub fn write_refused<W: WriteLines>(count: u64, last: SocketAddr, out: &mut W) -
 /// Writes how often no connection could be accepted.
 #[tactic(auto, unfolding(crate::specs::RecordLines::not_accepted_line))]
 pub fn write_not_accepted<W: WriteLines>(count: u64, out: &mut W) -> io::Result<()>
-    ensures { Tells W.contents W.failed out.old out.new result
+    ensures { Tells W.lines out.old out.new result
         (not_accepted_line count) }
 {
     writeln!(out, "collectd: record: accept failed {count} times")
@@ -28,7 +28,7 @@ pub fn write_not_accepted<W: WriteLines>(count: u64, out: &mut W) -> io::Result<
 /// Writes how many threads could be started, of how many.
 #[tactic(auto, unfolding(crate::specs::RecordLines::threads_line))]
 pub fn write_threads<W: WriteLines>(started: usize, threads: usize, out: &mut W) -> io::Result<()>
-    ensures { Tells W.contents W.failed out.old out.new result
+    ensures { Tells W.lines out.old out.new result
         (threads_line started threads) }
 {
     writeln!(out, "collectd: record: threads {started} of {threads}")

@@ -10,7 +10,7 @@ use std::io;
 
 /// Writes what became of a file that an earlier run left.
 pub fn write_outcome<W: WriteLines>(path: &str, outcome: Recovered, out: &mut W) -> io::Result<()>
-    ensures { Tells W.contents W.failed out.old out.new result
+    ensures { Tells W.lines out.old out.new result
         (outcome_line path.now outcome) }
 {
     match outcome {
@@ -27,7 +27,7 @@ fn write_recovered<W: WriteLines>(
     end: FileEnd,
     out: &mut W,
 ) -> io::Result<()>
-    ensures { Tells W.contents W.failed out.old out.new result
+    ensures { Tells W.lines out.old out.new result
         (recovered_line path.now report.now end) }
 {
     write_start(path, out)?;
@@ -38,7 +38,7 @@ fn write_recovered<W: WriteLines>(
 
 #[tactic(auto, unfolding(crate::specs::RecordLines::recovered_start))]
 fn write_start<W: WriteLines>(path: &str, out: &mut W) -> io::Result<()>
-    ensures { Tells W.contents W.failed out.old out.new result
+    ensures { Tells W.lines out.old out.new result
         (recovered_start path.now) }
 {
     write!(out, "collectd: recovered: {path}")
@@ -46,7 +46,7 @@ fn write_start<W: WriteLines>(path: &str, out: &mut W) -> io::Result<()>
 
 // Writes how a file ends. Nothing is written if it ended so when it was found.
 fn write_file_end<W: WriteLines>(end: FileEnd, out: &mut W) -> io::Result<()>
-    ensures { Tells W.contents W.failed out.old out.new result (end_text end) }
+    ensures { Tells W.lines out.old out.new result (end_text end) }
 {
     match end {
         FileEnd::Whole => Ok(()),
@@ -58,7 +58,7 @@ fn write_file_end<W: WriteLines>(end: FileEnd, out: &mut W) -> io::Result<()>
 // Writes that so many octets of a message were cut off its end.
 #[tactic(auto, unfolding(crate::specs::RecordLines::cut_off_text))]
 fn write_cut_off<W: WriteLines>(octets: u64, out: &mut W) -> io::Result<()>
-    ensures { Tells W.contents W.failed out.old out.new result (cut_off_text octets) }
+    ensures { Tells W.lines out.old out.new result (cut_off_text octets) }
 {
     write!(out, ", cut off {octets} octets")
 }
@@ -66,7 +66,7 @@ fn write_cut_off<W: WriteLines>(octets: u64, out: &mut W) -> io::Result<()>
 // Writes that so many octets of a message still stand at its end.
 #[tactic(auto, unfolding(crate::specs::RecordLines::truncated_text))]
 fn write_truncated<W: WriteLines>(octets: u64, out: &mut W) -> io::Result<()>
-    ensures { Tells W.contents W.failed out.old out.new result (truncated_text octets) }
+    ensures { Tells W.lines out.old out.new result (truncated_text octets) }
 {
     write!(out, ", ends {octets} octets into a message")
 }
@@ -74,7 +74,7 @@ fn write_truncated<W: WriteLines>(octets: u64, out: &mut W) -> io::Result<()>
 // Writes that a file went away, since it had no whole message.
 #[tactic(auto, unfolding(crate::specs::RecordLines::removed_line))]
 fn write_removed<W: WriteLines>(path: &str, octets: u64, out: &mut W) -> io::Result<()>
-    ensures { Tells W.contents W.failed out.old out.new result
+    ensures { Tells W.lines out.old out.new result
         (removed_line path.now octets) }
 {
     writeln!(
@@ -86,7 +86,7 @@ fn write_removed<W: WriteLines>(path: &str, octets: u64, out: &mut W) -> io::Res
 // Writes that a file stays among the unfinished ones.
 #[tactic(auto, unfolding(crate::specs::RecordLines::stayed_line))]
 fn write_stayed<W: WriteLines>(path: &str, out: &mut W) -> io::Result<()>
-    ensures { Tells W.contents W.failed out.old out.new result
+    ensures { Tells W.lines out.old out.new result
         (stayed_line path.now) }
 {
     writeln!(out, "collectd: not recovered: {path}")

@@ -15,7 +15,7 @@ pub fn write_peer_losses<W: WriteLines>(
     domains: &[DomainReport],
     out: &mut W,
 ) -> io::Result<()>
-    ensures { Tells W.contents W.failed out.old out.new result
+    ensures { Tells W.lines out.old out.new result
         (peer_loss_lines peer domains.now) }
 {
     for domain in domains {
@@ -29,7 +29,7 @@ fn write_peer_domain<W: WriteLines>(
     domain: &DomainReport,
     out: &mut W,
 ) -> io::Result<()>
-    ensures { Tells W.contents W.failed out.old out.new result
+    ensures { Tells W.lines out.old out.new result
         (peer_domain_lines peer domain.now) }
 {
     if domain.lost == 0 && domain.backward == 0 {
@@ -44,7 +44,7 @@ fn write_peer_loss<W: WriteLines>(
     report: &DomainReport,
     out: &mut W,
 ) -> io::Result<()>
-    ensures { Tells W.contents W.failed out.old out.new result
+    ensures { Tells W.lines out.old out.new result
         (peer_loss_line peer report.now) }
 {
     let DomainReport {
@@ -67,7 +67,7 @@ pub fn write_peer_fault<W: WriteLines>(
     name: &str,
     out: &mut W,
 ) -> io::Result<()>
-    ensures { Tells W.contents W.failed out.old out.new result
+    ensures { Tells W.lines out.old out.new result
         (peer_fault_line peer number name.now) }
 {
     writeln!(out, "collectd: session {peer}: fault {number} {name}")
@@ -82,7 +82,7 @@ pub fn write_peer_reason<W: WriteLines>(
     words: &str,
     out: &mut W,
 ) -> io::Result<()>
-    ensures { Tells W.contents W.failed out.old out.new result
+    ensures { Tells W.lines out.old out.new result
         (peer_reason_line peer number name.now words.now) }
 {
     writeln!(

@@ -25,7 +25,7 @@ pub struct WholeLines<E: Write + Drop> {
 impl<E: Write + Drop> WholeLines<E> {
     /// Lines that are written to a writer.
     pub fn new(out: E) -> Self
-        ensures { ⟦<WholeLines<E> as WriteLines>⟧.contents result ≡ E.contents out }
+        ensures { (⟦<WholeLines<E> as WriteLines>⟧.lines result).contents ≡ E.contents out }
     {
         WholeLines {
             line: ArrayVec::new(),
@@ -38,7 +38,7 @@ impl<E: Write + Drop> WholeLines<E> {
         ensures added { OnOk result (IsOk added) }
         ensures written { OnOk result (Appends
             (append_known (E.contents self.old.out) self.old.line.items)
-            (⟦<WholeLines<E> as WriteLines>⟧.contents self.new) []) }
+            (⟦<WholeLines<E> as WriteLines>⟧.lines self.new).contents []) }
     {
         if added.is_ok() && !self.line.ends_with(b"\n") {
             return Ok(());
@@ -53,9 +53,7 @@ impl<E: Write + Drop> WholeLines<E> {
 }
 
 impl<E: Write + Drop> WriteLines for WholeLines<E> {
-    ghost contents = { λ w. written_with (E.contents w.out) w.line.items };
-
-    ghost failed = { λ _. ⊤ };
+    ghost lines = { λ w. record { contents = written_with (E.contents w.out) w.line.items; failed = ⊤ } };
 
     fn write_fmt<D: Display>(&mut self, text: D) -> io::Result<()>
     where

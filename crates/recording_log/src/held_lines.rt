@@ -71,7 +71,7 @@ impl HeldLines {
 
     /// Writes the last line that is held, and with it how many are held, if there are any.
     pub fn write<W: WriteLines>(&self, out: &mut W) -> io::Result<()>
-        ensures { Tells W.contents W.failed out.old out.new result (held_text self.now) }
+        ensures { Tells W.lines out.old out.new result (held_text self.now) }
     {
         match self.count {
             0 => Ok(()),
@@ -105,7 +105,7 @@ impl HeldLines {
     // Writes the last line that is held, and how often one like it came.
     #[tactic(auto, unfolding(crate::specs::Held::held_times))]
     fn write_times<W: WriteLines>(&self, out: &mut W) -> io::Result<()>
-        ensures { Tells W.contents W.failed out.old out.new result (held_times self.now.last self.now.count) }
+        ensures { Tells W.lines out.old out.new result (held_times self.now.last self.now.count) }
     {
         let end = self.last.len().saturating_sub(1);
         out.write_all(&self.last.as_slice()[..end])?;
@@ -158,7 +158,7 @@ fn space_in(text: &[u8]) -> Option<usize>
 }
 
 fn write_count<W: WriteLines>(count: u64, out: &mut W) -> io::Result<()>
-    ensures { Tells W.contents W.failed out.old out.new result
+    ensures { Tells W.lines out.old out.new result
         (codes " (" ++ (decimal count ++ codes " times)\n")) }
 {
     writeln!(out, " ({count} times)")

@@ -1,6 +1,7 @@
 //! Lines that wait to be written.
 
 ghost use Rattle.std.specs.Prelude.{◌≡◌, ◌≤◌, ◌↔◌, IfOk, IsTrue, vec_capacity};
+ghost use Rattle.report_writing.specs.Lines.{Adds};
 ghost use Rattle.report_writing.specs.Writing.{Tells};
 ghost use Rattle.recording_log.specs.Logs.{dropped_line, dropped_lines, has_room, log_text, nothing_waits, pushed};
 ghost use Rattle.recording_log.specs.declared.waiting_lines.TheConstants.{MOST_OCTETS};
@@ -78,7 +79,7 @@ impl WaitingLines {
 
     /// Writes the lines that wait, and then how many were dropped, if any were.
     pub fn write<W: WriteLines>(&self, out: &mut W) -> io::Result<()>
-        ensures { Tells W.contents W.failed out.old out.new result (log_text self.now) }
+        ensures { Tells W.lines out.old out.new result (log_text self.now) }
     {
         out.write_all(self.text.as_slice())?;
         write_dropped(self.dropped, out)
@@ -96,7 +97,7 @@ impl WaitingLines {
 
 // Writes how many lines were dropped, if any were.
 fn write_dropped<W: WriteLines>(dropped: u64, out: &mut W) -> io::Result<()>
-    ensures { Tells W.contents W.failed out.old out.new result (dropped_lines dropped) }
+    ensures { Tells W.lines out.old out.new result (dropped_lines dropped) }
 {
     if dropped == 0 {
         return Ok(());
@@ -106,7 +107,7 @@ fn write_dropped<W: WriteLines>(dropped: u64, out: &mut W) -> io::Result<()>
 
 #[tactic(auto, unfolding(crate::specs::Logs::dropped_line))]
 fn write_dropped_line<W: WriteLines>(dropped: u64, out: &mut W) -> io::Result<()>
-    ensures { Tells W.contents W.failed out.old out.new result (dropped_line dropped) }
+    ensures { Tells W.lines out.old out.new result (dropped_line dropped) }
 {
     writeln!(out, "collectd: lines dropped: {dropped}")
 }

@@ -22,7 +22,7 @@ pub fn write_sampling<W: WriteLines>(
     reports: &[SamplingReport],
     out: &mut W,
 ) -> io::Result<()>
-    ensures told { Tells W.contents W.failed out.old out.new result
+    ensures told { Tells W.lines out.old out.new result
         (sampling_told verbosity origins.now reports.now) }
     // Without these options nothing is written.
     ensures plain { verbosity.verbose ≡ false → verbosity.strict ≡ false → out.new ≡ out.old }
@@ -39,7 +39,7 @@ fn write_sessions<W: WriteLines>(
     reports: &[SamplingReport],
     out: &mut W,
 ) -> io::Result<()>
-    ensures { Tells W.contents W.failed out.old out.new result
+    ensures { Tells W.lines out.old out.new result
         (sampling_lines origins.now reports.now) }
 {
     for (index, report) in reports.iter().enumerate() {
@@ -55,7 +55,7 @@ fn write_numbered<W: WriteLines>(
     report: &SamplingReport,
     out: &mut W,
 ) -> io::Result<()>
-    ensures { Tells W.contents W.failed out.old out.new result
+    ensures { Tells W.lines out.old out.new result
         (session_sampling session (origin_of origins.now session) report.now) }
 {
     match origins.get(session.saturating_sub(1)) {
@@ -70,7 +70,7 @@ fn write_rates<W: WriteLines>(
     counts: &VecDeque<RateCount>,
     out: &mut W,
 ) -> io::Result<()>
-    ensures { Tells W.contents W.failed out.old out.new result
+    ensures { Tells W.lines out.old out.new result
         (flat_map (rate_line session origin.now) counts.now.items) }
 {
     for index in 0..counts.len() {
@@ -85,7 +85,7 @@ fn write_rate<W: WriteLines>(
     count: &RateCount,
     out: &mut W,
 ) -> io::Result<()>
-    ensures { Tells W.contents W.failed out.old out.new result
+    ensures { Tells W.lines out.old out.new result
         (rate_line session origin.now count.now) }
 {
     write_session_start(session, origin, out)?;
@@ -93,7 +93,7 @@ fn write_rate<W: WriteLines>(
 }
 
 fn write_count<W: WriteLines>(count: &RateCount, out: &mut W) -> io::Result<()>
-    ensures { Tells W.contents W.failed out.old out.new result
+    ensures { Tells W.lines out.old out.new result
         (count_text count.now.domain count.now.rate count.now.records) }
 {
     match count.rate {
@@ -109,7 +109,7 @@ fn write_sampled<W: WriteLines>(
     records: u64,
     out: &mut W,
 ) -> io::Result<()>
-    ensures { Tells W.contents W.failed out.old out.new result
+    ensures { Tells W.lines out.old out.new result
         (sampled_text domain rate records) }
 {
     let Rate {
@@ -124,7 +124,7 @@ fn write_sampled<W: WriteLines>(
 
 #[tactic(auto, unfolding(crate::specs::SamplingLines::unrated_text))]
 fn write_unrated<W: WriteLines>(domain: u32, records: u64, out: &mut W) -> io::Result<()>
-    ensures { Tells W.contents W.failed out.old out.new result (unrated_text domain records) }
+    ensures { Tells W.lines out.old out.new result (unrated_text domain records) }
 {
     writeln!(out, ": domain {domain}: unrated (records {records})")
 }

@@ -18,7 +18,7 @@ pub fn write_balances<W: WriteLines>(
     balances: &[DomainBalance],
     out: &mut W,
 ) -> io::Result<()>
-    ensures { Tells W.contents W.failed out.old out.new result
+    ensures { Tells W.lines out.old out.new result
         (balances_told verbosity session origin.now balances.now) }
 {
     if verbosity.verbose || verbosity.strict {
@@ -34,7 +34,7 @@ fn write_each<W: WriteLines>(
     balances: &[DomainBalance],
     out: &mut W,
 ) -> io::Result<()>
-    ensures { Tells W.contents W.failed out.old out.new result
+    ensures { Tells W.lines out.old out.new result
         (flat_map (balance_lines session origin.now) balances.now) }
 {
     for balance in balances {
@@ -49,7 +49,7 @@ fn write_balance<W: WriteLines>(
     balance: &DomainBalance,
     out: &mut W,
 ) -> io::Result<()>
-    ensures { Tells W.contents W.failed out.old out.new result
+    ensures { Tells W.lines out.old out.new result
         (balance_lines session origin.now balance.now) }
 {
     if is_all_counted(balance) {
@@ -73,7 +73,7 @@ fn is_all_counted(balance: &DomainBalance) -> bool
 }
 
 fn write_balance_end<W: WriteLines>(balance: &DomainBalance, out: &mut W) -> io::Result<()>
-    ensures { Tells W.contents W.failed out.old out.new result (balance_text balance.now) }
+    ensures { Tells W.lines out.old out.new result (balance_text balance.now) }
 {
     let passed_over = balance.passed_over;
     write_sets(balance.domain, passed_over, out)?;
@@ -82,7 +82,7 @@ fn write_balance_end<W: WriteLines>(balance: &DomainBalance, out: &mut W) -> io:
 
 #[tactic(auto, unfolding(crate::specs::ToldLines::sets_text))]
 fn write_sets<W: WriteLines>(domain: u32, passed_over: PassedOver, out: &mut W) -> io::Result<()>
-    ensures { Tells W.contents W.failed out.old out.new result (sets_text domain passed_over) }
+    ensures { Tells W.lines out.old out.new result (sets_text domain passed_over) }
 {
     let unknown_sets = passed_over.unknown_sets;
     let skipped_sets = passed_over.skipped_sets;
@@ -98,7 +98,7 @@ fn write_records<W: WriteLines>(
     unaccounted: u64,
     out: &mut W,
 ) -> io::Result<()>
-    ensures { Tells W.contents W.failed out.old out.new result
+    ensures { Tells W.lines out.old out.new result
         (records_text ignored_withdrawals unaccounted) }
 {
     writeln!(

@@ -18,7 +18,7 @@ pub fn write_end<W: WriteLines>(
     full: &FullReport,
     out: &mut W,
 ) -> io::Result<()>
-    ensures { Tells W.contents W.failed out.old out.new result
+    ensures { Tells W.lines out.old out.new result
         (end_told verbosity session origin.now failure full.now) }
 {
     if verbosity.verbose {
@@ -39,7 +39,7 @@ fn write_fault_place<W: WriteLines>(
     place: MessagePlace,
     out: &mut W,
 ) -> io::Result<()>
-    ensures { Tells W.contents W.failed out.old out.new result
+    ensures { Tells W.lines out.old out.new result
         (fault_place_lines session origin.now fault place) }
 {
     match fault {
@@ -59,7 +59,7 @@ fn write_place<W: WriteLines>(
     place: MessagePlace,
     out: &mut W,
 ) -> io::Result<()>
-    ensures { Tells W.contents W.failed out.old out.new result (place_text number name.now place) }
+    ensures { Tells W.lines out.old out.new result (place_text number name.now place) }
 {
     let MessagePlace { message, octet } = place;
     write!(
@@ -69,7 +69,7 @@ fn write_place<W: WriteLines>(
 }
 
 fn write_left<W: WriteLines>(octets: Option<u64>, out: &mut W) -> io::Result<()>
-    ensures { Tells W.contents W.failed out.old out.new result (left_text octets) }
+    ensures { Tells W.lines out.old out.new result (left_text octets) }
 {
     match octets {
         None => writeln!(out),
@@ -79,7 +79,7 @@ fn write_left<W: WriteLines>(octets: Option<u64>, out: &mut W) -> io::Result<()>
 
 #[tactic(auto, unfolding(crate::specs::ToldLines::number_left))]
 fn write_number_left<W: WriteLines>(octets: u64, out: &mut W) -> io::Result<()>
-    ensures { Tells W.contents W.failed out.old out.new result (number_left octets) }
+    ensures { Tells W.lines out.old out.new result (number_left octets) }
 {
     writeln!(out, " unread {octets}")
 }
@@ -90,7 +90,7 @@ fn write_ended<W: WriteLines>(
     full: &FullReport,
     out: &mut W,
 ) -> io::Result<()>
-    ensures { Tells W.contents W.failed out.old out.new result
+    ensures { Tells W.lines out.old out.new result
         (ended_line session origin.now full.now) }
 {
     write_session_start(session, origin, out)?;
@@ -109,7 +109,7 @@ fn write_counts<W: WriteLines>(
     records: u64,
     out: &mut W,
 ) -> io::Result<()>
-    ensures { Tells W.contents W.failed out.old out.new result
+    ensures { Tells W.lines out.old out.new result
         (ended_text messages octets records) }
 {
     writeln!(

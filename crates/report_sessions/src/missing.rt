@@ -24,7 +24,7 @@ pub fn write_missing<W: WriteLines>(
     missing: &Missing,
     out: &mut W,
 ) -> io::Result<()>
-    ensures told { Tells W.contents W.failed out.old out.new result
+    ensures told { Tells W.lines out.old out.new result
         (missing_told verbosity elements.now plan.now missing.now) }
     // Without these options nothing is written.
     ensures plain { verbosity.verbose ≡ false → verbosity.strict ≡ false → out.new ≡ out.old }
@@ -42,7 +42,7 @@ fn write_lines<W: WriteLines>(
     missing: &Missing,
     out: &mut W,
 ) -> io::Result<()>
-    ensures { Tells W.contents W.failed out.old out.new result
+    ensures { Tells W.lines out.old out.new result
         (missing_lines elements.now plan.now missing.now) }
 {
     write_each(elements, plan.counters(), &missing.counters, out)?;
@@ -62,7 +62,7 @@ trait Lack {
 
     /// Writes that.
     fn write_words<W: WriteLines>(&self, elements: &Elements, out: &mut W) -> io::Result<()>
-        ensures { Tells W.contents W.failed out.old out.new result
+        ensures { Tells W.lines out.old out.new result
             (words elements.now self.now) };
 }
 
@@ -111,7 +111,7 @@ fn write_each<L: Lack, W: WriteLines>(
     out: &mut W,
 ) -> io::Result<()>
     requires { length all.now ≤ length counts.now }
-    ensures { Tells W.contents W.failed out.old out.new result
+    ensures { Tells W.lines out.old out.new result
         (lack_lines (L.words elements.now) all.now counts.now) }
 {
     for (place, lack) in all.iter().enumerate() {
@@ -127,7 +127,7 @@ fn write_line<L: Lack, W: WriteLines>(
     count: u64,
     out: &mut W,
 ) -> io::Result<()>
-    ensures { Tells W.contents W.failed out.old out.new result
+    ensures { Tells W.lines out.old out.new result
         (lack_line (L.words elements.now lack.now) count) }
 {
     if count == 0 {
@@ -144,7 +144,7 @@ fn write_key_name<W: WriteLines>(
     element: ElementId,
     out: &mut W,
 ) -> io::Result<()>
-    ensures { Tells W.contents W.failed out.old out.new result (key_name elements.now element) }
+    ensures { Tells W.lines out.old out.new result (key_name elements.now element) }
 {
     match context_name(element) {
         Some(name) => out.write_all(name.as_bytes()),
@@ -158,7 +158,7 @@ fn write_element<W: WriteLines>(
     element: ElementId,
     out: &mut W,
 ) -> io::Result<()>
-    ensures { Tells W.contents W.failed out.old out.new result (element_name elements.now element) }
+    ensures { Tells W.lines out.old out.new result (element_name elements.now element) }
 {
     match elements.name_of(element) {
         Some(name) => out.write_all(name.as_bytes()),
@@ -168,7 +168,7 @@ fn write_element<W: WriteLines>(
 
 /// Writes the numbers of an element, as a dump spells one that has no name.
 pub fn write_numbers<W: WriteLines>(element: ElementId, out: &mut W) -> io::Result<()>
-    ensures { Tells W.contents W.failed out.old out.new result (numbered_text element) }
+    ensures { Tells W.lines out.old out.new result (numbered_text element) }
 {
     let pen = element.pen;
     let number = element.number;
@@ -176,7 +176,7 @@ pub fn write_numbers<W: WriteLines>(element: ElementId, out: &mut W) -> io::Resu
 }
 
 fn write_prefix<W: WriteLines>(prefix: Option<u8>, out: &mut W) -> io::Result<()>
-    ensures { Tells W.contents W.failed out.old out.new result (prefix_text prefix) }
+    ensures { Tells W.lines out.old out.new result (prefix_text prefix) }
 {
     match prefix {
         Some(bits) => write!(out, "/{bits}"),
@@ -186,7 +186,7 @@ fn write_prefix<W: WriteLines>(prefix: Option<u8>, out: &mut W) -> io::Result<()
 
 #[tactic(auto, unfolding(crate::specs::MissingLines::count_end))]
 fn write_count_end<W: WriteLines>(count: u64, out: &mut W) -> io::Result<()>
-    ensures { Tells W.contents W.failed out.old out.new result (count_end count) }
+    ensures { Tells W.lines out.old out.new result (count_end count) }
 {
     writeln!(out, " {count}")
 }

@@ -28,7 +28,7 @@ pub fn write_unread<W: WriteLines>(
     reason: Option<Reason>,
     out: &mut W,
 ) -> io::Result<()>
-    ensures { Tells W.contents W.failed out.old out.new result
+    ensures { Tells W.lines out.old out.new result
         (unread_lines verbosity name.now reason) }
 {
     match reason {
@@ -46,7 +46,7 @@ pub fn write_read_failed<W: WriteLines>(
     reason: Option<Reason>,
     out: &mut W,
 ) -> io::Result<()>
-    ensures { Tells W.contents W.failed out.old out.new result
+    ensures { Tells W.lines out.old out.new result
         (read_failed_lines session origin.now reason) }
 {
     match reason {
@@ -61,7 +61,7 @@ fn write_read_failed_line<W: WriteLines>(
     reason: Reason,
     out: &mut W,
 ) -> io::Result<()>
-    ensures { Tells W.contents W.failed out.old out.new result
+    ensures { Tells W.lines out.old out.new result
         (read_failed_line session origin.now reason) }
 {
     let fault = SessionFault::ReadFailed;
@@ -71,7 +71,7 @@ fn write_read_failed_line<W: WriteLines>(
 
 #[tactic(auto, unfolding(crate::specs::ReadFailures::reason_text))]
 fn write_reason<W: WriteLines>(number: u8, name: &str, words: &str, out: &mut W) -> io::Result<()>
-    ensures { Tells W.contents W.failed out.old out.new result
+    ensures { Tells W.lines out.old out.new result
         (reason_text number name.now words.now) }
 {
     writeln!(out, ": fault {number} {name}: {words}")

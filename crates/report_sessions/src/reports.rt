@@ -13,7 +13,7 @@ use std::io;
 /// Writes what there is to tell of sessions, counted from 1: a line for each domain whose sequence
 /// numbers tell a loss or a step backward, and then a line for the session's fault.
 pub fn write_reports<W: WriteLines>(reports: &[SessionReport], out: &mut W) -> io::Result<()>
-    ensures { Tells W.contents W.failed out.old out.new result (report_lines reports.now) }
+    ensures { Tells W.lines out.old out.new result (report_lines reports.now) }
 {
     for (index, report) in reports.iter().enumerate() {
         write_session(index + 1, report, out)?;
@@ -27,7 +27,7 @@ pub fn write_session<W: WriteLines>(
     report: &SessionReport,
     out: &mut W,
 ) -> io::Result<()>
-    ensures { Tells W.contents W.failed out.old out.new result (session_lines session report.now) }
+    ensures { Tells W.lines out.old out.new result (session_lines session report.now) }
 {
     write_domains(session, &report.domains, out)?;
     if let Some(fault) = report.fault {
@@ -41,7 +41,7 @@ fn write_domains<W: WriteLines>(
     domains: &[DomainReport],
     out: &mut W,
 ) -> io::Result<()>
-    ensures { Tells W.contents W.failed out.old out.new result
+    ensures { Tells W.lines out.old out.new result
         (flat_map (domain_lines session) domains.now) }
 {
     for domain in domains {
@@ -54,7 +54,7 @@ fn write_domains<W: WriteLines>(
 
 #[tactic(auto, unfolding(crate::specs::ReportLines::loss_line))]
 fn write_loss<W: WriteLines>(session: usize, report: &DomainReport, out: &mut W) -> io::Result<()>
-    ensures { Tells W.contents W.failed out.old out.new result (loss_line session report.now) }
+    ensures { Tells W.lines out.old out.new result (loss_line session report.now) }
 {
     let DomainReport {
         domain,
@@ -75,7 +75,7 @@ fn write_session_fault<W: WriteLines>(
     name: &str,
     out: &mut W,
 ) -> io::Result<()>
-    ensures { Tells W.contents W.failed out.old out.new result
+    ensures { Tells W.lines out.old out.new result
         (codes "collectd: session " ++ (decimal session ++ fault_text number name.now)) }
 {
     writeln!(out, "collectd: session {session}: fault {number} {name}")

@@ -10,7 +10,7 @@ use std::io;
 
 /// Writes the line that counts the records of each class.
 pub fn write_tally<W: WriteLines>(tally: &Tally, out: &mut W) -> io::Result<()>
-    ensures { Tells W.contents W.failed out.old out.new result (tally_line tally.now) }
+    ensures { Tells W.lines out.old out.new result (tally_line tally.now) }
 {
     write_tally_with(tally, None, out)
 }
@@ -21,7 +21,7 @@ pub fn write_tally_with<W: WriteLines>(
     filtered: Option<u64>,
     out: &mut W,
 ) -> io::Result<()>
-    ensures { Tells W.contents W.failed out.old out.new result
+    ensures { Tells W.lines out.old out.new result
         (tally_line_with filtered tally.now) }
 {
     write_first_counts(tally, out)?;
@@ -33,7 +33,7 @@ fn write_other_counts<W: WriteLines>(
     filtered: Option<u64>,
     out: &mut W,
 ) -> io::Result<()>
-    ensures { Tells W.contents W.failed out.old out.new result
+    ensures { Tells W.lines out.old out.new result
         (last_counts tally.now ++ end_of_counts filtered) }
 {
     write_last_counts(tally, out)?;
@@ -42,7 +42,7 @@ fn write_other_counts<W: WriteLines>(
 
 #[tactic(auto, unfolding(crate::specs::ReportLines::end_of_counts))]
 fn write_end<W: WriteLines>(filtered: Option<u64>, out: &mut W) -> io::Result<()>
-    ensures { Tells W.contents W.failed out.old out.new result (end_of_counts filtered) }
+    ensures { Tells W.lines out.old out.new result (end_of_counts filtered) }
 {
     match filtered {
         Some(filtered) => writeln!(out, " filtered {filtered}"),
@@ -52,7 +52,7 @@ fn write_end<W: WriteLines>(filtered: Option<u64>, out: &mut W) -> io::Result<()
 
 #[tactic(auto, unfolding(crate::specs::ReportLines::first_counts))]
 fn write_first_counts<W: WriteLines>(tally: &Tally, out: &mut W) -> io::Result<()>
-    ensures { Tells W.contents W.failed out.old out.new result (first_counts tally.now) }
+    ensures { Tells W.lines out.old out.new result (first_counts tally.now) }
 {
     let used = tally.used;
     let options = tally.options;
@@ -65,7 +65,7 @@ fn write_first_counts<W: WriteLines>(tally: &Tally, out: &mut W) -> io::Result<(
 
 #[tactic(auto, unfolding(crate::specs::ReportLines::last_counts))]
 fn write_last_counts<W: WriteLines>(tally: &Tally, out: &mut W) -> io::Result<()>
-    ensures { Tells W.contents W.failed out.old out.new result (last_counts tally.now) }
+    ensures { Tells W.lines out.old out.new result (last_counts tally.now) }
 {
     let backward = tally.backward;
     let unkeyed = tally.unkeyed;

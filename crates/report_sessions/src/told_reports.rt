@@ -1,10 +1,10 @@
 //! The lines of sessions in full.
 
 ghost use Rattle.std.specs.Prelude.{◌≡◌, false, map, OnOk};
-ghost use Rattle.std.specs.Io.KnownBytes.{Appends};
 ghost use Rattle.report_sessions.specs.EndedSessions.{failure_of as failure_by, IsSaidOf, TellsEnded};
 ghost use Rattle.report_sessions.specs.ReportLines.{report_lines};
 ghost use Rattle.report_sessions.specs.ToldLines.{origin_of, told_lines, told_session};
+ghost use Rattle.report_writing.specs.Lines.{Adds};
 ghost use Rattle.report_writing.specs.Writing.{Tells};
 
 use crate::balances::write_balances;
@@ -37,10 +37,10 @@ pub fn write_told_reports<S: Source, W: WriteLines>(
     // The reason that a session has is what its own source answers; none other has it.
     ensures told { TellsEnded S.failure sources.now reports.now
         (told_lines verbosity elements.now origins.now)
-        (Tells W.contents W.failed out.old out.new result) }
+        (Tells W.lines out.old out.new result) }
     // Without these options nothing is added.
     ensures plain { verbosity.verbose ≡ false → verbosity.strict ≡ false
-        → OnOk result (Appends (W.contents out.old) (W.contents out.new)
+        → OnOk result (Adds W.lines out.old out.new
         (report_lines (map (λ full. full.report) reports.now))) }
 {
     for (index, full) in reports.iter().enumerate() {
@@ -71,7 +71,7 @@ fn write_numbered<W: WriteLines>(
     full: &FullReport,
     out: &mut W,
 ) -> io::Result<()>
-    ensures { Tells W.contents W.failed out.old out.new result (told_session verbosity
+    ensures { Tells W.lines out.old out.new result (told_session verbosity
         elements.now session (origin_of origins.now session) failure full.now) }
 {
     let unknown = &Origin::Unknown;
@@ -93,7 +93,7 @@ pub fn write_told_session<W: WriteLines>(
     full: &FullReport,
     out: &mut W,
 ) -> io::Result<()>
-    ensures { Tells W.contents W.failed out.old out.new result
+    ensures { Tells W.lines out.old out.new result
         (told_session verbosity elements.now session origin.now failure full.now) }
 {
     write_session(session, &full.report, out)?;

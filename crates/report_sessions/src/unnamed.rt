@@ -27,7 +27,7 @@ pub fn write_unnamed<W: WriteLines>(
     full: &FullReport,
     out: &mut W,
 ) -> io::Result<()>
-    ensures { Tells W.contents W.failed out.old out.new result
+    ensures { Tells W.lines out.old out.new result
         (unnamed_told verbosity elements.now session origin.now full.now) }
 {
     if verbosity.verbose {
@@ -116,7 +116,7 @@ fn write_elements_line<W: WriteLines>(
     unnamed: &FirstElements,
     out: &mut W,
 ) -> io::Result<()>
-    ensures { Tells W.contents W.failed out.old out.new result
+    ensures { Tells W.lines out.old out.new result
         (elements_line session origin.now unnamed.now.first unnamed.now.more) }
 {
     let first = unnamed.as_slice();
@@ -130,7 +130,7 @@ fn write_elements_line<W: WriteLines>(
 }
 
 fn write_number<W: WriteLines>(count: usize, has_more: bool, out: &mut W) -> io::Result<()>
-    ensures { Tells W.contents W.failed out.old out.new result (number_shown count has_more) }
+    ensures { Tells W.lines out.old out.new result (number_shown count has_more) }
 {
     if has_more {
         write_over(out)
@@ -141,20 +141,20 @@ fn write_number<W: WriteLines>(count: usize, has_more: bool, out: &mut W) -> io:
 
 #[tactic(auto, unfolding(crate::specs::UnnamedElements::over_text))]
 fn write_over<W: WriteLines>(out: &mut W) -> io::Result<()>
-    ensures { Tells W.contents W.failed out.old out.new result over_text }
+    ensures { Tells W.lines out.old out.new result over_text }
 {
     write!(out, ": elements without a name over 64:")
 }
 
 #[tactic(auto, unfolding(crate::specs::UnnamedElements::count_text))]
 fn write_count<W: WriteLines>(count: usize, out: &mut W) -> io::Result<()>
-    ensures { Tells W.contents W.failed out.old out.new result (count_text count) }
+    ensures { Tells W.lines out.old out.new result (count_text count) }
 {
     write!(out, ": elements without a name {count}:")
 }
 
 fn write_elements<W: WriteLines>(elements: &[ElementId], out: &mut W) -> io::Result<()>
-    ensures { Tells W.contents W.failed out.old out.new result
+    ensures { Tells W.lines out.old out.new result
         (flat_map element_text elements.now) }
 {
     for element in elements {
@@ -165,7 +165,7 @@ fn write_elements<W: WriteLines>(elements: &[ElementId], out: &mut W) -> io::Res
 
 #[tactic(auto, unfolding(crate::specs::UnnamedElements::element_text))]
 fn write_element<W: WriteLines>(element: ElementId, out: &mut W) -> io::Result<()>
-    ensures { Tells W.contents W.failed out.old out.new result (element_text element) }
+    ensures { Tells W.lines out.old out.new result (element_text element) }
 {
     write!(out, " ")?;
     write_numbers(element, out)

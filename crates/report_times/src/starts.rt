@@ -15,7 +15,7 @@ pub fn write_starts<W: WriteLines>(
     starts: &StartCounts,
     out: &mut W,
 ) -> io::Result<()>
-    ensures { Tells W.contents W.failed out.old out.new result
+    ensures { Tells W.lines out.old out.new result
         (lines.session_starts session origin.now starts.now) }
 {
     if has_none(starts) {
@@ -44,7 +44,7 @@ fn write_line<W: WriteLines>(
     starts: &StartCounts,
     out: &mut W,
 ) -> io::Result<()>
-    ensures { Tells W.contents W.failed out.old out.new result
+    ensures { Tells W.lines out.old out.new result
         (lines.starts_line session origin.now starts.now) }
 {
     write_session_start(session, origin, out)?;
@@ -54,7 +54,7 @@ fn write_line<W: WriteLines>(
 }
 
 fn write_counts<W: WriteLines>(starts: &StartCounts, out: &mut W) -> io::Result<()>
-    ensures { Tells W.contents W.failed out.old out.new result (lines.counts_text starts.now) }
+    ensures { Tells W.lines out.old out.new result (lines.counts_text starts.now) }
 {
     write_basic(starts, out)?;
     write_fine(starts, out)?;
@@ -62,14 +62,14 @@ fn write_counts<W: WriteLines>(starts: &StartCounts, out: &mut W) -> io::Result<
 }
 
 fn write_basic<W: WriteLines>(starts: &StartCounts, out: &mut W) -> io::Result<()>
-    ensures { Tells W.contents W.failed out.old out.new result (lines.basic_text starts.now) }
+    ensures { Tells W.lines out.old out.new result (lines.basic_text starts.now) }
 {
     write_count(TimeElement::FlowStartMilliseconds, starts.milliseconds, out)?;
     write_count(TimeElement::FlowStartSeconds, starts.seconds, out)
 }
 
 fn write_fine<W: WriteLines>(starts: &StartCounts, out: &mut W) -> io::Result<()>
-    ensures { Tells W.contents W.failed out.old out.new result (lines.fine_text starts.now) }
+    ensures { Tells W.lines out.old out.new result (lines.fine_text starts.now) }
 {
     write_count(TimeElement::FlowStartMicroseconds, starts.microseconds, out)?;
     write_count(TimeElement::FlowStartNanoseconds, starts.nanoseconds, out)?;
@@ -81,7 +81,7 @@ fn write_fine<W: WriteLines>(starts: &StartCounts, out: &mut W) -> io::Result<()
 }
 
 fn write_others<W: WriteLines>(starts: &StartCounts, out: &mut W) -> io::Result<()>
-    ensures { Tells W.contents W.failed out.old out.new result (lines.others_text starts.now) }
+    ensures { Tells W.lines out.old out.new result (lines.others_text starts.now) }
 {
     write_count(TimeElement::FlowStartSysUpTime, starts.sys_up_time, out)?;
     write_count(
@@ -98,7 +98,7 @@ fn write_others<W: WriteLines>(starts: &StartCounts, out: &mut W) -> io::Result<
 
 // How many flows have an element, if any has.
 fn write_count<W: WriteLines>(element: TimeElement, flows: u64, out: &mut W) -> io::Result<()>
-    ensures { Tells W.contents W.failed out.old out.new result
+    ensures { Tells W.lines out.old out.new result
         (lines.if_counted element flows) }
 {
     if flows == 0 {
@@ -110,7 +110,7 @@ fn write_count<W: WriteLines>(element: TimeElement, flows: u64, out: &mut W) -> 
 
 #[tactic(auto, unfolding(crate::specs::StartsLines::count_text))]
 fn write_named<W: WriteLines>(name: &str, flows: u64, out: &mut W) -> io::Result<()>
-    ensures { Tells W.contents W.failed out.old out.new result (lines.count_text name.now flows) }
+    ensures { Tells W.lines out.old out.new result (lines.count_text name.now flows) }
 {
     write!(out, " {name} {flows}")
 }

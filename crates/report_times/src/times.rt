@@ -19,7 +19,7 @@ pub fn write_times<W: WriteLines>(
     sessions: &[TimesReport],
     out: &mut W,
 ) -> io::Result<()>
-    ensures { Tells W.contents W.failed out.old out.new result
+    ensures { Tells W.lines out.old out.new result
         (times_told noting origins.now sessions.now) }
 {
     match noting {
@@ -34,7 +34,7 @@ fn write_sessions<W: WriteLines>(
     sessions: &[TimesReport],
     out: &mut W,
 ) -> io::Result<()>
-    ensures { Tells W.contents W.failed out.old out.new result
+    ensures { Tells W.lines out.old out.new result
         (times_lines noting origins.now sessions.now) }
 {
     for (index, report) in sessions.iter().enumerate() {
@@ -51,7 +51,7 @@ fn write_numbered<W: WriteLines>(
     report: &TimesReport,
     out: &mut W,
 ) -> io::Result<()>
-    ensures { Tells W.contents W.failed out.old out.new result
+    ensures { Tells W.lines out.old out.new result
         (session_times noting session (origin_of origins.now session) report.now) }
 {
     match origins.get(session.saturating_sub(1)) {
@@ -67,7 +67,7 @@ fn write_session<W: WriteLines>(
     report: &TimesReport,
     out: &mut W,
 ) -> io::Result<()>
-    ensures { Tells W.contents W.failed out.old out.new result
+    ensures { Tells W.lines out.old out.new result
         (session_times noting session origin.now report.now) }
 {
     match noting {

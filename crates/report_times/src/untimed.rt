@@ -14,7 +14,7 @@ pub fn write_untimed<W: WriteLines>(
     untimed: Option<TimeElement>,
     out: &mut W,
 ) -> io::Result<()>
-    ensures { Tells W.contents W.failed out.old out.new result
+    ensures { Tells W.lines out.old out.new result
         (session_untimed session origin.now untimed) }
 {
     match untimed {
@@ -29,7 +29,7 @@ fn write_line<W: WriteLines>(
     element: TimeElement,
     out: &mut W,
 ) -> io::Result<()>
-    ensures { Tells W.contents W.failed out.old out.new result
+    ensures { Tells W.lines out.old out.new result
         (untimed_line session origin.now element) }
 {
     write_session_start(session, origin, out)?;
@@ -38,7 +38,7 @@ fn write_line<W: WriteLines>(
 
 #[tactic(auto, unfolding(crate::specs::UntimedLines::untimed_text))]
 fn write_element<W: WriteLines>(name: &str, out: &mut W) -> io::Result<()>
-    ensures { Tells W.contents W.failed out.old out.new result (untimed_text name.now) }
+    ensures { Tells W.lines out.old out.new result (untimed_text name.now) }
 {
     writeln!(
         out,

@@ -5,5 +5,6 @@ pub mod Quoting
 pub mod Origins
 pub mod Reasons
 pub mod OpeningLines
+pub mod Lines
 pub mod Told
 pub mod Writing

@@ -10,7 +10,7 @@ use std::io;
 /// The line of a fault, of whatever it is.
 #[tactic(auto, unfolding(crate::specs::FaultLines::fault_text))]
 pub fn write_fault<W: WriteLines>(what: &str, number: u8, name: &str, out: &mut W) -> io::Result<()>
-    ensures { Tells W.contents W.failed out.old out.new result
+    ensures { Tells W.lines out.old out.new result
         (codes "collectd: " ++ (what.now ++ fault_text number name.now)) }
 {
     writeln!(out, "collectd: {what}: fault {number} {name}")
@@ -20,7 +20,7 @@ pub fn write_fault<W: WriteLines>(what: &str, number: u8, name: &str, out: &mut 
 /// "listen" with an address.
 #[tactic(auto, unfolding(crate::specs::FaultLines::not_had_line))]
 pub fn write_not_had<W: WriteLines>(what: &str, name: &str, out: &mut W) -> io::Result<()>
-    ensures { Tells W.contents W.failed out.old out.new result (not_had_line what.now name.now) }
+    ensures { Tells W.lines out.old out.new result (not_had_line what.now name.now) }
 {
     writeln!(out, "collectd: {what}: {name}")
 }

@@ -20,7 +20,7 @@ pub fn write_opened<W: WriteLines>(
     origin: &Origin,
     out: &mut W,
 ) -> io::Result<()>
-    ensures { Tells W.contents W.failed out.old out.new result
+    ensures { Tells W.lines out.old out.new result
         (if_verbose verbosity (opened_line session origin.now)) }
 {
     if verbosity.verbose {
@@ -31,7 +31,7 @@ pub fn write_opened<W: WriteLines>(
 }
 
 fn write_opened_line<W: WriteLines>(session: usize, origin: &Origin, out: &mut W) -> io::Result<()>
-    ensures { Tells W.contents W.failed out.old out.new result (opened_line session origin.now) }
+    ensures { Tells W.lines out.old out.new result (opened_line session origin.now) }
 {
     write_session_start(session, origin, out)?;
     out.write_all(opened_text(origin).as_bytes())
@@ -54,7 +54,7 @@ pub fn write_listening<W: WriteLines>(
     connections: usize,
     out: &mut W,
 ) -> io::Result<()>
-    ensures { Tells W.contents W.failed out.old out.new result
+    ensures { Tells W.lines out.old out.new result
         (if_verbose verbosity (listening_line address.now connections)) }
 {
     if verbosity.verbose {
@@ -70,7 +70,7 @@ fn write_listening_line<W: WriteLines>(
     connections: usize,
     out: &mut W,
 ) -> io::Result<()>
-    ensures { Tells W.contents W.failed out.old out.new result
+    ensures { Tells W.lines out.old out.new result
         (listening_line address.now connections) }
 {
     writeln!(
@@ -88,7 +88,7 @@ pub fn write_not_had_because<W: WriteLines>(
     reason: Reason,
     out: &mut W,
 ) -> io::Result<()>
-    ensures { Tells W.contents W.failed out.old out.new result
+    ensures { Tells W.lines out.old out.new result
         (not_had_lines verbosity what.now name.now reason) }
 {
     if verbosity.verbose {
@@ -100,7 +100,7 @@ pub fn write_not_had_because<W: WriteLines>(
 
 #[tactic(auto, unfolding(crate::specs::FaultLines::not_had_line))]
 fn write_because<W: WriteLines>(what: &str, name: &str, words: &str, out: &mut W) -> io::Result<()>
-    ensures { Tells W.contents W.failed out.old out.new result
+    ensures { Tells W.lines out.old out.new result
         (not_had_line what.now (name.now ++ (codes ": " ++ words.now))) }
 {
     writeln!(out, "collectd: {what}: {name}: {words}")

@@ -39,7 +39,7 @@ impl Origin<'_> {
 /// Writes whose session it is, as it follows the number of a session or of a file: a space, and a
 /// name in quotation marks or an address. Nothing is written if it isn't known.
 pub fn write_origin<W: WriteLines>(origin: &Origin, out: &mut W) -> io::Result<()>
-    ensures { Tells W.contents W.failed out.old out.new result (origin_text origin.now) }
+    ensures { Tells W.lines out.old out.new result (origin_text origin.now) }
 {
     match origin {
         Origin::File { name, .. } => write_whole_name(name, out),
@@ -50,7 +50,7 @@ pub fn write_origin<W: WriteLines>(origin: &Origin, out: &mut W) -> io::Result<(
 
 // A name is not cut off, since a longer one is another file.
 fn write_whole_name<W: WriteLines>(name: &str, out: &mut W) -> io::Result<()>
-    ensures { Tells W.contents W.failed out.old out.new result (whole_name name.now) }
+    ensures { Tells W.lines out.old out.new result (whole_name name.now) }
 {
     write!(out, " \"")?;
     write_octets(name.as_bytes(), out)?;
@@ -59,7 +59,7 @@ fn write_whole_name<W: WriteLines>(name: &str, out: &mut W) -> io::Result<()>
 
 #[tactic(auto, unfolding(crate::specs::Origins::peer_text))]
 fn write_peer<W: WriteLines>(address: SocketAddr, out: &mut W) -> io::Result<()>
-    ensures { Tells W.contents W.failed out.old out.new result (peer_text (socket_text address)) }
+    ensures { Tells W.lines out.old out.new result (peer_text (socket_text address)) }
 {
     write!(out, " {address}")
 }
@@ -70,7 +70,7 @@ pub fn write_session_start<W: WriteLines>(
     origin: &Origin,
     out: &mut W,
 ) -> io::Result<()>
-    ensures { Tells W.contents W.failed out.old out.new result (session_start session origin.now) }
+    ensures { Tells W.lines out.old out.new result (session_start session origin.now) }
 {
     write_number(session, out)?;
     write_origin(origin, out)
@@ -78,7 +78,7 @@ pub fn write_session_start<W: WriteLines>(
 
 #[tactic(auto, unfolding(crate::specs::Origins::number_text))]
 fn write_number<W: WriteLines>(session: usize, out: &mut W) -> io::Result<()>
-    ensures { Tells W.contents W.failed out.old out.new result (number_text session) }
+    ensures { Tells W.lines out.old out.new result (number_text session) }
 {
     write!(out, "collectd: session {session}")
 }

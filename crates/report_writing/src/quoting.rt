@@ -13,7 +13,7 @@ const MOST_SHOWN: usize = 64;
 
 /// Writes a text that a file gives between quotation marks, so that a terminal is safe.
 pub fn write_quoted<W: WriteLines>(text: &str, out: &mut W) -> io::Result<()>
-    ensures { Tells W.contents W.failed out.old out.new result (quoted text.now) }
+    ensures { Tells W.lines out.old out.new result (quoted text.now) }
 {
     write!(out, "\"")?;
     write_shown(text.as_bytes(), out)?;
@@ -21,7 +21,7 @@ pub fn write_quoted<W: WriteLines>(text: &str, out: &mut W) -> io::Result<()>
 }
 
 fn write_shown<W: WriteLines>(text: &[u8], out: &mut W) -> io::Result<()>
-    ensures { Tells W.contents W.failed out.old out.new result (text_shown text.now) }
+    ensures { Tells W.lines out.old out.new result (text_shown text.now) }
 {
     if text.len() > MOST_SHOWN {
         write_octets(&text[..MOST_SHOWN], out)?;
@@ -33,7 +33,7 @@ fn write_shown<W: WriteLines>(text: &[u8], out: &mut W) -> io::Result<()>
 
 /// Writes octets, each that is no plain character as its number.
 pub fn write_octets<W: WriteLines>(octets: &[u8], out: &mut W) -> io::Result<()>
-    ensures { Tells W.contents W.failed out.old out.new result (flat_map octet_shown octets.now) }
+    ensures { Tells W.lines out.old out.new result (flat_map octet_shown octets.now) }
 {
     for octet in octets {
         write_octet(*octet, out)?;
@@ -43,7 +43,7 @@ pub fn write_octets<W: WriteLines>(octets: &[u8], out: &mut W) -> io::Result<()>
 
 #[tactic(auto, using(std::proofs::lemmas::Fmt::hex_byte))]
 fn write_octet<W: WriteLines>(octet: u8, out: &mut W) -> io::Result<()>
-    ensures { Tells W.contents W.failed out.old out.new result (octet_shown octet) }
+    ensures { Tells W.lines out.old out.new result (octet_shown octet) }
 {
     if is_plain(octet) {
         out.write_all(&[octet])

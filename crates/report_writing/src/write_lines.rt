@@ -7,15 +7,12 @@ use std::io::{self, Write};
 
 /// What lines are told to: a writer, or one that remembers whether a write failed.
 pub trait WriteLines {
-    ghost use Rattle.std.specs.Prelude.{ℕ, List, Option, IfSome, OnErr, OnOk};
+    ghost use Rattle.std.specs.Prelude.{IfSome, OnErr, OnOk};
     ghost use Rattle.std.specs.Fmt.{with_newline};
-    ghost use Rattle.std.specs.Io.KnownBytes.{Appends};
+    ghost use Rattle.report_writing.specs.Lines.{Adds, LinesView, StaysFailed};
 
-    /// The octets that it holds, if it shows them.
-    ghost contents: { Self → Option (List ℕ) };
-
-    /// Whether it is allowed that a write of it failed: of a writer that remembers it, whether one did.
-    ghost failed: { Self → Type 0 };
+    /// What is seen of it: the octets that it holds, and whether a write of it failed.
+    ghost lines: { Self → LinesView };
 
     /// Writes a text.
     fn write_fmt<D: Display>(&mut self, text: D) -> io::Result<()>
@@ -23,9 +20,9 @@ pub trait WriteLines {
         Self: Sized,
         D: Drop,
         ensures bytes { OnOk result (IfSome (D.output text)
-            (Appends (contents self.old) (contents self.new))) }
-        ensures failed { OnErr result (failed self.new) }
-        ensures kept { failed self.old → failed self.new };
+            (Adds lines self.old self.new)) }
+        ensures failed { OnErr result (lines self.new).failed }
+        ensures kept { StaysFailed lines self.old self.new };
 
     /// Writes a text and a newline.
     fn writeln<D: Display>(&mut self, text: D) -> io::Result<()>
@@ -33,22 +30,20 @@ pub trait WriteLines {
         Self: Sized,
         D: Drop,
         ensures bytes { OnOk result (IfSome (with_newline (D.output text))
-            (Appends (contents self.old) (contents self.new))) }
-        ensures failed { OnErr result (failed self.new) }
-        ensures kept { failed self.old → failed self.new };
+            (Adds lines self.old self.new)) }
+        ensures failed { OnErr result (lines self.new).failed }
+        ensures kept { StaysFailed lines self.old self.new };
 
     /// Writes octets.
     fn write_all(&mut self, octets: &[u8]) -> io::Result<()>
-        ensures bytes { OnOk result (Appends (contents self.old) (contents self.new) octets.now) }
-        ensures failed { OnErr result (failed self.new) }
-        ensures kept { failed self.old → failed self.new };
+        ensures bytes { OnOk result (Adds lines self.old self.new octets.now) }
+        ensures failed { OnErr result (lines self.new).failed }
+        ensures kept { StaysFailed lines self.old self.new };
 }
 
 /// A writer that says nothing of its failures.
 impl<W: Write> WriteLines for W {
-    ghost contents = { W.contents };
-
-    ghost failed = { λ _. ⊤ };
+    ghost lines = { λ w. record { contents = W.contents w; failed = ⊤ } };
 
     fn write_fmt<D: Display>(&mut self, text: D) -> io::Result<()>
     where
@@ -79,22 +74,22 @@ pub struct CheckedWriter<W: Write + Drop> {
 impl<W: Write + Drop> CheckedWriter<W> {
     /// Over a writer, to which no write failed yet.
     pub fn new(out: W) -> Self
-        ensures holds { ⟦<CheckedWriter<W> as WriteLines>⟧.contents result ≡ W.contents out }
-        ensures not_failed { ⟦<CheckedWriter<W> as WriteLines>⟧.failed result → ⊥ }
+        ensures holds { (⟦<CheckedWriter<W> as WriteLines>⟧.lines result).contents ≡ W.contents out }
+        ensures not_failed { (⟦<CheckedWriter<W> as WriteLines>⟧.lines result).failed → ⊥ }
     {
         CheckedWriter { out, failed: false }
     }
 
     /// Whether a write failed.
     pub fn has_failed(&self) -> bool
-        ensures { IsTrue result ↔ ⟦<CheckedWriter<W> as WriteLines>⟧.failed self.now }
+        ensures { IsTrue result ↔ (⟦<CheckedWriter<W> as WriteLines>⟧.lines self.now).failed }
     {
         self.failed
     }
 
     /// The writer.
     pub fn into_inner(self) -> W
-        ensures { W.contents result ≡ ⟦<CheckedWriter<W> as WriteLines>⟧.contents self }
+        ensures { W.contents result ≡ (⟦<CheckedWriter<W> as WriteLines>⟧.lines self).contents }
     {
         let CheckedWriter { out, .. } = self;
         out
@@ -102,9 +97,7 @@ impl<W: Write + Drop> CheckedWriter<W> {
 }
 
 impl<W: Write + Drop> WriteLines for CheckedWriter<W> {
-    ghost contents = { λ r. W.contents r.out };
-
-    ghost failed = { λ r. r.failed ≡ true };
+    ghost lines = { λ w. record { contents = W.contents w.out; failed = w.failed ≡ true } };
 
     fn write_fmt<D: Display>(&mut self, text: D) -> io::Result<()>
     where

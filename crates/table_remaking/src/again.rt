@@ -149,7 +149,7 @@ fn write_differences<E: WriteLines>(
 ) -> io::Result<()>
     requires of_inputs { IsOrderOf there.now.receipt.now.inputs.items inputs.now }
     requires of_files { IsOrderOf remade.now.receipt.inputs.items files.now }
-    ensures { Tells E.contents E.failed err.old err.new result (again_differs
+    ensures { Tells E.lines err.old err.new result (again_differs
         (receipt_value there.now.receipt.now) there.now.table.now (receipt_value remade.now.receipt)
         remade.now.text.items) }
 {

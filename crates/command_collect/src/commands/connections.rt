@@ -1,6 +1,7 @@
 //! Accepting connections, and collecting from them.
 
 ghost use Rattle.std.specs.Prelude.{◌≡◌};
+ghost use Rattle.report_writing.specs.Lines.{StaysFailed};
 ghost use Rattle.report_writing.specs.Told.{AreToldTo};
 ghost use Rattle.command_collect.specs.Collects.{CollectsConnections, IfNoTime};
 
@@ -34,11 +35,11 @@ pub fn run_connections<
     err: &mut E,
 ) -> Status
     ensures collects { CollectsConnections S.seen L.gives L.is_of L.refuses L.coming listener.old
-        listener.new connections.now W.contents out.old out.new (AreToldTo E.contents E.failed err.old err.new)
+        listener.new connections.now W.contents out.old out.new (AreToldTo E.lines err.old err.new)
         S.failure result job.now }
     ensures closed { L.is_closed listener.new }
     ensures no_time { IfNoTime connections.now (result ≡ Status.NotOpened) }
-    ensures kept { E.failed err.old → E.failed err.new }
+    ensures kept { StaysFailed E.lines err.old err.new }
 {
     let Connections {
         address,

@@ -1,5 +1,6 @@
 //! Collecting from files.
 
+ghost use Rattle.report_writing.specs.Lines.{StaysFailed};
 ghost use Rattle.report_writing.specs.Told.{AreToldTo};
 ghost use Rattle.command_collect.specs.Collects.{CollectsFiles, CollectsFilesPlainly};
 ghost use Rattle.command_collect.specs.declared.engine.Engine.TheVariants.{Links};
@@ -47,9 +48,9 @@ pub fn run_files<
     // The sources of the paths, in their order, each opened once, were run, as `run` says it, and no others;
     // or each file that was had was told, and then the path that can't be opened.
     ensures collects { CollectsFilesPlainly S.seen O.opens O.sizes O.refuses O.coming files.old files.new
-        paths.now W.contents out.old out.new (AreToldTo E.contents E.failed err.old err.new) result
+        paths.now W.contents out.old out.new (AreToldTo E.lines err.old err.new) result
         plan.now (Links pool) output }
-    ensures kept { E.failed err.old → E.failed err.new }
+    ensures kept { StaysFailed E.lines err.old err.new }
 {
     let elements = Elements::built_in(alloc);
     let job = CollectJob::plain(&elements, plan, Engine::Links(pool), output);
@@ -78,9 +79,9 @@ pub fn run_files_with<
     // The sources of the paths, in their order, each opened once, were run, as `run_with` says it, and no
     // others; or each file that was had was told, and then the path that can't be opened.
     ensures collects { CollectsFiles S.seen O.opens O.sizes O.refuses O.coming files.old files.new
-        paths.now W.contents out.old out.new (AreToldTo E.contents E.failed err.old err.new)
+        paths.now W.contents out.old out.new (AreToldTo E.lines err.old err.new)
         S.failure result job.now }
-    ensures kept { E.failed err.old → E.failed err.new }
+    ensures kept { StaysFailed E.lines err.old err.new }
 {
     match open_all(rt, alloc, files, paths, progress, job.verbosity, err) {
         Ok(OpenedAll { sources, origins }) => {

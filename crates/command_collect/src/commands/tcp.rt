@@ -2,6 +2,7 @@
 
 ghost use Rattle.std.specs.Prelude.{◌≡◌, ◌<◌, IfSome};
 ghost use Rattle.std.specs.Duration.{as_nanos};
+ghost use Rattle.report_writing.specs.Lines.{StaysFailed};
 ghost use Rattle.report_writing.specs.Statuses.{number_of};
 ghost use Rattle.report_writing.specs.Told.{AreToldTo};
 ghost use Rattle.command_collect.specs.Engines.{fault_of_engine};
@@ -62,13 +63,13 @@ pub fn run_tcp<
     // was had was told, and then the address that gives none.
     ensures collects { CollectsConnectionsPlainly S.seen L.gives L.is_of L.refuses L.coming listener.old
         listener.new idle count addr.now W.contents out.old out.new
-        (AreToldTo E.contents E.failed err.old err.new) result plan.now
+        (AreToldTo E.lines err.old err.new) result plan.now
         (Links pool) output }
     ensures closed { L.is_closed listener.new }
     // No connection can have a limit of no time.
     ensures no_time { IfSome idle
         (λ limit. as_nanos limit ≡ 0 → 0 < count → result ≡ number_of Status.NotOpened) }
-    ensures kept { E.failed err.old → E.failed err.new }
+    ensures kept { StaysFailed E.lines err.old err.new }
 {
     let elements = Elements::built_in(alloc);
     let job = CollectJob::plain(&elements, plan, Engine::Links(pool), output);
@@ -106,7 +107,7 @@ pub fn run_tcp_with<
     // each that was had was told, and then the address that gives none.
     ensures collects { IfFits job.now.engine
         (CollectsConnections S.seen L.gives L.is_of L.refuses L.coming listener.old listener.new
-        connections.now W.contents out.old out.new (AreToldTo E.contents E.failed err.old err.new)
+        connections.now W.contents out.old out.new (AreToldTo E.lines err.old err.new)
         S.failure result job.now) }
     ensures closed { L.is_closed listener.new }
     // No connection can have a limit of no time.
@@ -114,11 +115,11 @@ pub fn run_tcp_with<
         (IfNoTime connections.now (result ≡ Status.NotOpened)) }
     // An engine that has a fault is refused, and the fault that it has is told.
     ensures engine { RefusesEngine job.now.engine connections.now.count (number_of result) (out.new ≡ out.old)
-        (AreToldTo E.contents E.failed err.old err.new) }
+        (AreToldTo E.lines err.old err.new) }
     // And then no connection was accepted.
     ensures unaccepted { IfSome (fault_of_engine job.now.engine)
         (λ any. L.coming listener.new ≡ L.coming listener.old) }
-    ensures kept { E.failed err.old → E.failed err.new }
+    ensures kept { StaysFailed E.lines err.old err.new }
 {
     if let Some(fault) = refused_early(job.engine, connections.count) {
         listener.close();

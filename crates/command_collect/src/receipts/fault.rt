@@ -54,7 +54,7 @@ pub enum RunFault {
 
 /// Writes the line of a fault of a run.
 pub fn write_run_fault<E: WriteLines>(fault: RunFault, err: &mut E) -> io::Result<()>
-    ensures { Tells E.contents E.failed err.old err.new result (run_fault_line fault) }
+    ensures { Tells E.lines err.old err.new result (run_fault_line fault) }
 {
     match fault {
         RunFault::Export(fault) => write_export_fault(fault, err),
@@ -64,7 +64,7 @@ pub fn write_run_fault<E: WriteLines>(fault: RunFault, err: &mut E) -> io::Resul
 
 // Writes the line of a fault of a receipt.
 fn write_receipt_fault<E: WriteLines>(fault: ReceiptFault, err: &mut E) -> io::Result<()>
-    ensures { Tells E.contents E.failed err.old err.new result (receipt_fault_line fault) }
+    ensures { Tells E.lines err.old err.new result (receipt_fault_line fault) }
 {
     match fault {
         ReceiptFault::OutOfMemory => write_fault("receipt", 1, "OutOfMemory", err),
@@ -77,7 +77,7 @@ fn write_receipt_fault<E: WriteLines>(fault: ReceiptFault, err: &mut E) -> io::R
 
 #[tactic(auto, unfolding(crate::specs::Faults::twice_line))]
 fn write_twice<E: WriteLines>(first: u128, second: u128, err: &mut E) -> io::Result<()>
-    ensures { Tells E.contents E.failed err.old err.new result (twice_line first second) }
+    ensures { Tells E.lines err.old err.new result (twice_line first second) }
 {
     writeln!(
         err,

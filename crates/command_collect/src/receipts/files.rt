@@ -1,6 +1,7 @@
 //! Collecting from files, with a receipt.
 
 ghost use Rattle.std.specs.Prelude.{IfSome};
+ghost use Rattle.report_writing.specs.Lines.{StaysFailed};
 ghost use Rattle.report_writing.specs.Told.{AreToldTo};
 ghost use Rattle.command_collect.specs.ReceiptedRuns.{HinderFiles, ReceiptedFiles};
 
@@ -39,11 +40,11 @@ pub fn run_files_receipted<
     // others; or each file that was had was told, and then the path that can't be opened.
     ensures collects { ReceiptedFiles W.contents Q.holds to result S.seen S.failure job.now
         O.opens O.sizes O.refuses O.coming files.old files.new paths.now
-        (AreToldTo E.contents E.failed err.old err.new) }
+        (AreToldTo E.lines err.old err.new) }
     // It says so of its inputs exactly if that is the fault which it tells, and only where it is so.
     ensures hindered { IfSome result.hindrance (HinderFiles S.seen job.now O.opens O.sizes
         O.coming files.old files.new paths.now) }
-    ensures kept { E.failed err.old → E.failed err.new }
+    ensures kept { StaysFailed E.lines err.old err.new }
 {
     match open_all(rt, alloc, files, paths, progress, job.verbosity, err) {
         Ok(OpenedAll { sources, origins }) => {

@@ -2,6 +2,7 @@
 
 ghost use Rattle.std.specs.Prelude.{◌≡◌, IfErr, IfSome, OnOk};
 ghost use Rattle.flow_table.specs.Fitting.{FitsPlan};
+ghost use Rattle.report_writing.specs.Lines.{StaysFailed};
 ghost use Rattle.report_writing.specs.Told.{AreToldTo};
 ghost use Rattle.table_receipts.specs.Texts.{receipt_text};
 ghost use Rattle.table_receipts.specs.Values.{receipt_value};
@@ -71,10 +72,10 @@ pub fn run_receipted<
     err: &mut E,
 ) -> Ended<W, P>
     ensures runs { RunsReceipted W.contents P.holds to result S.seen S.failure job.now
-        (AreToldTo E.contents E.failed err.old err.new) sources.items origins.now }
+        (AreToldTo E.lines err.old err.new) sources.items origins.now }
     // It says so of its inputs exactly if that is the fault which it tells, and only where it is so.
     ensures hindered { IfSome result.hindrance (Hinders S.seen sources.items job.now origins.now) }
-    ensures kept { E.failed err.old → E.failed err.new }
+    ensures kept { StaysFailed E.lines err.old err.new }
 {
     let run = match collect_hashed(rt, alloc, sources, origins, job) {
         Ok(run) => run,

@@ -1,6 +1,7 @@
 //! Collecting from connections, with a receipt.
 
 ghost use Rattle.std.specs.Prelude.{◌≡◌, IfSome};
+ghost use Rattle.report_writing.specs.Lines.{StaysFailed};
 ghost use Rattle.report_writing.specs.Statuses.{number_of};
 ghost use Rattle.report_writing.specs.Told.{AreToldTo};
 ghost use Rattle.command_collect.specs.Collects.{IfFits, IfNoTime, RefusesEngine};
@@ -46,18 +47,18 @@ pub fn run_tcp_receipted<
     ensures collects { IfFits job.now.engine
         (ReceiptedConnections W.contents Q.holds to result S.seen S.failure job.now L.gives
         L.is_of L.refuses L.coming listener.old listener.new connections.now
-        (AreToldTo E.contents E.failed err.old err.new)) }
+        (AreToldTo E.lines err.old err.new)) }
     ensures closed { L.is_closed listener.new }
     // No connection can have a limit of no time.
     ensures no_time { IfFits job.now.engine
         (IfNoTime connections.now (result.status ≡ Status.NotOpened)) }
     // An engine that has a fault is refused, and the fault that it has is told.
     ensures engine { RefusesEngine job.now.engine connections.now.count (number_of result.status)
-        (result.out ≡ to.out) (AreToldTo E.contents E.failed err.old err.new) }
+        (result.out ≡ to.out) (AreToldTo E.lines err.old err.new) }
     // And then no connection was accepted.
     ensures unaccepted { IfSome (fault_of_engine job.now.engine)
         (λ any. L.coming listener.new ≡ L.coming listener.old) }
-    ensures kept { E.failed err.old → E.failed err.new }
+    ensures kept { StaysFailed E.lines err.old err.new }
 {
     if let Some(fault) = refused_early(job.engine, connections.count) {
         listener.close();
@@ -94,10 +95,10 @@ fn run_connections<
 ) -> Ended<W, Q>
     ensures collects { ReceiptedConnections W.contents Q.holds to result S.seen S.failure
         job.now L.gives L.is_of L.refuses L.coming listener.old listener.new connections.now
-        (AreToldTo E.contents E.failed err.old err.new) }
+        (AreToldTo E.lines err.old err.new) }
     ensures closed { L.is_closed listener.new }
     ensures no_time { IfNoTime connections.now (result.status ≡ Status.NotOpened) }
-    ensures kept { E.failed err.old → E.failed err.new }
+    ensures kept { StaysFailed E.lines err.old err.new }
 {
     let Connections {
         address,

@@ -40,9 +40,9 @@ pub(crate) fn merge_of<X: ReadText, E: WriteLines>(
     parts: &[PartFiles],
     err: &mut E,
 ) -> Result<MergedTable, Status>
-    ensures merged { IfOk result (λ made. IsMergeOf (X.has texts.now) (X.refuses texts.now) job.now parts.entry (AreToldTo E.contents E.failed err.old err.new)
+    ensures merged { IfOk result (λ made. IsMergeOf (X.has texts.now) (X.refuses texts.now) job.now parts.entry (AreToldTo E.lines err.old err.new)
         (merged_value made)) }
-    ensures err { IfErr result (IsNotMerged (X.has texts.now) (X.refuses texts.now) job.now parts.entry (AreToldTo E.contents E.failed err.old err.new)) }
+    ensures err { IfErr result (IsNotMerged (X.has texts.now) (X.refuses texts.now) job.now parts.entry (AreToldTo E.lines err.old err.new)) }
 {
     merged_table(run_merge(texts, alloc, job, parts, err))
 }
@@ -55,7 +55,7 @@ fn run_merge<X: ReadText, E: WriteLines>(
     parts: &[PartFiles],
     err: &mut E,
 ) -> MergedEnd<Vec<u8>, KeptReceipt>
-    ensures { IsRun (X.has texts.now) (X.refuses texts.now) job.now parts.entry (AreToldTo E.contents E.failed err.old err.new) result }
+    ensures { IsRun (X.has texts.now) (X.refuses texts.now) job.now parts.entry (AreToldTo E.lines err.old err.new) result }
 {
     let to = MergedTo {
         out: Vec::new(alloc),

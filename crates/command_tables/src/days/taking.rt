@@ -28,7 +28,7 @@ pub fn take_day<T: TablePlace + Drop, E: WriteLines>(
     periods: &[Period],
     err: &mut E,
 ) -> Outcome
-    ensures { IsDayOutcome T.seen E.contents E.failed
+    ensures { IsDayOutcome T.seen E.lines
         job.now periods.now day.begins result tables.now days.old days.new err.old err.new }
 {
     let Ok(names) = names_of(alloc, periods) else {
@@ -51,7 +51,7 @@ fn take_parts<T: TablePlace + Drop, E: WriteLines>(
     parts: &[PartFiles],
     err: &mut E,
 ) -> Outcome
-    ensures { IsPartsOutcome T.seen E.contents E.failed
+    ensures { IsPartsOutcome T.seen E.lines
         job.now parts.entry day.begins result texts.now.tables.now days.old days.new err.old err.new }
 {
     match standing_of(alloc, job, texts, days, day, parts) {
@@ -93,7 +93,7 @@ fn make_due<T: TablePlace + Drop, E: WriteLines>(
     err: &mut E,
 ) -> Outcome
     ensures { IsDueOutcome T.seen
-        job.now parts.entry day.begins (AreToldTo E.contents E.failed err.old err.new)
+        job.now parts.entry day.begins (AreToldTo E.lines err.old err.new)
         result texts.now.tables.now days.old days.new }
 {
     let made = match merge_of(texts, alloc, job, parts, err) {

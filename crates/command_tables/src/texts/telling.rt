@@ -14,7 +14,7 @@ use std::io;
 
 /// Writes the path of a text if it was made.
 pub fn write_text_path<O: WriteLines>(path: &str, outcome: &TextOutcome, out: &mut O)
-    ensures { AreToldTo O.contents O.failed out.old out.new (text_paths path.now outcome.now) }
+    ensures { AreToldTo O.lines out.old out.new (text_paths path.now outcome.now) }
 {
     if let TextOutcome::Made = outcome {
         let _ = write_path(path, out);
@@ -24,7 +24,7 @@ pub fn write_text_path<O: WriteLines>(path: &str, outcome: &TextOutcome, out: &m
 /// Writes why a table has no text of it, and answers how the command ends by it.
 pub fn tell_text<E: WriteLines>(table: &str, outcome: &TextOutcome, err: &mut E) -> Status
     ensures status { result ≡ text_status outcome.now }
-    ensures told { AreToldTo E.contents E.failed err.old err.new (text_lines table.now outcome.now) }
+    ensures told { AreToldTo E.lines err.old err.new (text_lines table.now outcome.now) }
 {
     // (a line that can't be written stops nothing)
     let _ = write_outcome(table, outcome, err);
@@ -32,7 +32,7 @@ pub fn tell_text<E: WriteLines>(table: &str, outcome: &TextOutcome, err: &mut E)
 }
 
 fn write_outcome<E: WriteLines>(table: &str, outcome: &TextOutcome, err: &mut E) -> io::Result<()>
-    ensures { Tells E.contents E.failed err.old err.new result (text_lines table.now outcome.now) }
+    ensures { Tells E.lines err.old err.new result (text_lines table.now outcome.now) }
 {
     match outcome {
         TextOutcome::NoTable | TextOutcome::UpToDate | TextOutcome::Made => Ok(()),

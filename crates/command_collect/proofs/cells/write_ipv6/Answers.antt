@@ -24,7 +24,7 @@ returns g c =
     let address = c.args.address.now in
     let all : take (2 * c.loop-group.group) address ≡ address = take_all (2 * c.loop-group.group) address (omega arith) in
     record {
-      told = subst (λ l. Appends (g.W.WriteLines.contents c.args.out.now) (g.W.WriteLines.contents c.loop-group.out) (ipv6_text l)) all c.loop-group.invariant.told;
+      told = subst (λ l. Appends (g.W.WriteLines.lines c.args.out.now).contents (g.W.WriteLines.lines c.loop-group.out).contents (ipv6_text l)) all c.loop-group.invariant.told;
       failed = tt;
       kept = c.loop-group.invariant.kept;
     }

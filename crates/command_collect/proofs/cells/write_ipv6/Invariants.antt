@@ -5,6 +5,6 @@ use Rattle.command_collect.proofs.cells.write_ipv6.Given as goal
 
 abbrev pub invariant-loop-group : goal.invariant-loop-group
 invariant-loop-group g l = record {
-  told : Appends (g.W.WriteLines.contents l.fn.out) (g.W.WriteLines.contents l.out) (ipv6_text (take (2 * l.group) l.address));
-  kept : g.W.WriteLines.failed l.fn.out → g.W.WriteLines.failed l.out;
+  told : Appends (g.W.WriteLines.lines l.fn.out).contents (g.W.WriteLines.lines l.out).contents (ipv6_text (take (2 * l.group) l.address));
+  kept : (g.W.WriteLines.lines l.fn.out).failed → (g.W.WriteLines.lines l.out).failed;
 }

@@ -8,7 +8,7 @@ returns g c =
     record {
       ended = sessions.ended;
       are_ended = rw (c.deref.ensures.value, c.deref-2.ensures.value) at sessions.are_ended;
-      told = tells_both _ _ _ _ _ _ c.tell_counts.result _ _ sessions.told c.tell_counts.ensures;
+      told = tells_both _ _ _ _ _ c.tell_counts.result _ _ sessions.told c.tell_counts.ensures;
     }
 
 pub returns-in_err-write_told_reports : goal.returns-in_err-write_told_reports

@@ -20,7 +20,7 @@ returns g c =
     let shown = shown_cells c.args.keys.now c.args.cells.now in
     let all : take c.loop-index.index shown ≡ shown = take_all c.loop-index.index shown (omega (arith, c.loop-index-test.false, shown_length c.args.keys.now c.args.cells.now)) in
     record {
-      told = subst (λ l. Appends (g.W.WriteLines.contents c.args.out.now) (g.W.WriteLines.contents c.loop-index.out) (flat_map next_cell l)) all c.loop-index.invariant.told;
+      told = subst (λ l. Appends (g.W.WriteLines.lines c.args.out.now).contents (g.W.WriteLines.lines c.loop-index.out).contents (flat_map next_cell l)) all c.loop-index.invariant.told;
       failed = tt;
       kept = c.loop-index.invariant.kept;
     }

@@ -11,6 +11,6 @@ use Rattle.command_collect.proofs.large.write_origin_at.Goals as goal
 
 pub returns-in-None : goal.returns-in-None
 returns-in-None g c =
-    let held = g.W.WriteLines.contents c.args.out.now in
+    let held = (g.W.WriteLines.lines c.args.out.now).contents in
     let unknown : origin_at c.args.origins.now c.args.place ≡ Unknown = ap (λ o. unwrap_or o Unknown) (slice_get_past c.args.origins.now c.args.place c.in-None.ensures.lookup.3) in
     record { told = subst (λ (o : Origin). Appends held held (origin_text o)) (sym unknown) (Appends-nil held); failed = tt; kept = λ failed. failed }

@@ -22,7 +22,7 @@ returns-in-Ok-clause-runs g c =
       dumped = λ ran. record {
         full = c.in-Ok.full;
         dumps = c.in-Ok.ensures;
-        told = record { said = c.failure.result; is_said = c.failure.ensures; told = subst (λ (r : Option Reason). AreToldTo g.E.WriteLines.contents g.E.WriteLines.failed c.args.err.now c.tell.new.err (dump_lines job c.args.elements.now r c.in-Ok.full)) c.read_reason-reason.ensures (is_told _ _ _ c.tell.result _ tells.told tells.failed) };
+        told = record { said = c.failure.result; is_said = c.failure.ensures; told = subst (λ (r : Option Reason). AreToldTo g.E.WriteLines.lines c.args.err.now c.tell.new.err (dump_lines job c.args.elements.now r c.in-Ok.full)) c.read_reason-reason.ensures (is_told _ _ _ c.tell.result _ tells.told tells.failed) };
         status_is = well;
       };
       failed = never_three c.end_of.result _ refl c.end_of.ensures.ends;

@@ -20,7 +20,7 @@ returns-in-Some-clause-runs g c =
             lines = loads.0;
             finds = record { loaded = loads.1; fitting = shows.answered };
             written = shows.written;
-            told = subst (λ e. AreToldTo g.E.WriteLines.contents g.E.WriteLines.failed c.args.err.now e loads.0) (sym (list.untold well)) loads.2;
+            told = subst (λ e. AreToldTo g.E.WriteLines.lines c.args.err.now e loads.0) (sym (list.untold well)) loads.2;
           };
       none = λ opened. inr (record {
         known = known;

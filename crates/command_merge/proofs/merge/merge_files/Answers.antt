@@ -12,7 +12,7 @@ loop-index-init g c = record {
   stands = none_read _ _ c.args.job.now.intervals c.args.job.now.plan.now _ c.in-Ok.merging c.in-Ok.ensures.plan c.in-Ok.ensures.intervals c.in-Ok.ensures.empty;
   same = λ name source opens. opens;
   same_reason = λ name reason refuses. refuses;
-  told = none_told (g.E.WriteLines.contents c.args.err.now) (g.E.WriteLines.failed c.args.err.now);
+  told = none_told (g.E.WriteLines.lines c.args.err.now).contents (g.E.WriteLines.lines c.args.err.now).failed;
   kept = λ failed. failed;
 }
 

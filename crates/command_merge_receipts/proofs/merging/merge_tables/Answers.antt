@@ -7,7 +7,7 @@ use Rattle.command_merge_receipts.proofs.merging.merge_tables.Goals as goal
 pub loop-index-init : goal.loop-index-init
 loop-index-init g c = record {
   stands = none_added _ c.args.job.now.intervals c.args.job.now.plan.now c.in-Ok.merging c.in-Ok.ensures.plan c.in-Ok.ensures.intervals c.in-Ok.ensures.empty;
-  told = none_told (g.E.WriteLines.contents c.args.err.now) (g.E.WriteLines.failed c.args.err.now);
+  told = none_told (g.E.WriteLines.lines c.args.err.now).contents (g.E.WriteLines.lines c.args.err.now).failed;
   kept = λ failed. failed;
 }
 

@@ -9,6 +9,6 @@ use Rattle.command_merge_receipts.proofs.merging.merge_tables.Given as goal
 abbrev pub invariant-loop-index : goal.invariant-loop-index
 invariant-loop-index g l = record {
   stands : Stands (g.T.ReadText.has l.fn.texts) l.fn.job.intervals l.fn.job.plan.now (take l.index l.fn.tables) l.merging;
-  told : AreTold (g.E.WriteLines.contents l.fn.err) (g.E.WriteLines.contents l.err) (g.E.WriteLines.failed l.err) (files_opened_lines l.fn.job.verbosity (names_in (take l.index l.fn.tables)));
-  kept : g.E.WriteLines.failed l.fn.err → g.E.WriteLines.failed l.err;
+  told : AreTold (g.E.WriteLines.lines l.fn.err).contents (g.E.WriteLines.lines l.err).contents (g.E.WriteLines.lines l.err).failed (files_opened_lines l.fn.job.verbosity (names_in (take l.index l.fn.tables)));
+  kept : (g.E.WriteLines.lines l.fn.err).failed → (g.E.WriteLines.lines l.err).failed;
 }

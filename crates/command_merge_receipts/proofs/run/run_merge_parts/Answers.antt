@@ -23,7 +23,7 @@ pub returns-in-Err-answer-clause-runs : goal.returns-in-Err-answer-clause-runs
 returns-in-Err-answer-clause-runs g c =
     let taken = c.in-Ok.ensures.taken in
     let names = ap names_in (c.deref.ensures.value ∙ taken.tables_are) ∙ names_said (g.T.ReadText.has c.args.texts.now) c.args.job.now.plan c.args.job.now.parts.now taken.parts taken.read in
-    let opened = subst (λ (n : List (List ℕ)). AreToldTo g.E.WriteLines.contents g.E.WriteLines.failed c.args.err.now c.merge_tables.new.err (files_opened_lines c.args.job.now.merge.verbosity n)) names c.in-Ok-merge_tables.ensures.told in
+    let opened = subst (λ (n : List (List ℕ)). AreToldTo g.E.WriteLines.lines c.args.err.now c.merge_tables.new.err (files_opened_lines c.args.job.now.merge.verbosity n)) names c.in-Ok-merge_tables.ensures.told in
     let told = told_then _ _ _ _ _ c.write_counted_twice.result _ _ opened (rw c.deref-2.ensures.value at c.write_counted_twice.ensures.told) c.write_counted_twice.ensures.failed c.write_counted_twice.ensures.kept in
     inr (inr (inr (record {
       taken = c.in-Ok.taken;
@@ -39,7 +39,7 @@ pub returns-clause-runs : goal.returns-clause-runs
 returns-clause-runs g c =
     let taken = c.in-Ok.ensures.taken in
     let names = ap names_in (c.deref.ensures.value ∙ taken.tables_are) ∙ names_said (g.T.ReadText.has c.args.texts.now) c.args.job.now.plan c.args.job.now.parts.now taken.parts taken.read in
-    let opened = subst (λ (n : List (List ℕ)). AreToldTo g.E.WriteLines.contents g.E.WriteLines.failed c.args.err.now c.merge_tables.new.err (files_opened_lines c.args.job.now.merge.verbosity n)) names c.in-Ok-merge_tables.ensures.told in
+    let opened = subst (λ (n : List (List ℕ)). AreToldTo g.E.WriteLines.lines c.args.err.now c.merge_tables.new.err (files_opened_lines c.args.job.now.merge.verbosity n)) names c.in-Ok-merge_tables.ensures.told in
     let told = told_then _ _ _ _ _ c.write_counted_twice.result _ _ opened (rw c.deref-2.ensures.value at c.write_counted_twice.ensures.told) c.write_counted_twice.ensures.failed c.write_counted_twice.ensures.kept in
     inl (record {
       taken = c.in-Ok.taken;

@@ -17,5 +17,5 @@ returns-clause-ok g c = zip_all IsPlanOf c.args.paths.now c.loop-path.plans.item
 pub returns-in_err-name-clause-err : goal.returns-in_err-name-clause-err
 returns-in_err-name-clause-err g c =
     passed_on c.from_residual.result c.in_err-name.field-0.0 _ c.from_residual.ensures.1
-    (inl (nameless_at c.args.paths.now c.loop-path.path-index _ _ c.loop-path-test.true refl g.E.WriteLines.contents g.E.WriteLines.failed
+    (inl (nameless_at c.args.paths.now c.loop-path.path-index _ _ c.loop-path-test.true refl g.E.WriteLines.lines
     c.args.err.now c.loop-path.err c.name_of_plan.new.err c.in_err-name.field-0.0 c.loop-path.invariant.silent c.in_err-name.ensures.err))

@@ -11,7 +11,7 @@ returns-in_default-clause-compares g c = inr (inl (c.tell_fault.ensures.status, 
 
 pub returns-then-not-is_empty-clause-compares : goal.returns-then-not-is_empty-clause-compares
 returns-then-not-is_empty-clause-compares g c =
-    let told = AreToldTo g.E.WriteLines.contents g.E.WriteLines.failed c.args.err.now c.compare_alone.new.err in
+    let told = AreToldTo g.E.WriteLines.lines c.args.err.now c.compare_alone.new.err in
     let compares = subst (λ (l : List ℕ). ComparesAlone (there_value c.args.there.now) c.compare_alone.result l told) (c.deref.ensures.value ∙ c.in-Ok.ensures) c.compare_alone.ensures.compares in
     let filled = filled_of c.in-Ok.lines.items (subst (λ (n : ℕ). (n == 0) ≡ false) c.in-Ok.lines.ok.0 (sym c.is_empty.ensures ∙ c.if-not-is_empty.true)) in
     inl (λ none. filled (c.in-Ok.ensures ∙ none), compares)
@@ -25,7 +25,7 @@ returns-in-Some-clause-compares g c =
 
 pub returns-clause-compares : goal.returns-clause-compares
 returns-clause-compares g c =
-    let told = AreToldTo g.E.WriteLines.contents g.E.WriteLines.failed c.args.err.now c.load_plan_text.new.err in
+    let told = AreToldTo g.E.WriteLines.lines c.args.err.now c.load_plan_text.new.err in
     let none = empty_of c.in-Ok.lines.items (subst (λ (n : ℕ). (n == 0) ≡ true) c.in-Ok.lines.ok.0 (sym c.is_empty.ensures ∙ c.if-not-is_empty.false)) in
     let why = subst (λ (octets : List ℕ). TellsNoText c.args.elements octets told) c.as_bytes.ensures.value c.in-None.ensures.told in
     inr (inr (sym c.in-Ok.ensures ∙ none, inl (record { told = why; not_opened = refl })))

@@ -11,7 +11,7 @@ pub returns-in-Ok-clause-opens : goal.returns-in-Ok-clause-opens
 returns-in-Ok-clause-opens g c =
     let a = c.args in
     inr (opened g.S.Source.seen a.job.now (there_value a.there.now) c.tell_again.result _ _ _ _ _ _ _ a.by.now
-    (AreToldTo g.E.WriteLines.contents g.E.WriteLines.failed c.open_all.new.err c.tell_again.new.err)
+    (AreToldTo g.E.WriteLines.lines c.open_all.new.err c.tell_again.new.err)
     c.into_sources-sources.result.items c.in-Ok.field-0.sources c.in-Ok.field-0.origins.items c.deref.result.now c.into_sources-sources.ensures.list c.in-Ok.ensures.opened c.into_sources-sources.ensures.unread c.in-Ok.ensures.named c.deref.ensures.value
     (λ lines told. both_told _ _ _ _ _ _ _ c.in-Ok.ensures.told told c.tell_again.ensures.kept) c.tell_again.ensures.tells)
 

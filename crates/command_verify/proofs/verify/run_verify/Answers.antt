@@ -7,7 +7,7 @@ use Rattle.command_verify.proofs.verify.run_verify.Goals as goal
 pub returns-clause-verifies : goal.returns-clause-verifies
 returns-clause-verifies g c =
     let said = receipt_value c.in-Ok-receipt_in.receipt in
-    let told = AreToldTo g.E.WriteLines.contents g.E.WriteLines.failed c.args.err.now c.compare_files.new.err in
+    let told = AreToldTo g.E.WriteLines.lines c.args.err.now c.compare_files.new.err in
     inr (inr (inr (record {
       receipt = said;
       has = subst (λ (t : List ℕ). g.T.ReadText.has c.args.texts.now c.args.job.now.receipt.now t) (sym (c.in-Ok-receipt_in.ensures.ok ∙ c.deref.ensures.value)) c.in-Ok.ensures.text;

@@ -16,7 +16,7 @@ loop-number-init g c = record {
   peers = search rules;
   same_peer = λ source address is. is;
   same_reason = λ reason refuses. refuses;
-  told = nothing_opened (g.E.WriteLines.contents c.args.err.now) (g.E.WriteLines.failed c.args.err.now) c.args.verbosity c.new-origins.result.items (search rules);
+  told = nothing_opened (g.E.WriteLines.lines c.args.err.now).contents (g.E.WriteLines.lines c.args.err.now).failed c.args.verbosity c.new-origins.result.items (search rules);
   kept = λ failed. failed;
 }
 

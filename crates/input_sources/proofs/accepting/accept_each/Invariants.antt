@@ -21,6 +21,6 @@ invariant-loop-number g l = record {
   peers : ArePeers (g.L.Listener.is_of l.fn.listener) l.sources l.origins.items;
   same_peer : (source : _) (address : SocketAddr) → g.L.Listener.is_of l.listener source address → g.L.Listener.is_of l.fn.listener source address;
   same_reason : (reason : Reason) → g.L.Listener.refuses l.listener reason → g.L.Listener.refuses l.fn.listener reason;
-  told : AreTold (g.E.WriteLines.contents l.fn.err) (g.E.WriteLines.contents l.err) (g.E.WriteLines.failed l.err) (opened_lines l.fn.verbosity l.origins.items);
-  kept : g.E.WriteLines.failed l.fn.err → g.E.WriteLines.failed l.err;
+  told : AreTold (g.E.WriteLines.lines l.fn.err).contents (g.E.WriteLines.lines l.err).contents (g.E.WriteLines.lines l.err).failed (opened_lines l.fn.verbosity l.origins.items);
+  kept : (g.E.WriteLines.lines l.fn.err).failed → (g.E.WriteLines.lines l.err).failed;
 }

@@ -12,7 +12,7 @@ loop-index-init g c = record {
   same_reason = λ name reason refuses. refuses;
   named = search rules;
   count = search rules;
-  told = nothing_opened (g.E.WriteLines.contents c.args.err.now) (g.E.WriteLines.failed c.args.err.now) c.args.verbosity c.new-origins.result.items (search rules);
+  told = nothing_opened (g.E.WriteLines.lines c.args.err.now).contents (g.E.WriteLines.lines c.args.err.now).failed c.args.verbosity c.new-origins.result.items (search rules);
   kept = λ failed. failed;
 }
 

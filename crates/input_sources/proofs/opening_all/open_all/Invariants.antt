@@ -17,6 +17,6 @@ invariant-loop-index g l = record {
   same_reason : (name : List ℕ) (reason : Reason) → g.O.OpenSource.refuses l.files name reason → g.O.OpenSource.refuses l.fn.files name reason;
   named : AreFiles (g.O.OpenSource.sizes l.fn.files) (take l.index l.fn.paths) l.origins.items;
   count : length l.origins.items ≡ l.index;
-  told : AreTold (g.E.WriteLines.contents l.fn.err) (g.E.WriteLines.contents l.err) (g.E.WriteLines.failed l.err) (opened_lines l.fn.verbosity l.origins.items);
-  kept : g.E.WriteLines.failed l.fn.err → g.E.WriteLines.failed l.err;
+  told : AreTold (g.E.WriteLines.lines l.fn.err).contents (g.E.WriteLines.lines l.err).contents (g.E.WriteLines.lines l.err).failed (opened_lines l.fn.verbosity l.origins.items);
+  kept : (g.E.WriteLines.lines l.fn.err).failed → (g.E.WriteLines.lines l.err).failed;
 }

@@ -17,7 +17,7 @@ returns-clause-lot g c =
     let words = c.in-Ok-words_of.ensures ∙ ap (map string_bytes) c.deref.ensures.value in
     let kept = ap texts c.deref-3.ensures.value ∙ c.in-Ok-kept_of.ensures ∙ ap (kept_of out) (ap texts c.deref-2.ensures.value ∙ words) in
     let count : c.len.result ≡ length paths = omega (arith, c.len.ensures, ap length words, length-map c.in-Ok-words_of.words.items (λ (w : Bor (List ℕ)). w.now), length-map paths string_bytes) in
-    let told = AreToldTo g.E.WriteLines.contents g.E.WriteLines.failed c.large_files.new.maker.err c.tell_large.new.err in
+    let told = AreToldTo g.E.WriteLines.lines c.large_files.new.maker.err c.tell_large.new.err in
     record {
       paths = paths;
       collected = c.large_files.new.maker;

@@ -35,7 +35,7 @@ returns-in-Ok-collect_job-clause-own g c =
         opened = c.in-Ok-open_all.ensures.opened;
         files = c.in-Ok-open_all.ensures.named;
         gave = (by.collected, by.collects, refl);
-        told = subst (AreToldTo g.E.WriteLines.contents g.E.WriteLines.failed c.args.maker.now.err c.open_all.new.err) (nothing_opened had.origins.items) c.in-Ok-open_all.ensures.told;
+        told = subst (AreToldTo g.E.WriteLines.lines c.args.maker.now.err c.open_all.new.err) (nothing_opened had.origins.items) c.in-Ok-open_all.ensures.told;
         same = refl;
       };
       is_table = subst (λ (plan : PlanValue). IsTable plan rs gathered.run.table × FitsPlan plan gathered.run.table) same_plan
@@ -61,7 +61,7 @@ returns-in-SumTooLarge-clause-own g c =
         gave = subst (λ (os : List Origin). AreTooLargeInContext seen job.plan.now (in_context job had.sources os)) c.deref-in-Ok-open_all.ensures.value
             (subst (λ ss. AreTooLargeInContext seen job.plan.now (in_context job ss c.deref-in-Ok-open_all.result.now)) c.into_sources-sources.ensures.list
             (c.in-Err-collect_job.ensures.faults.too_large (ap Err c.in-SumTooLarge.is)));
-        told = subst (AreToldTo g.E.WriteLines.contents g.E.WriteLines.failed c.args.maker.now.err c.open_all.new.err) (nothing_opened had.origins.items) c.in-Ok-open_all.ensures.told;
+        told = subst (AreToldTo g.E.WriteLines.lines c.args.maker.now.err c.open_all.new.err) (nothing_opened had.origins.items) c.in-Ok-open_all.ensures.told;
         same = refl;
       };
       is_table = tt;

@@ -10,7 +10,7 @@ returns-clause-out g c =
     let texts = map (λ (w : Bor (List ℕ)). w.now) in
     let words = c.in-Ok-words_of.ensures ∙ ap (map string_bytes) c.deref.ensures.value in
     let out = c.in_ok-out.out.items in
-    let told = AreToldTo g.E.WriteLines.contents g.E.WriteLines.failed c.files_left_out.new.maker.err c.tell_left_out.new.err in
+    let told = AreToldTo g.E.WriteLines.lines c.files_left_out.new.maker.err c.tell_left_out.new.err in
     record {
       paths = c.in-Ok.paths.items;
       collected = c.files_left_out.new.maker;

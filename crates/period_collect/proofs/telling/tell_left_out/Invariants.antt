@@ -7,6 +7,6 @@ use Rattle.period_collect.proofs.telling.tell_left_out.Given as goal
 -- so far
 abbrev pub invariant-loop-place : goal.invariant-loop-place
 invariant-loop-place g l = record {
-  told : AreToldTo g.E.WriteLines.contents g.E.WriteLines.failed l.initial.err l.err (left_out_lines (paths_at (take l.place-index l.out) (map (λ (w : Bor (List ℕ)). w.now) l.paths)));
-  kept : g.E.WriteLines.failed l.initial.err → g.E.WriteLines.failed l.err;
+  told : AreToldTo g.E.WriteLines.lines l.initial.err l.err (left_out_lines (paths_at (take l.place-index l.out) (map (λ (w : Bor (List ℕ)). w.now) l.paths)));
+  kept : (g.E.WriteLines.lines l.initial.err).failed → (g.E.WriteLines.lines l.err).failed;
 }

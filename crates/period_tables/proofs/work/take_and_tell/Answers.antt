@@ -11,10 +11,10 @@ returns-in-Ok-take_period g c = inl (record {
   is_name = c.in-Ok.ensures;
   is_path = c.in-Ok-table_path.ensures;
   taken = c.in-Ok-take_period.ensures.ok;
-  paths = subst (λ path. AreToldTo g.P.WriteLines.contents g.P.WriteLines.failed c.args.work.now.out c.write_paths.new.out (outcome_paths path c.in-Ok-take_period.outcome)) c.as_str.ensures.value c.write_paths.ensures;
-  lines = subst (λ table. AreToldTo g.L.WriteLines.contents g.L.WriteLines.failed c.args.work.now.err c.tell_taken.new.err (outcome_lines c.args.round.tells_waiting (string_bytes c.in-Ok.name) table c.in-Ok-take_period.outcome))
+  paths = subst (λ path. AreToldTo g.P.WriteLines.lines c.args.work.now.out c.write_paths.new.out (outcome_paths path c.in-Ok-take_period.outcome)) c.as_str.ensures.value c.write_paths.ensures;
+  lines = subst (λ table. AreToldTo g.L.WriteLines.lines c.args.work.now.err c.tell_taken.new.err (outcome_lines c.args.round.tells_waiting (string_bytes c.in-Ok.name) table c.in-Ok-take_period.outcome))
       (c.as_str-table.ensures.value ∙ c.in-Ok-label_of.ensures)
-      (subst (λ name. AreToldTo g.L.WriteLines.contents g.L.WriteLines.failed c.args.work.now.err c.tell_taken.new.err (outcome_lines c.args.round.tells_waiting name c.as_str-table.result.now c.in-Ok-take_period.outcome))
+      (subst (λ name. AreToldTo g.L.WriteLines.lines c.args.work.now.err c.tell_taken.new.err (outcome_lines c.args.round.tells_waiting name c.as_str-table.result.now c.in-Ok-take_period.outcome))
       c.as_str-period.ensures.value c.tell_taken.ensures.told);
   rounds = refl;
   status = c.tell_taken.ensures.status;

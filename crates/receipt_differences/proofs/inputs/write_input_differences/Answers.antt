@@ -10,13 +10,12 @@ use Rattle.receipt_differences.proofs.inputs.write_input_differences.Goals as go
 pub returns : goal.returns
 returns g c =
     let a = c.args in
-    let C = g.E.WriteLines.contents in
-    let F = g.E.WriteLines.failed in
+    let lines = g.E.WriteLines.lines in
     let inputs = map input_value a.inputs.now in
     let files = map input_value a.files.now in
-    let first = subst (λ (l : List ℕ). Appends (C a.err.now) (C c.write_inputs.new.err) l)
+    let first = subst (λ (l : List ℕ). Appends (lines a.err.now).contents (lines c.write_inputs.new.err).contents l)
     (told_of_inputs a.inputs.now a.files.now a.own.now a.others.now c.requires.of_inputs.same c.requires.of_files.same) c.in_ok-write_inputs.ensures.told in
-    let last = subst (λ (l : List ℕ). Tells C F c.write_inputs.new.err c.write_files.new.err c.write_files.result l)
+    let last = subst (λ (l : List ℕ). Tells lines c.write_inputs.new.err c.write_files.new.err c.write_files.result l)
     (told_of_files a.inputs.now a.files.now a.own.now a.others.now c.requires.of_inputs.same c.requires.of_files.same) c.write_files.ensures in
     rw (of_values (input_differs inputs files) input_value a.inputs.now, of_values (file_differs inputs files) input_value a.files.now)
-    (after C F a.err.now c.write_inputs.new.err c.write_files.new.err c.write_files.result _ _ first c.write_inputs.ensures.kept last)
+    (after lines a.err.now c.write_inputs.new.err c.write_files.new.err c.write_files.result _ _ first c.write_inputs.ensures.kept last)

@@ -10,7 +10,7 @@ use Rattle.receipt_differences.proofs.inputs.write_inputs.Given as goal
 -- the lines of those so far were told
 abbrev pub invariant-loop-input : goal.invariant-loop-input
 invariant-loop-input g l = record {
-  told : Appends (g.E.WriteLines.contents l.initial.err) (g.E.WriteLines.contents l.err)
+  told : Appends (g.E.WriteLines.lines l.initial.err).contents (g.E.WriteLines.lines l.err).contents
       (flat_map (λ (i : InputReceipt). input_differs (values_of l.own) (values_of l.others) (input_value i)) (take l.input-index l.inputs));
-  kept : g.E.WriteLines.failed l.initial.err → g.E.WriteLines.failed l.err;
+  kept : (g.E.WriteLines.lines l.initial.err).failed → (g.E.WriteLines.lines l.err).failed;
 }

@@ -3,12 +3,11 @@ use Rattle.receipt_differences.proofs.remade.write_remade_differences.Goals as g
 
 pub returns : goal.returns
 returns g c =
-    let C = g.E.WriteLines.contents in
-    let F = g.E.WriteLines.failed in
+    let lines = g.E.WriteLines.lines in
     let r = c.write_other_unless.result in
     let end = c.write_other_unless.new.err in
     let inputs = rw (c.as_slice.ensures.value, c.as_slice-2.ensures.value) at c.in_ok-write_input_differences.ensures.told in
     let complete = rw (c.is_same.ensures, c.is_complete-complete.ensures, c.deref.ensures.value) at c.write_other_unless.ensures in
-    let three = after C F c.write_count_differences.new.err c.write_row_differences.new.err end r _ _ c.in_ok-write_row_differences.ensures.told c.write_row_differences.ensures.kept complete in
-    let two = after C F c.write_input_differences.new.err c.write_count_differences.new.err end r _ _ c.in_ok-write_count_differences.ensures.told c.write_count_differences.ensures.kept three in
-    after C F c.args.err.now c.write_input_differences.new.err end r _ _ inputs c.write_input_differences.ensures.kept two
+    let three = after lines c.write_count_differences.new.err c.write_row_differences.new.err end r _ _ c.in_ok-write_row_differences.ensures.told c.write_row_differences.ensures.kept complete in
+    let two = after lines c.write_input_differences.new.err c.write_count_differences.new.err end r _ _ c.in_ok-write_count_differences.ensures.told c.write_count_differences.ensures.kept three in
+    after lines c.args.err.now c.write_input_differences.new.err end r _ _ inputs c.write_input_differences.ensures.kept two

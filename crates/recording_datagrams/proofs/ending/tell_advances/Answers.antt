@@ -12,10 +12,10 @@ loop-index-preserved g c =
     let xs = told_of c.args.advances.now.reaches in
     let i = c.loop-index.index in
     let x : DomainAdvance = c.at-domain.result in
-    let here = g.W.WriteLines.contents c.loop-index.out in
-    let after = g.W.WriteLines.contents c.write_advance.new.out in
+    let here = (g.W.WriteLines.lines c.loop-index.out).contents in
+    let after = (g.W.WriteLines.lines c.write_advance.new.out).contents in
     record {
-      told = told_more (domain_advance_line c.args.peer) xs i x (g.W.WriteLines.contents c.args.out.now) here after (slice_get_within xs i x c.at-domain.ensures) c.loop-index.invariant.told
+      told = told_more (domain_advance_line c.args.peer) xs i x (g.W.WriteLines.lines c.args.out.now).contents here after (slice_get_within xs i x c.at-domain.ensures) c.loop-index.invariant.told
           (subst (λ (d : DomainAdvance). Appends here after (domain_advance_line c.args.peer d)) (sym (get_or_from_slice_get xs i x x c.at-domain.ensures)) c.in_ok-write_advance.ensures.told);
       kept = λ failed. c.write_advance.ensures.kept (c.loop-index.invariant.kept failed);
     }

@@ -8,6 +8,6 @@ use Rattle.recording_datagrams.proofs.ending.tell_advances.Given as goal
 -- the first of them are told
 abbrev pub invariant-loop-index : goal.invariant-loop-index
 invariant-loop-index g l = record {
-  told : Appends (g.W.WriteLines.contents l.fn.out) (g.W.WriteLines.contents l.out) (flat_map (domain_advance_line l.peer) (take l.index (told_of l.advances.reaches)));
-  kept : g.W.WriteLines.failed l.fn.out → g.W.WriteLines.failed l.out;
+  told : Appends (g.W.WriteLines.lines l.fn.out).contents (g.W.WriteLines.lines l.out).contents (flat_map (domain_advance_line l.peer) (take l.index (told_of l.advances.reaches)));
+  kept : (g.W.WriteLines.lines l.fn.out).failed → (g.W.WriteLines.lines l.out).failed;
 }

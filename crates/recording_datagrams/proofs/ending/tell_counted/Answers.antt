@@ -12,10 +12,10 @@ loop-index-preserved g c =
     let xs = map counts_of c.args.window.now.numbers in
     let i = c.loop-index.index in
     let x : OrderCounts = c.counts_at.result in
-    let here = g.W.WriteLines.contents c.loop-index.out in
-    let after = g.W.WriteLines.contents c.tell_domain_order.new.out in
+    let here = (g.W.WriteLines.lines c.loop-index.out).contents in
+    let after = (g.W.WriteLines.lines c.tell_domain_order.new.out).contents in
     record {
-      told = told_more (domain_order_lines c.args.peer) xs i x (g.W.WriteLines.contents c.args.out.now) here after (slice_get_within xs i x c.counts_at.ensures) c.loop-index.invariant.told
+      told = told_more (domain_order_lines c.args.peer) xs i x (g.W.WriteLines.lines c.args.out.now).contents here after (slice_get_within xs i x c.counts_at.ensures) c.loop-index.invariant.told
           (subst (λ (d : OrderCounts). Appends here after (domain_order_lines c.args.peer d)) (sym (get_or_from_slice_get xs i x x c.counts_at.ensures)) c.in_ok-tell_domain_order.ensures.told);
       kept = λ failed. c.tell_domain_order.ensures.kept (c.loop-index.invariant.kept failed);
     }

@@ -7,6 +7,6 @@ use Rattle.recording_datagrams.proofs.ending.tell_orders.Given as goal
 -- the first of them are told
 abbrev pub invariant-loop-counts : goal.invariant-loop-counts
 invariant-loop-counts g l = record {
-  told : Appends (g.W.WriteLines.contents l.initial.out) (g.W.WriteLines.contents l.out) (flat_map (domain_order_lines l.peer) (take l.counts-index l.orders));
-  kept : g.W.WriteLines.failed l.initial.out → g.W.WriteLines.failed l.out;
+  told : Appends (g.W.WriteLines.lines l.initial.out).contents (g.W.WriteLines.lines l.out).contents (flat_map (domain_order_lines l.peer) (take l.counts-index l.orders));
+  kept : (g.W.WriteLines.lines l.initial.out).failed → (g.W.WriteLines.lines l.out).failed;
 }

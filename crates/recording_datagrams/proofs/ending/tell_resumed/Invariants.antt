@@ -7,6 +7,6 @@ use Rattle.recording_datagrams.proofs.ending.tell_resumed.Given as goal
 -- the first of them are told
 abbrev pub invariant-loop-resumption : goal.invariant-loop-resumption
 invariant-loop-resumption g l = record {
-  told : Appends (g.W.WriteLines.contents l.initial.out) (g.W.WriteLines.contents l.out) (flat_map (resumption_line l.peer) (take l.resumption-index l.resumed));
-  kept : g.W.WriteLines.failed l.initial.out → g.W.WriteLines.failed l.out;
+  told : Appends (g.W.WriteLines.lines l.initial.out).contents (g.W.WriteLines.lines l.out).contents (flat_map (resumption_line l.peer) (take l.resumption-index l.resumed));
+  kept : (g.W.WriteLines.lines l.initial.out).failed → (g.W.WriteLines.lines l.out).failed;
 }

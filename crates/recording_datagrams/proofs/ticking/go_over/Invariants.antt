@@ -5,5 +5,5 @@ use Rattle.recording_datagrams.proofs.ticking.go_over.Given as goal
 
 abbrev pub invariant-loop : goal.invariant-loop
 invariant-loop g l =
-    TellsSome g.W.WriteLines.contents g.W.WriteLines.failed l.fn.out l.out l.told (GoneOver g.F.FileSeries.seen g.F.RecordingFiles.finishes l.second l.is_over l.fn.peers.kept.entries l.peers.kept.entries l.counter)
+    TellsSome g.W.WriteLines.lines l.fn.out l.out l.told (GoneOver g.F.FileSeries.seen g.F.RecordingFiles.finishes l.second l.is_over l.fn.peers.kept.entries l.peers.kept.entries l.counter)
     × KeepsLimits l.fn.peers l.peers

@@ -6,6 +6,6 @@ use Rattle.recording_lines.proofs.session_lines.write_peer_losses.Given as goal
 
 abbrev pub invariant-loop-domain : goal.invariant-loop-domain
 invariant-loop-domain g l = record {
-  told : Appends (g.W.WriteLines.contents l.initial.out) (g.W.WriteLines.contents l.out) (flat_map (peer_domain_lines l.peer) (take l.domain-index l.domains));
-  kept : g.W.WriteLines.failed l.initial.out → g.W.WriteLines.failed l.out;
+  told : Appends (g.W.WriteLines.lines l.initial.out).contents (g.W.WriteLines.lines l.out).contents (flat_map (peer_domain_lines l.peer) (take l.domain-index l.domains));
+  kept : (g.W.WriteLines.lines l.initial.out).failed → (g.W.WriteLines.lines l.out).failed;
 }

@@ -13,4 +13,4 @@ returns-in-None g c =
     let a = c.args in
     let past = rw c.saturating_sub.ensures at c.in-None.ensures.lookup.3 in
     let unknown : origin_of a.origins.now a.session ≡ Unknown = ap (λ o. unwrap_or o Unknown) (slice_get_past a.origins.now (a.session - 1) past) in
-    subst (λ (o : Origin). Tells g.W.WriteLines.contents g.W.WriteLines.failed a.out.now c.write_rates-in-None.new.out c.write_rates-in-None.result (session_sampling a.session o a.report.now)) (sym unknown) c.write_rates-in-None.ensures
+    subst (λ (o : Origin). Tells g.W.WriteLines.lines a.out.now c.write_rates-in-None.new.out c.write_rates-in-None.result (session_sampling a.session o a.report.now)) (sym unknown) c.write_rates-in-None.ensures

@@ -5,6 +5,6 @@ use Rattle.report_sampling.proofs.rates.write_sessions.Given as goal
 
 abbrev pub invariant-loop-index : goal.invariant-loop-index
 invariant-loop-index g l = record {
-  told : Appends (g.W.WriteLines.contents l.initial.out) (g.W.WriteLines.contents l.out) (sampling_lines l.origins (take l.index l.reports));
-  kept : g.W.WriteLines.failed l.initial.out → g.W.WriteLines.failed l.out;
+  told : Appends (g.W.WriteLines.lines l.initial.out).contents (g.W.WriteLines.lines l.out).contents (sampling_lines l.origins (take l.index l.reports));
+  kept : (g.W.WriteLines.lines l.initial.out).failed → (g.W.WriteLines.lines l.out).failed;
 }

@@ -6,6 +6,6 @@ use Rattle.report_sessions.proofs.balances.write_each.Given as goal
 
 abbrev pub invariant-loop-balance : goal.invariant-loop-balance
 invariant-loop-balance g l = record {
-  told : Appends (g.W.WriteLines.contents l.initial.out) (g.W.WriteLines.contents l.out) (flat_map (balance_lines l.session l.origin) (take l.balance-index l.balances));
-  kept : g.W.WriteLines.failed l.initial.out → g.W.WriteLines.failed l.out;
+  told : Appends (g.W.WriteLines.lines l.initial.out).contents (g.W.WriteLines.lines l.out).contents (flat_map (balance_lines l.session l.origin) (take l.balance-index l.balances));
+  kept : (g.W.WriteLines.lines l.initial.out).failed → (g.W.WriteLines.lines l.out).failed;
 }

@@ -5,6 +5,6 @@ use Rattle.report_sessions.proofs.missing.write_each.Given as goal
 
 abbrev pub invariant-loop-place : goal.invariant-loop-place
 invariant-loop-place g l = record {
-  told : Appends (g.W.WriteLines.contents l.initial.out) (g.W.WriteLines.contents l.out) (lack_lines (g.L.Lack.words l.elements) (take l.place l.all) l.counts);
-  kept : g.W.WriteLines.failed l.initial.out → g.W.WriteLines.failed l.out;
+  told : Appends (g.W.WriteLines.lines l.initial.out).contents (g.W.WriteLines.lines l.out).contents (lack_lines (g.L.Lack.words l.elements) (take l.place l.all) l.counts);
+  kept : (g.W.WriteLines.lines l.initial.out).failed → (g.W.WriteLines.lines l.out).failed;
 }

@@ -5,6 +5,6 @@ use Rattle.report_sessions.proofs.reports.write_reports.Given as goal
 
 abbrev pub invariant-loop-index : goal.invariant-loop-index
 invariant-loop-index g l = record {
-  told : Appends (g.W.WriteLines.contents l.initial.out) (g.W.WriteLines.contents l.out) (report_lines (take l.index l.reports));
-  kept : g.W.WriteLines.failed l.initial.out → g.W.WriteLines.failed l.out;
+  told : Appends (g.W.WriteLines.lines l.initial.out).contents (g.W.WriteLines.lines l.out).contents (report_lines (take l.index l.reports));
+  kept : (g.W.WriteLines.lines l.initial.out).failed → (g.W.WriteLines.lines l.out).failed;
 }

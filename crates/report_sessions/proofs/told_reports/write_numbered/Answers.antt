@@ -12,4 +12,4 @@ returns-in-None g c =
     let a = c.args in
     let past = rw c.saturating_sub.ensures at c.in-None.ensures.lookup.3 in
     let unknown : origin_of a.origins.now a.session ≡ Unknown = ap (λ o. unwrap_or o Unknown) (slice_get_past a.origins.now (a.session - 1) past) in
-    subst (λ (o : Origin). Tells g.W.WriteLines.contents g.W.WriteLines.failed a.out.now c.write_told_session-in-None.new.out c.write_told_session-in-None.result (told_session a.verbosity a.elements.now a.session o a.failure a.full.now)) (sym unknown) c.write_told_session-in-None.ensures
+    subst (λ (o : Origin). Tells g.W.WriteLines.lines a.out.now c.write_told_session-in-None.new.out c.write_told_session-in-None.result (told_session a.verbosity a.elements.now a.session o a.failure a.full.now)) (sym unknown) c.write_told_session-in-None.ensures

@@ -26,12 +26,12 @@ loop-index-preserved g c =
     let are = ended_more g.S.Source.failure a.sources.now a.reports.now c.loop-index.index full so_far.ended new.failure c.loop-index-test.true c.index-reports-index.is so_far.are_ended c.failure_of-failure.ensures in
     let session : length so_far.ended + 1 ≡ c.loop-index.index + 1 = omega (arith, ended_count g.S.Source.failure a.sources.now a.reports.now c.loop-index.index so_far.ended c.loop-index-test.true so_far.are_ended) in
     let more = numbered-last lines so_far.ended new ∙ ap (λ (n : ℕ). told_lines a.verbosity a.elements.now a.origins.now so_far.ended ++ lines n new) session in
-    let held = g.W.WriteLines.contents in
+    let out_lines = g.W.WriteLines.lines in
     record {
       told = record {
         ended = so_far.ended ++ new ∷ [];
         are_ended = are;
-        told = subst (λ l. Appends (held a.out.now) (held c.write_numbered.new.out) l) (sym more)
+        told = subst (λ l. Appends (out_lines a.out.now).contents (out_lines c.write_numbered.new.out).contents l) (sym more)
             (Appends-trans _ _ _ (told_lines a.verbosity a.elements.now a.origins.now so_far.ended) _ so_far.told c.in_ok-write_numbered.ensures.told);
       };
       kept = λ failed. c.write_numbered.ensures.kept (c.loop-index.invariant.kept failed);
@@ -49,11 +49,11 @@ returns-clause-told g c =
 
 pub returns-clause-plain : goal.returns-clause-plain
 returns-clause-plain g c = λ verbose strict.
-    let held = g.W.WriteLines.contents in
+    let out_lines = g.W.WriteLines.lines in
     let a = c.args in
     let all : take c.loop-index.index a.reports.now ≡ a.reports.now = take_all _ a.reports.now (omega (arith, c.loop-index-test.false)) in
     let told = c.loop-index.invariant.told in
-    subst (λ (l : List ℕ). Appends (held a.out.now) (held c.loop-index.out) l) (told_plain a.verbosity verbose strict a.elements.now a.origins.now told.ended a.reports.now (told.are_ended.reports ∙ all)) told.told
+    subst (λ (l : List ℕ). Appends (out_lines a.out.now).contents (out_lines c.loop-index.out).contents l) (told_plain a.verbosity verbose strict a.elements.now a.origins.now told.ended a.reports.now (told.are_ended.reports ∙ all)) told.told
 
 pub returns-in_err-write_numbered-clause-told : goal.returns-in_err-write_numbered-clause-told
 returns-in_err-write_numbered-clause-told g c = record {

@@ -6,6 +6,6 @@ use Rattle.report_sessions.proofs.told_reports.write_told_reports.Given as goal
 
 abbrev pub invariant-loop-index : goal.invariant-loop-index
 invariant-loop-index g l = record {
-  told : TellsEnded g.S.Source.failure l.sources (take l.index l.reports) (told_lines l.verbosity l.elements l.origins) (Appends (g.W.WriteLines.contents l.initial.out) (g.W.WriteLines.contents l.out));
-  kept : g.W.WriteLines.failed l.initial.out → g.W.WriteLines.failed l.out;
+  told : TellsEnded g.S.Source.failure l.sources (take l.index l.reports) (told_lines l.verbosity l.elements l.origins) (Appends (g.W.WriteLines.lines l.initial.out).contents (g.W.WriteLines.lines l.out).contents);
+  kept : (g.W.WriteLines.lines l.initial.out).failed → (g.W.WriteLines.lines l.out).failed;
 }

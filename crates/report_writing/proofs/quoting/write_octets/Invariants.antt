@@ -6,6 +6,6 @@ use Rattle.report_writing.proofs.quoting.write_octets.Given as goal
 
 abbrev pub invariant-loop-octet : goal.invariant-loop-octet
 invariant-loop-octet g l = record {
-  told : Appends (g.W.WriteLines.contents l.initial.out) (g.W.WriteLines.contents l.out) (flat_map octet_shown (take l.octet-index l.octets));
-  kept : g.W.WriteLines.failed l.initial.out → g.W.WriteLines.failed l.out;
+  told : Appends (g.W.WriteLines.lines l.initial.out).contents (g.W.WriteLines.lines l.out).contents (flat_map octet_shown (take l.octet-index l.octets));
+  kept : (g.W.WriteLines.lines l.initial.out).failed → (g.W.WriteLines.lines l.out).failed;
 }

@@ -7,7 +7,7 @@ use Rattle.command_collect.proofs.commands.files.run_files_with.Goals as goal
 
 pub returns-in-Ok-clause-collects : goal.returns-in-Ok-clause-collects
 returns-in-Ok-clause-collects g c =
-    collected g.S.Source.seen g.S.Source.failure g.W.Write.contents _ _ c.args.job.now _ _ _ _ _ _ (AreToldTo g.E.WriteLines.contents g.E.WriteLines.failed c.open_all.new.err c.run_with.new.err)
+    collected g.S.Source.seen g.S.Source.failure g.W.Write.contents _ _ c.args.job.now _ _ _ _ _ _ (AreToldTo g.E.WriteLines.lines c.open_all.new.err c.run_with.new.err)
     c.into_sources-sources.result.items c.in-Ok.field-0.sources c.in-Ok.field-0.origins.items c.deref.result.now c.into_sources-sources.ensures.list c.in-Ok.ensures.opened c.into_sources-sources.ensures.unread c.in-Ok.ensures.named c.deref.ensures.value
     (λ lines told. both_told _ _ _ _ _ _ _ c.in-Ok.ensures.told told c.run_with.ensures.kept) c.run_with.ensures.runs
 

@@ -26,7 +26,7 @@ returns-in-Err-clause-runs g c =
       table = λ ran. absurd (ran refl);
       failed = λ failed. inl (c.in-Err.failure, record { fault_is = fault; names = c.in-Err.ensures.large }, refl, c.hindrance_in.ensures, told);
       refused = refusal_named g.S.Source.seen job.plan.now given job.engine (length c.args.sources.items) c.in-Err.failure job.verbosity c.args.origins.now _ _
-          (AreToldTo g.E.WriteLines.contents g.E.WriteLines.failed c.args.err.now c.write_failure.new.out) (due_fault job.engine (length c.args.sources.items)) refl fault.arguments c.in-Err.ensures.large refl refl told;
+          (AreToldTo g.E.WriteLines.lines c.args.err.now c.write_failure.new.out) (due_fault job.engine (length c.args.sources.items)) refl fault.arguments c.in-Err.ensures.large refl refl told;
     }
 
 pub returns-in-Err-clause-hindered : goal.returns-in-Err-clause-hindered

@@ -11,7 +11,7 @@ pub returns-in-Ok-clause-collects : goal.returns-in-Ok-clause-collects
 returns-in-Ok-clause-collects g c =
     let first = is_told _ _ _ c.write_listening.result _ c.write_listening.ensures.told c.write_listening.ensures.failed in
     collected g.W.Write.contents g.Q.ReceiptPlace.holds c.args.to c.run_receipted.result g.S.Source.seen g.S.Source.failure c.args.job.now _ _ _ _ _
-    (AreToldTo g.E.WriteLines.contents g.E.WriteLines.failed c.accept_all.new.err c.run_receipted.new.err)
+    (AreToldTo g.E.WriteLines.lines c.accept_all.new.err c.run_receipted.new.err)
     c.into_sources-sources.result.items c.in-Ok.field-0.sources c.in-Ok.field-0.origins.items c.deref.result.now c.into_sources-sources.ensures.list c.in-Ok.ensures.accepted c.into_sources-sources.ensures.unread c.in-Ok.ensures.peers c.deref.ensures.value
     (λ lines told.
     both_told _ _ _ _ _ _ _ first (both_told _ _ _ _ _ _ _ c.in-Ok.ensures.told told c.run_receipted.ensures.kept) (λ failed. c.run_receipted.ensures.kept (c.accept_all.ensures.kept failed))) c.run_receipted.ensures.runs

@@ -11,8 +11,8 @@ returns g c = inl (record {
   is_name = c.in-Ok.ensures;
   is_path = c.in-Ok-table_path.ensures;
   taken = c.take_text-outcome.ensures;
-  paths = subst (λ path. AreToldTo g.P.WriteLines.contents g.P.WriteLines.failed c.args.work.now.out c.write_text_path.new.out (text_paths path c.take_text-outcome.result)) c.as_str.ensures.value c.write_text_path.ensures;
-  lines = subst (λ table. AreToldTo g.L.WriteLines.contents g.L.WriteLines.failed c.args.work.now.err c.tell_text.new.err (text_lines table c.take_text-outcome.result))
+  paths = subst (λ path. AreToldTo g.P.WriteLines.lines c.args.work.now.out c.write_text_path.new.out (text_paths path c.take_text-outcome.result)) c.as_str.ensures.value c.write_text_path.ensures;
+  lines = subst (λ table. AreToldTo g.L.WriteLines.lines c.args.work.now.err c.tell_text.new.err (text_lines table c.take_text-outcome.result))
       (c.as_str-2.ensures.value ∙ c.in-Ok-label_of.ensures) c.tell_text.ensures.told;
   rest = refl;
   status_is = c.tell_text.ensures.status;

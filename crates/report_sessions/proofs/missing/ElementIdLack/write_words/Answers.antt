@@ -9,8 +9,8 @@ use Rattle.report_sessions.proofs.missing.ElementIdLack.write_words.Goals as goa
 pub returns : goal.returns
 unfolding counter_text
 returns g c =
-    let held = g.W.WriteLines.contents in
-    let words = subst (λ (t : List ℕ). Appends (held c.args.out.now) (held c.write_all.new.self) t) c.as_bytes.ensures.value c.in_ok-write_all.ensures.bytes in
+    let lines = g.W.WriteLines.lines in
+    let words = subst (λ (t : List ℕ). Appends (lines c.args.out.now).contents (lines c.write_all.new.self).contents t) c.as_bytes.ensures.value c.in_ok-write_all.ensures.bytes in
     record {
       told = on_ok_weaker c.write_element.result (λ h. Appends-trans _ _ _ (codes "collectd: records: without ") (element_name c.args.elements.now c.args.self.now) words h) c.write_element.ensures.told;
       failed = c.write_element.ensures.failed;
