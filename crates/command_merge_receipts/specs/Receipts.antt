@@ -23,7 +23,7 @@ into_told into = option_map (λ (merged : Bor MergedInto). into_value merged.now
 -- the merged table, by the digest of its text; into what its rows were merged is what the merge was told
 abbrev pub merged_table_of : PartsJob → TextDigest → Table → TableValue
 merged_table_of job text table =
-    record (table_of job.merge.elements.now job.merge.plan.now.counters job.merge.output text table) { into = into_told job.into }
+    record (table_of job.merge.elements.now job.merge.plan.now job.merge.output text table) { into = into_told job.into }
 
 -- under which plan the parts were merged; what their receipts say together; and the merged table
 abbrev pub merged_receipt_of : PartsJob → List PartValue → TextDigest → Table → ReceiptValue

@@ -3,7 +3,7 @@
 ghost use Rattle.std.specs.Prelude.{IfErr, IfOk, OnOk};
 ghost use Rattle.flow_merge.specs.RowRecords.{CanTakeRows};
 ghost use Rattle.flow_table.specs.Fitting.{FitsPlan};
-ghost use Rattle.report_writing.specs.Lines.{Adds, StaysFailed};
+ghost use Rattle.report_writing.specs.Lines.{StaysFailed};
 ghost use Rattle.report_writing.specs.OpeningLines.{if_verbose};
 ghost use Rattle.report_writing.specs.Told.{AreToldTo};
 ghost use Rattle.command_merge.specs.MergeLines.{file_opened_line, files_opened_lines};

@@ -3,6 +3,7 @@ use Rattle.std.specs.Prelude.{◌≡◌, ◌↔◌, ℕ, ◌++◌, Some, List, t
 use denote.Bor.{Bor}
 use Rattle.std.specs.List.{AllZip}
 use Rattle.network_prefixes.specs.Prefixes.{IsPrefixWord, IsWordWithBitsAfter}
+use Rattle.network_prefixes.specs.declared.peer_filter.PeerFilter.{PeerFilter}
 use Rattle.network_prefixes.specs.declared.prefix.Prefix.{Prefix}
 use Rattle.network_prefixes.specs.declared.prefix.PrefixFault.{PrefixFault}
 use Rattle.network_prefixes.specs.declared.prefix.PrefixFault.TheVariants.{NotAPrefix, BitsAfter}
@@ -14,6 +15,10 @@ use Rattle.command_record.specs.declared.peer_prefixes.WordFault.TheVariants.{No
 -- each word spells the prefix that has its place
 abbrev pub ArePrefixes : List (Bor (List ℕ)) → List Prefix → Type 0
 ArePrefixes words prefixes = AllZip (λ word prefix. IsPrefixWord word.now prefix) words prefixes
+
+-- those of a filter
+abbrev pub IsFilterOf : List (Bor (List ℕ)) → PeerFilter → Type 0
+IsFilterOf words filter = ArePrefixes words filter.prefixes.items
 
 -- a word spells no prefix, and whether it would but for the bits after it
 pub record IsNoPrefix (word : List ℕ) (fault : PrefixFault) : Type 0 where

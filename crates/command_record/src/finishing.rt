@@ -1,6 +1,6 @@
 //! Finishing what a stopped run left.
 
-ghost use Rattle.std.specs.Prelude.{◌≡◌, ◌⊎◌, Ok, Err, IfErr, IfOk, MatchResult};
+ghost use Rattle.std.specs.Prelude.{◌≡◌, ◌⊎◌, Ok, Err, IfErr, IfOk};
 ghost use Rattle.report_writing.specs.Told.{AreToldTo};
 ghost use Rattle.cli_inputs.specs.Folders.{folder_line};
 ghost use Rattle.command_record.specs.Finishing.{finish_status};
@@ -22,18 +22,17 @@ pub fn finish(rt: &HostRuntime, arguments: &FinishArguments) -> Result<Status, S
 
 // How the command ends where so many files stay unfinished, or the folder can't be opened: then `err` has a line.
 fn end_of<E: WriteLines>(
-    stayed: Result<u64, FolderFault>,
+    left: Result<u64, FolderFault>,
     folder: &str,
     err: &mut E,
 ) -> Result<Status, Status>
-    ensures end { MatchResult stayed
-        (λ count. result ≡ Ok (finish_status count))
-        (λ _. result ≡ Err Status.NotOpened) }
-    ensures told { MatchResult stayed
-        (λ _. err.new ≡ err.old)
-        (λ fault. AreToldTo E.lines err.old err.new (folder_line folder.now fault)) }
+    ensures ended { IfOk left (λ count. result ≡ Ok (finish_status count)) }
+    ensures silent { IfOk left (λ _. err.new ≡ err.old) }
+    ensures refused { IfErr left (λ _. result ≡ Err Status.NotOpened) }
+    ensures told { IfErr left (λ why.
+        AreToldTo E.lines err.old err.new (folder_line folder.now why)) }
 {
-    match stayed {
+    match left {
         Ok(stayed) => Ok(status_of(stayed)),
         Err(fault) => {
             tell_folder(folder, &fault, err);

@@ -1,8 +1,8 @@
 //! Which peers may send, by the words of `--from`.
 
-ghost use Rattle.std.specs.Prelude.{◌≡◌, IfErr, IfOk, MatchResult, OnErr, OnOk};
+ghost use Rattle.std.specs.Prelude.{◌≡◌, IfErr, IfOk, OnErr, OnOk};
 ghost use Rattle.report_writing.specs.Writing.{Tells};
-ghost use Rattle.command_record.specs.PeerPrefixes.{ArePrefixes, IsWordFault, TellsWhy, bits_after_line, fault_line, no_prefix_line, prefix_line};
+ghost use Rattle.command_record.specs.PeerPrefixes.{ArePrefixes, IsFilterOf, IsWordFault, TellsWhy, bits_after_line, fault_line, no_prefix_line, prefix_line};
 
 use network_prefixes::{PeerFilter, Prefix, PrefixFault};
 use report_writing::{Status, WriteLines};
@@ -23,7 +23,7 @@ pub(crate) fn filter_of<E: WriteLines>(
     words: &[&str],
     err: &mut E,
 ) -> Result<PeerFilter, Status>
-    ensures prefixes { IfOk result (λ filter. ArePrefixes words.now filter.prefixes.items) }
+    ensures prefixes { IfOk result (IsFilterOf words.now) }
     ensures silent { OnOk result (err.new ≡ err.old) }
     ensures refused { IfErr result (λ status. status ≡ Status.NotOpened) }
     ensures told { OnErr result (TellsWhy E.lines err.old err.new words.now) }
@@ -39,8 +39,8 @@ pub(crate) fn filter_of<E: WriteLines>(
 
 // The prefix that each word spells, or why not all do.
 fn prefixes_in<'w>(alloc: Global, words: &[&'w str]) -> Result<Vec<Prefix>, WordFault<'w>>
-    ensures { MatchResult result (λ prefixes. ArePrefixes words.now prefixes.items)
-        (IsWordFault words.now) }
+    ensures ok { IfOk result (λ prefixes. ArePrefixes words.now prefixes.items) }
+    ensures err { IfErr result (IsWordFault words.now) }
 {
     let mut prefixes = Vec::new(alloc);
     for word in words {

@@ -7,7 +7,7 @@ ghost use Rattle.report_writing.specs.Reasons.{reason_of};
 ghost use Rattle.report_writing.specs.Told.{AreToldTo};
 ghost use Rattle.command_record.specs.Beginning.{no_address_text};
 ghost use Rattle.command_record.specs.Limits.{first_read_back, idle_seconds};
-ghost use Rattle.command_record.specs.PeerPrefixes.{ArePrefixes, TellsWhy};
+ghost use Rattle.command_record.specs.PeerPrefixes.{IsFilterOf, TellsWhy};
 
 use crate::beginning::{Intake, write_beginning};
 use crate::descriptors::{descriptor_limit, peers_of};
@@ -195,8 +195,7 @@ fn order_of<E: WriteLines>(
     ensures idle { IfOk result (λ order. order.idle ≡ arguments.now.idle) }
     ensures templates { IfOk result (λ order. order.templates ≡ arguments.now.templates) }
     ensures verbosity { IfOk result (λ order. order.verbosity ≡ arguments.now.verbosity) }
-    ensures filter { IfOk result (λ order.
-        ArePrefixes arguments.now.prefixes.now order.filter.prefixes.items) }
+    ensures filter { IfOk result (λ order. IsFilterOf arguments.now.prefixes.now order.filter) }
     ensures silent { OnOk result (err.new ≡ err.old) }
     ensures refused { IfErr result (λ status. status ≡ Status.NotOpened) }
     ensures told { OnErr result

@@ -52,7 +52,7 @@ pub record IsSaid (said : TableValue) (text : List ℕ) : Type 0 where
 -- the receipt of a text of a table that has this receipt: of the same plan, inputs, records of each class and completeness
 abbrev pub receipt_with : TextJob → List ℕ → Table → ReceiptValue → List ℕ
 receipt_with job text table own =
-    receipt_text (with_table job.collectd.now (table_of job.elements.now job.plan.now.counters job.output (record { octets = length text; sha256 = sha256 text }) table) own)
+    receipt_text (with_table job.collectd.now (table_of job.elements.now job.plan.now job.output (record { octets = length text; sha256 = sha256 text }) table) own)
 
 -- the text of a table
 abbrev pub table_text : TextJob → Table → List ℕ

@@ -1,5 +1,6 @@
 -- The elements that are known from files, beside the built-in ones.
 use Rattle.std.specs.Prelude.{◌≡◌, ℕ, ◌==◌, ◌&&◌, ◌⊎◌, not, Bool, true, List, [], ◌∷◌, find, Option, Some, is_none, unwrap_or, option_map, string_bytes}
+use Rattle.std.specs.Borrow.{Bor}
 use Rattle.std.specs.Option.{option_map_or, option_or}
 use Rattle.std.specs.List.{list_all, list_any}
 use Rattle.std.specs.Str.{bytes_eq}
@@ -20,6 +21,10 @@ pub record Known : Type 0 where
 
 abbrev pub shown : kept.Entry → Known
 shown k = record { element = k.element; name = string_bytes k.name; kind = k.kind; is_delta = k.is_delta }
+
+-- one that is lent, if there is one
+abbrev pub shown_if : Option (Bor kept.Entry) → Option Known
+shown_if found = option_map (λ k. shown k.now) found
 
 abbrev pub is_of : ElementId → Known → Bool
 is_of e k = (k.element.pen == e.pen) && (k.element.number == e.number)

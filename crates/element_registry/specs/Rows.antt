@@ -1,5 +1,5 @@
 -- What a row of a file says of an element (IANA, "IPFIX Information Elements", as a text of comma-separated values).
-use Rattle.std.specs.Prelude.{ℕ, ◌+◌, ◌^◌, ◌==◌, ◌&&◌, ◌||◌, nat_lt, nat_le, not, Bool, false, List, [], ◌∷◌, ◌++◌, length, codes, Option, Some, None, is_some, is_none, unwrap_or, Ok, Err, if◌then◌else◌}
+use Rattle.std.specs.Prelude.{ℕ, ◌+◌, ◌^◌, ◌==◌, ◌&&◌, ◌||◌, nat_lt, nat_le, not, Bool, false, List, [], ◌∷◌, ◌++◌, length, codes, Option, Some, None, is_some, is_none, option_map, unwrap_or, Result, Ok, Err, if◌then◌else◌}
 use Rattle.std.specs.Option.{ok_or}
 use Rattle.std.specs.List.{list_all}
 use Rattle.std.specs.Char.{is_ascii_alphabetic, is_ascii_alphanumeric}
@@ -16,9 +16,11 @@ use Rattle.element_registry.specs.declared.kind.ElementKind.TheVariants.{Plain}
 use Rattle.element_registry.specs.declared.columns.Columns.{Columns}
 use Rattle.element_registry.specs.declared.fault.Heading.{Heading}
 use Rattle.element_registry.specs.declared.fault.Heading.TheVariants as headings
+use Rattle.element_registry.specs.declared.entry.Entry as kept
+use Rattle.element_registry.specs.declared.fault.ElementsFault.{ElementsFault}
 use Rattle.element_registry.specs.declared.fault.ElementsFault.TheVariants.{Column, NotCsv, Number, Enterprise, Name}
-use Rattle.element_registry.specs.Faults.{Read, column_name}
-use Rattle.element_registry.specs.Registries.{Known}
+use Rattle.element_registry.specs.Faults.{Gives, Read, column_name}
+use Rattle.element_registry.specs.Registries.{Known, shown}
 use Rattle.element_registry.specs.Types.{kind_named}
 
 -- ---- columns
@@ -138,3 +140,7 @@ entry_in at fields =
 -- a row with a type that is not known
 abbrev pub has_unknown_type : Columns → List (List ℕ) → Bool
 has_unknown_type at fields = not (length (field fields at.kind) == 0) && is_none (kind_named (field fields at.kind))
+
+-- what reading a row answered is the entry that it gives, if any
+abbrev pub GivesEntry : Result (Option kept.Entry) ElementsFault → Read (Option Known) → Type 0
+GivesEntry result read = Gives (option_map shown) result read

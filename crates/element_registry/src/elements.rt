@@ -41,7 +41,7 @@ impl Elements {
     ghost use Rattle.element_registry.specs.Faults.{Fails};
     ghost use Rattle.element_registry.specs.Files.{with_entry};
     ghost use Rattle.ipfix_elements.specs.Writers.{Writes};
-    ghost use Rattle.element_registry.specs.Registries.{IsRegistry, is_of, shown, element_kind, listed_name, element_name, element_by_name};
+    ghost use Rattle.element_registry.specs.Registries.{IsRegistry, is_of, shown, shown_if, element_kind, listed_name, element_name, element_by_name};
 
     /// The built-in elements alone.
     pub fn built_in(alloc: Global) -> Elements
@@ -84,7 +84,7 @@ impl Elements {
 
     /// What the files say of an element, of which they say nothing twice; of the built-in ones nothing.
     pub fn find_entry(&self, element: ElementId) -> Option<&Entry>
-        ensures found { option_map (λ k. shown k.now) result ≡ find (is_of element) self.now }
+        ensures found { shown_if result ≡ find (is_of element) self.now }
         ensures once { IsRegistry self.now }
     {
         find_known(&self.entries, &self.places, element)

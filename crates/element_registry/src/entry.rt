@@ -3,7 +3,7 @@
 ghost use Rattle.std.specs.Prelude.{◌≡◌, find, map, option_map};
 ghost use Rattle.std.specs.Option.{option_copied};
 ghost use Rattle.element_registry.specs.Places.{AreNoted, standing};
-ghost use Rattle.element_registry.specs.Registries.{is_of, is_named, shown};
+ghost use Rattle.element_registry.specs.Registries.{is_of, is_named, shown, shown_if};
 
 use crate::kind::ElementKind;
 use crate::places::Places;
@@ -24,7 +24,7 @@ pub struct Entry {
 
 // What stands at a place.
 fn entry_at<'a>(entries: &'a [Entry], place: Option<&usize>) -> Option<&'a Entry>
-    ensures { option_map (λ k. shown k.now) result
+    ensures { shown_if result
         ≡ standing (map shown entries.now) (option_copied place.entry) }
 {
     entries.get(*place?)
@@ -37,7 +37,7 @@ pub fn find_known<'a>(
     element: ElementId,
 ) -> Option<&'a Entry>
     requires { AreNoted places.now (map shown entries.now) }
-    ensures { option_map (λ k. shown k.now) result ≡ find (is_of element) (map shown entries.now) }
+    ensures { shown_if result ≡ find (is_of element) (map shown entries.now) }
 {
     let place = places.by_element.get(&(element.pen, element.number));
     let entry = entry_at(entries, place)?;

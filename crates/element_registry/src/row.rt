@@ -1,11 +1,10 @@
 //! A row of a file.
 
-ghost use Rattle.std.specs.Prelude.{◌≡◌, true, is_none, option_map, IfOk, IfSome};
+ghost use Rattle.std.specs.Prelude.{◌≡◌, true, is_none, IfOk, IfSome};
 ghost use Rattle.csv.specs.Records.{fields_of};
 ghost use Rattle.ipfix_elements.specs.Elements.{entry_of};
 ghost use Rattle.element_registry.specs.Faults.{Gives};
-ghost use Rattle.element_registry.specs.Registries.{shown};
-ghost use Rattle.element_registry.specs.Rows.{element_in, entry_in, entry_of_element, has_unknown_type as is_unknown};
+ghost use Rattle.element_registry.specs.Rows.{GivesEntry, element_in, entry_in, entry_of_element, has_unknown_type as is_unknown};
 
 use crate::columns::{Columns, field, optional_field};
 use crate::entry::Entry;
@@ -25,7 +24,7 @@ pub fn read_entry(
     columns: &Columns,
     row: &ByteRecord,
 ) -> Result<Option<Entry>, ElementsFault>
-    ensures given { Gives (option_map shown) result (entry_in columns.now (fields_of row.now)) }
+    ensures given { GivesEntry result (entry_in columns.now (fields_of row.now)) }
     ensures free { IfOk result (λ o. IfSome o (λ entry. is_none (entry_of entry.element) ≡ true)) }
 {
     if row.len() != columns.count {
@@ -56,7 +55,7 @@ fn read_entry_of(
     row: &ByteRecord,
     element: ElementId,
 ) -> Result<Option<Entry>, ElementsFault>
-    ensures given { Gives (option_map shown) result
+    ensures given { GivesEntry result
         (entry_of_element columns.now (fields_of row.now) element) }
     ensures free { IfOk result (λ o. IfSome o (λ entry. is_none (entry_of entry.element) ≡ true)) }
 {

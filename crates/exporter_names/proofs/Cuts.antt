@@ -7,7 +7,7 @@ use Rattle.std.specs.Str.{NoCharPasses}
 use Rattle.std.specs.Str.Pattern.{RFindsChar}
 use Rattle.std.proofs.lemmas.Str.Pattern.{NoCharPasses-char, drop_at_char}
 use Rattle.std.proofs.Math.Seq.{get_or-append_seam}
-use Rattle.exporter_names.specs.Cuts.{HasNo, joined}
+use Rattle.exporter_names.specs.Cuts.{CutsAtLast, HasNo, joined}
 
 -- ---- texts without it
 
@@ -38,7 +38,7 @@ IsSplitLast c bs r = MatchOption r (RFindsChar c bs None)
 
 -- what it finds
 pub last_parts : (c : ℕ) → c < 128 → (text : List ℕ) (r : Option (Bor (List ℕ) × Bor (List ℕ))) → IsSplitLast c text r
-    → MatchOption r (HasNo c text) (λ x. (text ≡ joined c x.0.now x.1.now) × HasNo c x.1.now)
+    → CutsAtLast c text r
 last_parts c small text None h = λ i. NoCharPasses-char c text i h (omega (arith, small))
 last_parts c small text (Some x) h = (
   sym (take-append-drop h.0 text) ∙ (λ k. sym h.3 k ++ (drop_at_char c text h.0 h.1 h.2.1 (omega (arith, small)) ∙ ap (λ l. c ∷ l) (sym h.4)) k),

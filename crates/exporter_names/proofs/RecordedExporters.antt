@@ -1,7 +1,6 @@
 -- The names of recordings' files, and what is read of them.
 use Rattle.std.proofs.Common.{◌≡◌, ℕ, ◌<◌, ◌^◌, List, [], ◌∷◌, ◌++◌, Option, Some, None, Result, Ok, Err, refl, sym, ap, subst, ◌∙◌, arith, inl, inr}
 use Rattle.std.specs.Prelude.{◌⊎◌, IfOk, codes}
-use Rattle.std.specs.Option.{MatchOption}
 use Rattle.std.specs.Fmt.{decimal}
 use Rattle.std.specs.Net.Grammar.{IsIpText}
 use Rattle.std.specs.declared.net.ip_addr.IpAddr.{IpAddr}
@@ -13,6 +12,7 @@ use Rattle.recording_names.specs.declared.transport.Transport.TheVariants.{Conne
 use Rattle.recording_names.proofs.FinishedNames.{at_hyphen, has_hyphen}
 use Rattle.recording_names.proofs.Hyphens.{no_hyphen, one_split}
 use Rattle.exporter_names.specs.Cuts.{HasNo, joined}
+use Rattle.exporter_names.specs.Finding.{Finds}
 use Rattle.exporter_names.specs.RecordedExporters.{IsFileName, IsRecorded, IsRecordedExporter, slash, with_colons}
 use Rattle.exporter_names.proofs.Cuts.{no_seam, none_in-append, none_in-cons, none_in-nothing, one_cut}
 
@@ -25,10 +25,7 @@ one_file path one other a b =
       | inr p ↦ elim b.name_is [ inl q ↦ absurd (no_seam slash other p.0 one b.last (sym q ∙ p.1)) | inr q ↦ (one_cut slash p.0 q.0 one other a.last b.last (sym p.1 ∙ q.1)).1 ]
     ]
 
-abbrev Tells : (IpAddr → Type 0) → Option IpAddr → Type 0
-Tells Is told = MatchOption told ((a : IpAddr) → ¬ (Is a)) Is
-
-pub recorded_at : {E : Type 0} (path name : List ℕ) (r : Result (Option IpAddr) E) → IsFileName path name → IfOk r (Tells (IsRecorded name)) → IfOk r (Tells (IsRecordedExporter path))
+pub recorded_at : {E : Type 0} (path name : List ℕ) (r : Result (Option IpAddr) E) → IsFileName path name → IfOk r (Finds (IsRecorded name)) → IfOk r (Finds (IsRecordedExporter path))
 recorded_at path name (Err e) file h = tt
 recorded_at path name (Ok None) file h = λ a x. h a (subst (λ (n : List ℕ). IsRecorded n a) (one_file path x.name name x.file file) x.recorded)
 recorded_at path name (Ok (Some a)) file h = record { name = name; file = file; recorded = h }
@@ -56,7 +53,7 @@ one_address name s t c d range fits few small is same =
     (one_split s.address t.address (decimal s.port) (decimal t.port) (no_hyphen s.port (omega (arith, range.0))) (no_hyphen t.port (omega (arith, fits.0))) (sym parts.0)).0
 
 pub recorded_in : {E : Type 0} (name : List ℕ) (s : SessionParts) (copy : ℕ) (r : Result (Option IpAddr) E) → AreInRange s → IsCopy copy → name ≡ finished_text s copy
-    → IfOk r (Tells (IsIpText (with_colons s.address))) → IfOk r (Tells (IsRecorded name))
+    → IfOk r (Finds (IsIpText (with_colons s.address))) → IfOk r (Finds (IsRecorded name))
 recorded_in name s copy (Err e) range few is h = tt
 recorded_in name s copy (Ok None) range few is h = λ a x.
     h a (subst (λ (text : List ℕ). IsIpText (with_colons text) a) (one_address name x.session s x.copy copy x.range range x.few few x.name_is is) x.address_is)

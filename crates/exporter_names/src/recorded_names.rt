@@ -1,8 +1,9 @@
 //! The exporter that the name of a recording's file tells.
 
-ghost use Rattle.std.specs.Prelude.{◌≡◌, IfOk, MatchOption};
+ghost use Rattle.std.specs.Prelude.{◌≡◌, IfOk};
 ghost use Rattle.std.specs.Net.Grammar.{IsIpText};
-ghost use Rattle.exporter_names.specs.Cuts.{HasNo, joined};
+ghost use Rattle.exporter_names.specs.Cuts.{CutsAtLast};
+ghost use Rattle.exporter_names.specs.Finding.{Finds};
 ghost use Rattle.exporter_names.specs.RecordedExporters.{IsFileName, IsFinishedOf, IsRecorded, IsRecordedExporter, slash, with_colons as colons};
 
 use recording_names::read_finished_name;
@@ -11,8 +12,7 @@ use std::net::IpAddr;
 
 /// The peer whose session wrote a file, by the file's path, if that is the path of a recording's finished file.
 pub fn recorded_exporter(alloc: Global, path: &str) -> Result<Option<IpAddr>, AllocError>
-    ensures { IfOk result (λ told. MatchOption told
-        ((a : IpAddr) → ¬ IsRecordedExporter path.now a) (IsRecordedExporter path.now)) }
+    ensures { IfOk result (Finds (IsRecordedExporter path.now)) }
 {
     exporter_in_name(alloc, file_name(path))
 }
@@ -29,16 +29,14 @@ pub fn file_name(path: &str) -> &str
 
 // What stands before and after the last `/`.
 fn after_slash(path: &str) -> Option<(&str, &str)>
-    ensures { MatchOption result (HasNo slash path.now)
-        (λ parts. (path.now ≡ joined slash parts.0.now parts.1.now) × HasNo slash parts.1.now) }
+    ensures { CutsAtLast slash path.now result }
 {
     path.rsplit_once('/')
 }
 
 // The peer of the session whose finished file has this name.
 fn exporter_in_name(alloc: Global, name: &str) -> Result<Option<IpAddr>, AllocError>
-    ensures { IfOk result (λ told. MatchOption told
-        ((a : IpAddr) → ¬ IsRecorded name.now a) (IsRecorded name.now)) }
+    ensures { IfOk result (Finds (IsRecorded name.now)) }
 {
     match read_finished_name(name) {
         Some(told) => {
@@ -58,8 +56,7 @@ fn address_of(
     number: u64,
 ) -> Result<Option<IpAddr>, AllocError>
     requires { IsFinishedOf name.now address.now port number }
-    ensures { IfOk result (λ told. MatchOption told
-        ((a : IpAddr) → ¬ IsRecorded name.now a) (IsRecorded name.now)) }
+    ensures { IfOk result (Finds (IsRecorded name.now)) }
 {
     // (with these in use, a proof knows that they are in range)
     let _numbers = (port, number);
@@ -68,8 +65,7 @@ fn address_of(
 
 // The address that a text is with colons for its hyphens.
 fn read_address(alloc: Global, text: &str) -> Result<Option<IpAddr>, AllocError>
-    ensures { IfOk result (λ told. MatchOption told
-        ((a : IpAddr) → ¬ IsIpText (colons text.now) a) (IsIpText (colons text.now))) }
+    ensures { IfOk result (Finds (IsIpText (colons text.now))) }
 {
     let octets = with_colons(alloc, text.as_bytes())?;
     match IpAddr::parse_ascii(&octets) {

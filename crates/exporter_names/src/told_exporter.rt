@@ -1,8 +1,8 @@
 //! The exporter that a word tells of a file.
 
-ghost use Rattle.std.specs.Prelude.{◌≡◌, MatchOption};
 ghost use Rattle.std.specs.Net.Grammar.{IsIpText};
-ghost use Rattle.exporter_names.specs.Cuts.{HasNo, joined};
+ghost use Rattle.exporter_names.specs.Cuts.{CutsAtLast};
+ghost use Rattle.exporter_names.specs.Finding.{Finds};
 ghost use Rattle.exporter_names.specs.ToldExporters.{IsToldExporter, sign};
 
 use std::net::IpAddr;
@@ -18,9 +18,7 @@ pub struct ToldExporter<'a> {
 impl<'a> ToldExporter<'a> {
     /// What a word FILE=ADDRESS says, which is cut at the last `=`, or `None` if an IPv4 or IPv6 address doesn't follow.
     pub fn parse(word: &'a str) -> Option<Self>
-        ensures { MatchOption result
-            ((told : ToldExporter) → ¬ IsToldExporter word.now told)
-            (IsToldExporter word.now) }
+        ensures { Finds (IsToldExporter word.now) result }
     {
         let (file, text) = cut_at_last(word)?;
         let address = address_in(text)?;
@@ -30,16 +28,14 @@ impl<'a> ToldExporter<'a> {
 
 // What stands before and after the last `=`.
 fn cut_at_last(word: &str) -> Option<(&str, &str)>
-    ensures { MatchOption result
-        (HasNo sign word.now)
-        (λ parts. (word.now ≡ joined sign parts.0.now parts.1.now) × HasNo sign parts.1.now) }
+    ensures { CutsAtLast sign word.now result }
 {
     word.rsplit_once('=')
 }
 
 // The address that a text is.
 fn address_in(text: &str) -> Option<IpAddr>
-    ensures { MatchOption result ((a : IpAddr) → ¬ IsIpText text.now a) (IsIpText text.now) }
+    ensures { Finds (IsIpText text.now) result }
 {
     match text.parse::<IpAddr>() {
         Ok(address) => Some(address),

@@ -26,10 +26,12 @@ abbrev pub keep_init_time : ℕ → Option ℕ → List InitTime → List InitTi
 keep_init_time domain None kept = kept
 keep_init_time domain (Some time) kept = keep (λ k. k.domain == domain) (record { domain = domain; millis = time }) kept
 
+abbrev pub keep_told : DomainSampling → List DomainSampling → List DomainSampling
+keep_told told kept = keep (λ k. (k.domain == told.domain) && option_eq nat_eq k.selector told.selector) told kept
+
 abbrev pub keep_sampling : ℕ → Option ℕ → Option Sampling → List DomainSampling → List DomainSampling
 keep_sampling domain selector None kept = kept
-keep_sampling domain selector (Some sampling) kept =
-    keep (λ k. (k.domain == domain) && option_eq nat_eq k.selector selector) (record { domain = domain; selector = selector; sampling = sampling }) kept
+keep_sampling domain selector (Some sampling) kept = keep_told (record { domain = domain; selector = selector; sampling = sampling }) kept
 
 -- what an options record tells is known from then on; of a part that it does not tell, what was told before stays
 abbrev pub with_told : Option Told → Known → Known
@@ -53,9 +55,11 @@ abbrev pub is_asked : Option ℕ → Option ℕ → Bool
 is_asked None told = true
 is_asked (Some selector) told = option_eq nat_eq told (Some selector)
 
+abbrev pub sampling_kept : List DomainSampling → ℕ → Option ℕ → Option Sampling
+sampling_kept kept domain selector = option_map (λ k. k.sampling) (find (λ k. (k.domain == domain) && is_asked selector k.selector) kept)
+
 abbrev pub sampling_told : Known → ℕ → Option ℕ → Option Sampling
-sampling_told known domain selector =
-    option_map (λ k. k.sampling) (find (λ k. (k.domain == domain) && is_asked selector k.selector) known.samplings)
+sampling_told known domain selector = sampling_kept known.samplings domain selector
 
 -- sampling was told of, by whichever selector of whichever domain
 abbrev pub has_samplings : Known → Bool

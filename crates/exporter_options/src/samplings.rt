@@ -1,9 +1,8 @@
 //! How packets are sampled, as an exporter told of each observation domain and selector.
 
-ghost use Rattle.std.specs.Prelude.{◌≡◌, ◌==◌, ◌&&◌, ◌<◌, find, Some};
-ghost use Rattle.std.specs.Option.{option_map};
+ghost use Rattle.std.specs.Prelude.{◌≡◌, ◌<◌};
 ghost use Rattle.std.specs.VecDeque.{deque_capacity, deque_len};
-ghost use Rattle.exporter_options.specs.Known.{is_asked as is_asked_of, keep_sampling};
+ghost use Rattle.exporter_options.specs.Known.{is_asked as is_asked_of, keep_told, sampling_kept};
 
 use crate::exporter_options::MOST_KEPT;
 use crate::sampling::Sampling;
@@ -23,7 +22,7 @@ pub struct DomainSampling {
 /// Keeps a rate as the newest.
 pub fn keep(kept: &mut VecDeque<DomainSampling>, told: DomainSampling)
     requires { deque_len kept.old < deque_capacity kept.old }
-    ensures { kept.new.items ≡ keep_sampling told.domain told.selector (Some told.sampling) kept.old.items }
+    ensures { kept.new.items ≡ keep_told told kept.old.items }
 {
     kept.retain(|other| !(other.domain == told.domain && other.selector == told.selector));
     kept.truncate(MOST_KEPT - 1);
@@ -43,8 +42,7 @@ pub fn find_told(
     domain: u32,
     selector: Option<u64>,
 ) -> Option<Sampling>
-    ensures { result ≡ option_map (λ k. k.sampling)
-        (find (λ k. (k.domain == domain) && is_asked_of selector k.selector) kept.now.items) }
+    ensures { result ≡ sampling_kept kept.now.items domain selector }
 {
     let told = kept.iter().find(|told| told.domain == domain && is_asked(selector, told.selector))?;
     Some(told.sampling)

@@ -1,6 +1,6 @@
 -- What all threads left, put together.
 use Rattle.std.proofs.Common.{◌≡◌, ℕ, List, [], ◌∷◌, true, Some, Result, Ok, Err, refl, sym, ap, ◌∙◌, subst, map}
-use Rattle.std.specs.Prelude.{All, MatchResult, slice_get}
+use Rattle.std.specs.Prelude.{All, IfErr, IfOk, slice_get}
 use Rattle.std.specs.List.{AllZip}
 use Rattle.std.proofs.lemmas.List.Elements.{All-head, All-tail, All-append, All-cons, All-nil}
 use Rattle.ipfix_message.specs.declared.record.DataRecord.{DataRecord}
@@ -110,25 +110,24 @@ module _ {S : Type 0} (seen : S → SourceView) where
       )
   sessions_settled capacity starts ts ls ks e n z h = absurd z
 
-  came_settled : (plan : PlanValue) (capacity : ℕ) (sources : List (InContext S)) (starts : List (Start S)) (shares : List WorkerShare) (ts : List (EndedSession S)) (parts : Parts S) (records : List DataRecord)
-      → IsDealt plan capacity sources starts shares → AllZip (SessionRan seen) starts ts → CameOver ts parts records
-      → Each4 (IsSettled seen capacity) sources parts.sources.items parts.sessions.items parts.links.items
-  came_settled plan capacity sources starts shares ts parts records d e came =
-      rw (sym d.sources_are, came.settled.sources_are, came.settled.reports_are) (sessions_settled capacity starts ts came.link_ends parts.links.items e d.new_starts came.settled.links_are came.ended)
+  came_settled : (plan : PlanValue) (pool : Pool) (sources : List (InContext S)) (starts : List (Start S)) (shares : List WorkerShare) (ts : List (EndedSession S)) (parts : Parts S) (records : List DataRecord)
+      → IsDealt plan pool sources starts shares → AllZip (SessionRan seen) starts ts → CameOver ts parts records
+      → Each4 (IsSettled seen pool.capacity) sources parts.sources.items parts.sessions.items parts.links.items
+  came_settled plan pool sources starts shares ts parts records d e came =
+      rw (sym d.sources_are, came.settled.sources_are, came.settled.reports_are) (sessions_settled pool.capacity starts ts came.link_ends parts.links.items e d.new_starts came.settled.links_are came.ended)
 
   finished : (plan : PlanValue) (pool : Pool) (sources : List (InContext S)) (starts : List (Start S)) (shares : List WorkerShare) (ts : List (EndedSession S)) (c : FullAnswer S)
-      → IsDealt plan pool.capacity sources starts shares → AllZip (SessionRan seen) starts ts → FinishedAs plan ts c
-      → FullHeadline seen sources plan pool c × FitsPlan plan c.table
+      → IsDealt plan pool sources starts shares → AllZip (SessionRan seen) starts ts → FinishedAs plan ts c → FullHeadline seen sources plan pool c
   finished plan pool sources starts shares ts c d e f =
-      let each = came_settled plan pool.capacity sources starts shares ts (parts_of c) f.records d e f.came in
-      (run_headline seen sources plan pool c f.records each f.came.same f.table_is f.small, f.fits)
+      let each = came_settled plan pool sources starts shares ts (parts_of c) f.records d e f.came in
+      run_headline seen sources plan pool c f.records each f.came.same f.table_is f.small
 
-  overfull : (plan : PlanValue) (capacity : ℕ) (sources : List (InContext S)) (starts : List (Start S)) (shares : List WorkerShare) (ts : List (EndedSession S)) (failure : CollectFailure)
-      → IsDealt plan capacity sources starts shares → AllZip (SessionRan seen) starts ts → IsOverfull plan ts failure → IsLargeRun seen plan sources failure
-  overfull plan capacity sources starts shares ts failure d e f =
+  overfull : (plan : PlanValue) (pool : Pool) (sources : List (InContext S)) (starts : List (Start S)) (shares : List WorkerShare) (ts : List (EndedSession S)) (failure : CollectFailure)
+      → IsDealt plan pool sources starts shares → AllZip (SessionRan seen) starts ts → IsOverfull plan ts failure → IsLargeRun seen plan sources failure
+  overfull plan pool sources starts shares ts failure d e f =
       let parts = f.parts in
-      let each = came_settled plan capacity sources starts shares ts parts f.records d e f.came in
-      let all = told seen capacity sources parts.sources.items parts.sessions.items parts.links.items each in
+      let each = came_settled plan pool sources starts shares ts parts f.records d e f.came in
+      let all = told seen pool.capacity sources parts.sources.items parts.sessions.items parts.links.items each in
       let same : IsSameBag f.records (all_of all.records) = subst (λ (x : List DataRecord). IsSameBag f.records x) all.all f.came.same in
       record {
         fault_is = ap (λ (x : CollectFailure). x.fault) f.failure_is;
@@ -144,7 +143,15 @@ module _ {S : Type 0} (seen : S → SourceView) where
       }
 
   pub answered : (plan : PlanValue) (pool : Pool) (sources : List (InContext S)) (starts : List (Start S)) (shares : List WorkerShare) (ts : List (EndedSession S)) (answer : Result (FullAnswer S) CollectFailure)
-      → IsDealt plan pool.capacity sources starts shares → AllZip (SessionRan seen) starts ts → MatchResult answer (λ c. FinishedAs plan ts c) (IsOverfull plan ts)
-      → MatchResult answer (λ c. FullHeadline seen sources plan pool c × FitsPlan plan c.table) (IsLargeRun seen plan sources)
-  answered plan pool sources starts shares ts (Err failure) d e f = overfull plan pool.capacity sources starts shares ts failure d e f
+      → IsDealt plan pool sources starts shares → AllZip (SessionRan seen) starts ts → IfOk answer (FinishedAs plan ts) → IfOk answer (FullHeadline seen sources plan pool)
+  answered plan pool sources starts shares ts (Err failure) d e f = tt
   answered plan pool sources starts shares ts (Ok c) d e f = finished plan pool sources starts shares ts c d e f
+
+  pub failed : (plan : PlanValue) (pool : Pool) (sources : List (InContext S)) (starts : List (Start S)) (shares : List WorkerShare) (ts : List (EndedSession S)) (answer : Result (FullAnswer S) CollectFailure)
+      → IsDealt plan pool sources starts shares → AllZip (SessionRan seen) starts ts → IfErr answer (IsOverfull plan ts) → IfErr answer (IsLargeRun seen plan sources)
+  failed plan pool sources starts shares ts (Err failure) d e f = overfull plan pool sources starts shares ts failure d e f
+  failed plan pool sources starts shares ts (Ok c) d e f = tt
+
+pub fitting : {S : Type 0} (plan : PlanValue) (ts : List (EndedSession S)) (answer : Result (FullAnswer S) CollectFailure) → IfOk answer (FinishedAs plan ts) → IfOk answer (λ c. FitsPlan plan c.table)
+fitting plan ts (Err failure) f = tt
+fitting plan ts (Ok c) f = f.fits

@@ -3,11 +3,14 @@ use Rattle.std.proofs.Common.{◌≡◌, ℕ, List, [], ◌∷◌, ◌++◌, zer
 use Rattle.std.specs.Prelude.{Some, slice_get, All}
 use Rattle.std.proofs.lemmas.List.{map_push}
 use Rattle.std.proofs.lemmas.List.Elements.{All-head, All-tail, All-push, All-nil, All-weaker}
+use Rattle.std.specs.declared.alloc.Global.{Global}
+use Rattle.std.specs.declared.collections.VecDeque.{VecDeque}
 use Rattle.flow_link.specs.Ends.{LinkName}
 use Rattle.flow_table.specs.Partials.{StandsFor, plan_of}
 use Rattle.flow_table.specs.Plans.{PlanValue}
 use Rattle.flow_table.specs.declared.partial.Partial.{Partial}
 use Rattle.flow_collect.specs.Dealt.{IsPaired, IsNewShare, IsNewStart, IsDealt, DealsOne, given_to, start_link}
+use Rattle.flow_collect.specs.declared.collected.Pool.{Pool}
 use Rattle.flow_collect.specs.declared.session_context.InContext.{InContext}
 use Rattle.flow_collect.specs.declared.session_thread.Start.{Start}
 use Rattle.flow_collect.specs.declared.worker.LinkEnd.{LinkEnd}
@@ -44,19 +47,19 @@ share_on plan links first dealt link_end h partial link_ends new paired =
       paired = subst (All (IsPaired links)) (sym link_ends) (All-push (IsPaired links) first.link_ends.items link_end h.paired paired);
     }
 
-pub deal_on : {S : Type 0} (plan : PlanValue) (capacity : ℕ) (sources : List (InContext S)) (source : InContext S) (starts : List (Start S)) (shares : List WorkerShare) (starts' : List (Start S)) (shares' : List WorkerShare)
-    → IsDealt plan capacity sources starts shares → DealsOne capacity source starts shares starts' shares' → IsDealt plan capacity (sources ++ source ∷ []) starts' shares'
-deal_on {S} plan capacity sources source starts shares starts' shares' d one =
-    let links = map start_link starts ++ start_link one.start ∷ [] in
-    let links_are : map start_link starts' ≡ links = ap (map start_link) one.starts_are ∙ map_push start_link starts one.start in
+pub deal_on : {S : Type 0} (plan : PlanValue) (pool : Pool) (sources : List (InContext S)) (source : InContext S) (starts : VecDeque (Start S) Global) (shares : VecDeque WorkerShare Global) (starts' : VecDeque (Start S) Global) (shares' : VecDeque WorkerShare Global)
+    → IsDealt plan pool sources starts.items shares.items → DealsOne pool.capacity source starts shares starts' shares' → IsDealt plan pool (sources ++ source ∷ []) starts'.items shares'.items
+deal_on {S} plan pool sources source starts shares starts' shares' d one =
+    let links = map start_link starts.items ++ start_link one.start ∷ [] in
+    let links_are : map start_link starts'.items ≡ links = ap (map start_link) one.starts_are ∙ map_push start_link starts.items one.start in
     let P = IsNewShare plan links in
-    let all : All P (one.first ∷ one.others) = subst (All P) one.shares_were (All-weaker (IsNewShare plan (map start_link starts)) P (λ share h. share_more plan (map start_link starts) (start_link one.start ∷ []) share h) shares d.new_shares) in
-    let seam : slice_get links (length starts) ≡ Some (start_link one.start) = sym (ap (λ xs. slice_get xs (length starts)) (map_push start_link starts one.start)) ∙ at_seam start_link starts one.start [] in
+    let all : All P (one.first ∷ one.others) = subst (All P) one.shares_were (All-weaker (IsNewShare plan (map start_link starts.items)) P (λ share h. share_more plan (map start_link starts.items) (start_link one.start ∷ []) share h) shares.items d.new_shares) in
+    let seam : slice_get links (length starts.items) ≡ Some (start_link one.start) = sym (ap (λ xs. slice_get xs (length starts.items)) (map_push start_link starts.items one.start)) ∙ at_seam start_link starts.items one.start [] in
     let here : IsPaired links one.link_end = rw one.session_is (seam ∙ ap Some one.link.pair) in
     let dealt : P one.dealt = share_on plan links one.first one.dealt one.link_end (All-head P one.first one.others all) one.partial_is one.link_ends_are one.link.nothing_received here in
     record {
-      sources_are = ap (map given_to) one.starts_are ∙ (map_push given_to starts one.start ∙ (ap (λ r. r ++ given_to one.start ∷ []) d.sources_are ∙ ap (λ s. sources ++ s ∷ []) one.source_is));
-      new_starts = rw one.starts_are (All-push (IsNewStart capacity) starts one.start d.new_starts (one.link.nothing_sent, one.link.sender_capacity));
+      sources_are = ap (map given_to) one.starts_are ∙ (map_push given_to starts.items one.start ∙ (ap (λ r. r ++ given_to one.start ∷ []) d.sources_are ∙ ap (λ s. sources ++ s ∷ []) one.source_is));
+      new_starts = rw one.starts_are (All-push (IsNewStart pool.capacity) starts.items one.start d.new_starts (one.link.nothing_sent, one.link.sender_capacity));
       new_shares = rw (links_are, one.shares_are) (All-push P one.others one.dealt (All-tail P one.first one.others all) dealt);
     }
 
@@ -71,13 +74,13 @@ empty_share plan share is stands e =
 pub shares_more : (plan : PlanValue) (shares shares' : List WorkerShare) (share : WorkerShare) → All (IsNewShare plan []) shares → IsNewShare plan [] share → shares' ≡ shares ++ share ∷ [] → All (IsNewShare plan []) shares'
 shares_more plan shares shares' share h new e = rw e (All-push (IsNewShare plan []) shares share h new)
 
-pub first_dealt : {S : Type 0} (plan : PlanValue) (capacity : ℕ) (starts : List (Start S)) (shares : List WorkerShare) → starts ≡ [] → All (IsNewShare plan []) shares → IsDealt plan capacity [] starts shares
-first_dealt {S} plan capacity starts shares e h =
-    rw e (record { sources_are = refl; new_starts = All-nil (IsNewStart {S = S} capacity); new_shares = h })
+pub first_dealt : {S : Type 0} (plan : PlanValue) (pool : Pool) (starts : List (Start S)) (shares : List WorkerShare) → starts ≡ [] → All (IsNewShare plan []) shares → IsDealt plan pool [] starts shares
+first_dealt {S} plan pool starts shares e h =
+    rw e (record { sources_are = refl; new_starts = All-nil (IsNewStart {S = S} pool.capacity); new_shares = h })
 
 -- there are as many shares as before
-pub as_many : {S : Type 0} (capacity : ℕ) (source : InContext S) (starts : List (Start S)) (shares : List WorkerShare) (starts' : List (Start S)) (shares' : List WorkerShare)
-    → DealsOne capacity source starts shares starts' shares' → length shares' ≡ length shares
+pub as_many : {S : Type 0} (capacity : ℕ) (source : InContext S) (starts : VecDeque (Start S) Global) (shares : VecDeque WorkerShare Global) (starts' : VecDeque (Start S) Global) (shares' : VecDeque WorkerShare Global)
+    → DealsOne capacity source starts shares starts' shares' → length shares'.items ≡ length shares.items
 as_many capacity source starts shares starts' shares' one =
     let more = ap length one.shares_are in
     let were = ap length one.shares_were in

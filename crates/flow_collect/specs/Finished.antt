@@ -10,7 +10,7 @@ use Rattle.flow_table.specs.Fitting.{FitsPlan}
 use Rattle.flow_table.specs.Partials.{plan_of}
 use Rattle.flow_table.specs.Plans.{PlanValue}
 use Rattle.flow_table.specs.Tables.{IsTable, IsTooLarge}
-use Rattle.flow_collect.specs.LinkEnds.{StandsForLinkEnds, IsEnded}
+use Rattle.flow_collect.specs.LinkEnds.{StandsForLinkEnds, IsEnded, link_ends_in}
 use Rattle.flow_collect.specs.Failures.{NamesLarge, large_failure}
 use Rattle.flow_collect.specs.InFull.{FullAnswer}
 use Rattle.flow_collect.specs.Places.{Each3}
@@ -28,13 +28,17 @@ pub record HasTaken (plan : PlanValue) (w : WorkerShare) : Type 0 where
   pub table : StandsForLinkEnds w.partial w.link_ends.items
 
 abbrev pub link_ends_of : List WorkerShare → List LinkEnd
-link_ends_of ws = flat_map (λ (w : WorkerShare). w.link_ends.items) ws
+link_ends_of ws = flat_map link_ends_in ws
+
+-- for each plan under which all of these workers took what came
+abbrev pub ForPlanOf : List WorkerShare → (PlanValue → Type 0) → Type 0
+ForPlanOf ws P = (plan : PlanValue) → All (HasTaken plan) ws → P plan
 
 -- as if one worker had taken all that these took
 pub record IsMerged (ws : List WorkerShare) (all : WorkerShare) : Type 0 where
-  pub link_ends_are : all.link_ends.items ≡ link_ends_of ws
+  pub link_ends_are : link_ends_in all ≡ link_ends_of ws
   pub table : StandsForLinkEnds all.partial all.link_ends.items
-  pub plan_is : (plan : PlanValue) → All (HasTaken plan) ws → plan_of all.partial ≡ plan
+  pub plan_is : ForPlanOf ws (λ plan. plan_of all.partial ≡ plan)
 
 module _ {S : Type 0} where
   abbrev pub ended_link : EndedSession S → LinkName

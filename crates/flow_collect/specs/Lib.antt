@@ -7,6 +7,7 @@ pub mod Contexts
 pub mod Headline
 pub mod InFull
 pub mod Texts
+pub mod EachRun
 pub mod Refusals
 pub mod Failures
 pub mod Faults
@@ -18,4 +19,6 @@ pub mod Promises
 pub mod Sessions
 pub mod LinkEnds
 pub mod Dealt
+pub mod Started
 pub mod Finished
+pub mod Shortages

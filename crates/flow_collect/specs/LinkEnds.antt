@@ -11,6 +11,10 @@ use Rattle.flow_collect.specs.Promises.{WorkerTook}
 use Rattle.flow_collect.specs.declared.worker.LinkEnd.{LinkEnd}
 use Rattle.flow_collect.specs.declared.worker.WorkerShare.{WorkerShare}
 
+-- a worker's ends of links
+abbrev pub link_ends_in : WorkerShare → List LinkEnd
+link_ends_in share = share.link_ends.items
+
 -- which end of a link it is: its session, and its link
 abbrev pub link_end_key : LinkEnd → ℕ × LinkName
 link_end_key link_end = (link_end.session, link_end.receiver.link)

@@ -81,3 +81,7 @@ sampling_fault refuses reports =
     if tell_large reports then Some SumTooLarge
     else if refuses && tell_sampled reports then Some Sampled
     else None
+
+-- no estimate is too large, and if sampled records are refused none is told of
+abbrev pub TellNoFault : {S : Type 0} → List (InContext S) → List FilteredReport → Type 0
+TellNoFault sources reports = sampling_fault (refuse_sampled sources) reports ≡ None

@@ -19,13 +19,14 @@
 //!              makes of Parts and the table what `collect_flat` answers, Collected.
 //! ```
 
-ghost use Rattle.std.specs.Prelude.{◌≡◌, None, IfOk, IfErr, IfNone, MatchResult};
+ghost use Rattle.std.specs.Prelude.{◌≡◌, IfOk, IfErr, IfNone};
 ghost use Rattle.flow_table.specs.Fitting.{FitsPlan};
 ghost use Rattle.flow_collect.specs.Dealt.{IsCapacity};
 ghost use Rattle.flow_collect.specs.Failures.{fault_in, IsLargeRun, TellsLarge};
 ghost use Rattle.flow_collect.specs.InFull.{FullHeadline};
-ghost use Rattle.flow_collect.specs.Rated.{refuse_sampled, sampling_fault};
+ghost use Rattle.flow_collect.specs.Rated.{TellNoFault};
 ghost use Rattle.flow_collect.specs.Refusals.{fault_of_arguments, HasFaultsInContext};
+ghost use Rattle.flow_collect.specs.Shortages.{IfAnswered, IfFailed};
 
 use crate::collected::{Collected, FilteredReport, MAX_SESSIONS, MAX_WORKERS, Pool};
 use crate::dealing::deal;
@@ -61,8 +62,7 @@ pub fn collect_flat<S: Source + Send + Drop, G: Gate + Sync, R: Threads + Wait +
     // The table fits the plan, as an export asks.
     ensures fits { IfOk result (λ c. FitsPlan plan.now c.table) }
     // No estimate is too large, and if sampled records are refused none is told of.
-    ensures sampling { IfOk result (λ c. sampling_fault
-        (refuse_sampled sources.entry.items) c.sessions.items ≡ None) }
+    ensures sampling { IfOk result (λ c. TellNoFault sources.entry.items c.sessions.items) }
     // Exactly the first fault of the arguments, if they have one; `SumTooLarge` and `Sampled` only if they are due.
     ensures faults { HasFaultsInContext S.seen sources.entry plan.now pool (fault_in result) }
     // Where a sum is too large: in which row of the records that sessions gave, and which session tells of a great counter.
@@ -118,9 +118,10 @@ fn collect_judged<S: Source + Send + Drop, G: Gate + Sync, R: Threads + Wait + S
     gate: &G,
 ) -> Result<Result<Collected<S, FilteredReport, FlatTable>, CollectFailure>, Shortage>
     requires { IsCapacity pool.capacity }
-    ensures { IfOk result (λ answer. MatchResult answer
-        (λ c. FullHeadline S.seen sources.entry.items plan.now pool c × FitsPlan plan.now c.table)
-        (IsLargeRun S.seen plan.now sources.entry.items)) }
+    ensures headline { IfAnswered result
+        (FullHeadline S.seen sources.entry.items plan.now pool) }
+    ensures fits { IfAnswered result (λ c. FitsPlan plan.now c.table) }
+    ensures large { IfFailed result (IsLargeRun S.seen plan.now sources.entry.items) }
 {
     let (starts, shares) = deal(alloc, sources, plan, pool)?;
     let (ended, worked) = in_threads(rt, alloc, gate, starts, shares)?;

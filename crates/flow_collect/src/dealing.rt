@@ -23,8 +23,8 @@ pub fn deal<'a, S: Drop>(
     pool: Pool,
 ) -> Result<(VecDeque<Start<'a, S>>, VecDeque<WorkerShare>), Shortage>
     requires { IsCapacity pool.capacity }
-    ensures dealt { IfOk result (λ d. IsDealt plan.now pool.capacity sources.entry.items
-        d.0.items d.1.items) }
+    ensures dealt { IfOk result (λ d.
+        IsDealt plan.now pool sources.entry.items d.0.items d.1.items) }
     ensures workers { IfOk result (λ d. length d.1.items ≡ pool.workers) }
 {
     let mut sources = VecDeque::from_vec(sources);
@@ -75,8 +75,8 @@ fn deal_one<'a, S: Drop>(
     shares: &mut VecDeque<WorkerShare>,
 ) -> Result<(), Shortage>
     requires { IsCapacity capacity }
-    ensures { OnOk result (DealsOne capacity given.entry starts.old.items shares.old.items
-        starts.new.items shares.new.items) }
+    ensures { OnOk result
+        (DealsOne capacity given.entry starts.old shares.old starts.new shares.new) }
 {
     let (sender, receiver) = new_link(alloc, capacity)?;
     let Some(mut share) = shares.pop_front() else {

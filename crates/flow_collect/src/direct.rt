@@ -1,11 +1,12 @@
 //! Collecting without links.
 
-ghost use Rattle.std.specs.Prelude.{◌≡◌, None, IfOk, IfErr, IsErrOf, MatchResult};
+ghost use Rattle.std.specs.Prelude.{◌≡◌, IfOk, IfErr, IsErrOf};
 ghost use Rattle.flow_table.specs.Fitting.{FitsPlan};
 ghost use Rattle.flow_collect.specs.Failures.{fault_in, IsLargeRun, TellsLarge};
 ghost use Rattle.flow_collect.specs.InFull.{FullSerialHeadline};
-ghost use Rattle.flow_collect.specs.Rated.{refuse_sampled, sampling_fault};
+ghost use Rattle.flow_collect.specs.Rated.{TellNoFault};
 ghost use Rattle.flow_collect.specs.Refusals.{fault_of_lots, HasFaultsInLots};
+ghost use Rattle.flow_collect.specs.Shortages.{IfAnswered, IfFailed};
 
 use crate::collected::{FilteredReport, MAX_WORKERS, Serial};
 use crate::failure::CollectFailure;
@@ -42,8 +43,7 @@ pub fn collect_direct<S: Source + Send + Drop, R: Threads + Sync>(
     // The table fits the plan, as an export asks.
     ensures fits { IfOk result (λ s. FitsPlan plan.now s.table) }
     // No estimate is too large, and if sampled records are refused none is told of.
-    ensures sampling { IfOk result (λ s. sampling_fault
-        (refuse_sampled sources.entry.items) s.sessions.items ≡ None) }
+    ensures sampling { IfOk result (λ s. TellNoFault sources.entry.items s.sessions.items) }
     // Exactly the first fault of the arguments, if they have one; `SumTooLarge` and `Sampled` only if they are due.
     ensures faults { HasFaultsInLots S.seen sources.entry plan.now lots (fault_in result) }
     // Where a sum is too large, as `collect_flat` tells it.
@@ -87,9 +87,10 @@ fn collect_lots<S: Source + Send + Drop, R: Threads + Sync>(
     plan: &Plan,
     lots: usize,
 ) -> Result<Result<Serial<S, FilteredReport, FlatTable>, CollectFailure>, AllocError>
-    ensures { IfOk result (λ answer. MatchResult answer
-        (λ s. FullSerialHeadline S.seen sources.entry.items plan.now s × FitsPlan plan.now s.table)
-        (IsLargeRun S.seen plan.now sources.entry.items)) }
+    ensures headline { IfAnswered result
+        (FullSerialHeadline S.seen sources.entry.items plan.now) }
+    ensures fits { IfAnswered result (λ s. FitsPlan plan.now s.table) }
+    ensures large { IfFailed result (IsLargeRun S.seen plan.now sources.entry.items) }
 {
     // A lot has at least one source.
     let lots = lots.min(sources.len());

@@ -21,7 +21,8 @@ pub struct LinkSink<'a, R: Wait, G: Gate> {
 }
 
 impl<'a, R: Wait, G: Gate> LinkSink<'a, R, G> {
-    ghost use Rattle.std.specs.Prelude.{◌≡◌, ◌∷◌, ◌++◌, [], MatchBool};
+    ghost use Rattle.std.specs.Prelude.{◌≡◌, ◌∷◌, ◌++◌, []};
+    ghost use Rattle.std.specs.Bool.{OnFalse, OnTrue};
     ghost use Rattle.ipfix_session.specs.Sources.{one_more};
     ghost use Rattle.flow_link.specs.declared.parcel.Parcel.TheVariants.{Last};
 
@@ -42,14 +43,14 @@ impl<'a, R: Wait, G: Gate> LinkSink<'a, R, G> {
     /// Sends Last, and says whether it did. It didn't if Last was sent before, or if the receiver is
     /// gone.
     pub fn send_last(&mut self) -> bool
-        ensures link { (self.new.sender.link ≡ self.old.sender.link)
-            × (self.new.sender.capacity ≡ self.old.sender.capacity) }
-        ensures sent { MatchBool result
-            (self.new.sender.sent ≡ self.old.sender.sent ++ Last ∷ [])
-            (self.new.sender ≡ self.old.sender) }
-        ensures counts { (self.new.refused ≡ self.old.refused)
-            × MatchBool result
-            (self.new.sent ≡ one_more self.old.sent) (self.new.sent ≡ self.old.sent) }
+        ensures link { self.new.sender.link ≡ self.old.sender.link }
+        ensures capacity { self.new.sender.capacity ≡ self.old.sender.capacity }
+        ensures sent { OnTrue result
+            (self.new.sender.sent ≡ self.old.sender.sent ++ Last ∷ []) }
+        ensures unsent { OnFalse result (self.new.sender ≡ self.old.sender) }
+        ensures counted { OnTrue result (self.new.sent ≡ one_more self.old.sent) }
+        ensures uncounted { OnFalse result (self.new.sent ≡ self.old.sent) }
+        ensures refused { self.new.refused ≡ self.old.refused }
     {
         if self.sender.ended() {
             return false;
@@ -75,13 +76,13 @@ impl<'a, R: Wait, G: Gate> Sink for LinkSink<'a, R, G> {
 
     /// Sends the record. It comes back if Last was sent, or if the receiver is gone.
     fn put(&mut self, item: DataRecord) -> Result<(), DataRecord>
-        ensures ok { OnOk result (SendsItem self.old.sender item self.new.sender
-            × (self.new.sent ≡ one_more self.old.sent)) }
+        ensures ok { OnOk result (SendsItem self.old.sender item self.new.sender) }
+        ensures counted { OnOk result (self.new.sent ≡ one_more self.old.sent) }
         ensures none_refused { OnOk result (self.new.refused ≡ self.old.refused) }
         ensures back { IfErr result (λ given. given ≡ item) }
         ensures refused { OnErr result (self.new.refused ≡ one_more self.old.refused) }
-        ensures kept { OnErr result ((self.new.sender ≡ self.old.sender)
-            × (self.new.sent ≡ self.old.sent)) }
+        ensures kept { OnErr result (self.new.sender ≡ self.old.sender) }
+        ensures uncounted { OnErr result (self.new.sent ≡ self.old.sent) }
     {
         if self.sender.ended() {
             self.refused = self.refused.saturating_add(1);

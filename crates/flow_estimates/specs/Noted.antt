@@ -39,9 +39,13 @@ abbrev pub counted_anew : ℕ → Option Rate → List RateCount → List RateCo
 counted_anew domain rate counts =
     take MOST_RATES (record { domain = domain; rate = rate; records = one_more (records_of domain rate counts) } ∷ filter (λ c. not (is_of domain rate c)) counts)
 
+-- a record more of the same domain and rate as the newest, or other counts
+abbrev pub counted_or : List RateCount → ℕ → Option Rate → List RateCount → List RateCount
+counted_or others domain rate counts = unwrap_or (counted_again domain rate counts) others
+
 -- the newest first
 abbrev pub counted : ℕ → Option Rate → List RateCount → List RateCount
-counted domain rate counts = unwrap_or (counted_again domain rate counts) (counted_anew domain rate counts)
+counted domain rate counts = counted_or (counted_anew domain rate counts) domain rate counts
 
 -- ---- notes
 
@@ -75,6 +79,9 @@ note estimates n r =
 abbrev pub late_rate : Known → RateCount → Option Rate
 late_rate known c = if is_none c.rate then rate_of_domain known c.domain else None
 
+abbrev pub is_late_sampled : Known → RateCount → Bool
+is_late_sampled known c = is_sampled (late_rate known c)
+
 -- records whose domain tells no rate are of no interest
 abbrev pub is_told : Known → RateCount → Bool
 is_told known c = is_some c.rate || is_some (rate_of_domain known c.domain)
@@ -84,7 +91,7 @@ told_counts known counts = filter (is_told known) counts
 
 pub record IsReportOf (known : Known) (n : Noted) (report : SamplingReport) : Type 0 where
   pub rates_are : report.rates.items ≡ told_counts known n.rates
-  pub sampled_is : report.is_sampled ≡ (n.has_sampled || list_any (λ c. is_sampled (late_rate known c)) n.rates)
+  pub sampled_is : report.is_sampled ≡ (n.has_sampled || list_any (λ c. is_late_sampled known c) n.rates)
   pub unrated_is : report.is_unrated ≡ list_any (λ c. is_some (late_rate known c)) n.rates
   pub too_large_is : report.is_too_large ≡ n.has_too_large
 

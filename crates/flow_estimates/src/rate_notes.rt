@@ -1,9 +1,10 @@
 //! How many of a session's records have which rate.
 
-ghost use Rattle.std.specs.Prelude.{◌≡◌, ◌<◌, IfOk, Some, find, is_some, unwrap_or};
+ghost use Rattle.std.specs.Prelude.{◌≡◌, ◌<◌, IfOk, Some, find, is_some};
 ghost use Rattle.std.specs.Option.{option_map};
 ghost use Rattle.std.specs.VecDeque.{deque_capacity, deque_len};
 ghost use Rattle.flow_estimates.specs.Noted as noted;
+ghost use Rattle.flow_estimates.specs.Noted.{counted_or};
 ghost use Rattle.flow_estimates.specs.declared.rate_notes.TheConstants.{MOST_RATES};
 
 use crate::estimates::{Estimates, has_too_large};
@@ -124,8 +125,7 @@ fn count(counts: &mut VecDeque<RateCount>, domain: u32, rate: Option<Rate>)
 // Counts a record of the same domain and rate as the newest, and answers whether it was one.
 fn count_again(counts: &mut VecDeque<RateCount>, domain: u32, rate: Option<Rate>) -> bool
     ensures is_again { result ≡ is_some (noted.counted_again domain rate counts.old.items) }
-    ensures counted { counts.new.items
-        ≡ unwrap_or (noted.counted_again domain rate counts.old.items) counts.old.items }
+    ensures counted { counts.new.items ≡ counted_or counts.old.items domain rate counts.old.items }
     ensures capacity { deque_capacity counts.new ≡ deque_capacity counts.old }
 {
     match counts.front_mut() {

@@ -54,7 +54,7 @@ pub fn report_of(notes: RateNotes, told: &ToldFields) -> SamplingReport
 
 // Whether records were sampled by a rate that came late.
 fn are_late_sampled(told: &ToldFields, counts: &VecDeque<RateCount>) -> bool
-    ensures { result ≡ list_any (λ c. noted.is_sampled (noted.late_rate told.now.known c)) counts.now.items }
+    ensures { result ≡ list_any (λ c. noted.is_late_sampled told.now.known c) counts.now.items }
 {
     counts
         .iter()

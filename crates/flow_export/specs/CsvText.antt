@@ -1,5 +1,5 @@
 -- A table as CSV (RFC 4180, section 2), with a line feed alone at the end of each line.
-use Rattle.std.specs.Prelude.{ℕ, List, [], ◌∷◌, ◌++◌, map, flat_map, codes, Option, Some, None, unwrap_or}
+use Rattle.std.specs.Prelude.{◌≡◌, ℕ, List, [], ◌∷◌, ◌++◌, map, flat_map, codes, Option, Some, None, unwrap_or}
 use Rattle.std.specs.Fmt.{decimal}
 use Rattle.std.specs.List.{join_with_byte}
 use Rattle.csv.specs.Writing.{default_writer, row_text}
@@ -53,7 +53,11 @@ counter_texts known counters = map (element_name known) counters
 abbrev pub heading : List Known → PlanValue → List (List ℕ)
 heading known plan = codes "start" ∷ codes "end" ∷ (key_texts known plan.keys ++ (counter_texts known plan.counters ++ codes "flows" ∷ []))
 
--- the line of names, in quotes where they need it (RFC 4180, section 2): none does (`nothing_is_quoted`)
+-- `csv` writes these fields as they stand: none needs quotes (RFC 4180, section 2)
+abbrev pub IsUnquoted : List (List ℕ) → Type 0
+IsUnquoted fields = row_text default_writer fields ≡ line fields
+
+-- the line of names, in quotes where they need it: none does (`nothing_is_quoted`)
 abbrev pub heading_line : List Known → PlanValue → List ℕ
 heading_line known plan = row_text default_writer (heading known plan)
 

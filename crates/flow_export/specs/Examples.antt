@@ -7,10 +7,10 @@ use Rattle.flow_table.specs.SameTables.{RowValue, row_value}
 use Rattle.ipfix_elements.specs.Elements.{iana}
 
 abbrev pub by_address : PlanValue
-by_address = plan_value [] 60000 Start (record { element = iana 8; prefix = None } ∷ []) (iana 1 ∷ []) 4096
+by_address = plan_value 60000 Start (record { element = iana 8; prefix = None } ∷ []) (iana 1 ∷ []) 4096
 
 abbrev pub by_prefix : PlanValue
-by_prefix = plan_value [] 60000 Start (record { element = iana 8; prefix = Some 24 } ∷ []) (iana 1 ∷ []) 4096
+by_prefix = plan_value 60000 Start (record { element = iana 8; prefix = Some 24 } ∷ []) (iana 1 ∷ []) 4096
 
 abbrev pub one_flow : List RowValue
 one_flow = row_value 0 (Ipv4 (192 ∷ 0 ∷ 2 ∷ 1 ∷ []) ∷ []) (1500 ∷ []) 1 ∷ []

@@ -1,5 +1,5 @@
 -- Names as files have them.
-use Rattle.std.specs.Prelude.{ℕ, ◌==◌, ◌||◌, Bool, List}
+use Rattle.std.specs.Prelude.{◌≡◌, ℕ, ◌==◌, ◌||◌, Bool, List, true}
 use Rattle.std.specs.List.{list_all}
 use Rattle.ipfix_elements.specs.Ascii.{dot}
 use Rattle.element_registry.specs.Registries.{Known}
@@ -14,3 +14,11 @@ has_plain_name k = list_all is_plain_octet k.name
 
 abbrev pub have_plain_names : List Known → Bool
 have_plain_names known = list_all has_plain_name known
+
+abbrev pub HavePlainNames : List Known → Type 0
+HavePlainNames known = have_plain_names known ≡ true
+
+-- what files say of elements, by plain names
+pub record PlainElements : Type 0 where
+  pub known : List Known
+  pub plain : HavePlainNames known

@@ -38,7 +38,7 @@ pub fn ipfix_bytes(
 ) -> Result<Vec<u8>, ExportFault>
     requires { FitsPlan plan.now table.now }
     ensures ok { IfOk result
-        (λ made. made.items ≡ ipfix_text plan.now export_time (rows_in table.now)) }
+        (λ out. out.items ≡ ipfix_text plan.now export_time (rows_in table.now)) }
     ensures many { IsErrOf result ExportFault.TooManyRows ↔ (2 ^ 32 ≤ length table.now.rows.items) }
     ensures fault { IfErr result (λ fault. fault ≢ ExportFault.WriteFailed) }
 {
@@ -55,23 +55,17 @@ pub fn ipfix_bytes(
 fn write_template<W: Write>(
     alloc: Global,
     plan: &Plan,
-    export_time: u32,
+    time: u32,
     out: &mut W,
 ) -> Result<(), ExportFault>
     ensures ok { OnOk result
-        (Writes W.contents out.old out.new (template_message plan.now export_time)) }
+        (Writes W.contents out.old out.new (template_message plan.now time)) }
     ensures fault { IfErr result (λ fault. fault ≢ ExportFault.TooManyRows) }
 {
     let mut template = Vec::new(alloc);
     append_template(plan, &mut template)?;
     let mut message = Vec::new(alloc);
-    set_message(
-        TEMPLATE_SET_ID,
-        template.as_slice(),
-        0,
-        export_time,
-        &mut message,
-    )?;
+    set_message(TEMPLATE_SET_ID, template.as_slice(), 0, time, &mut message)?;
     out.write_all(message.as_slice())?;
     Ok(())
 }

@@ -83,7 +83,7 @@ fn append_front<L: RowLines>(
 ) -> Result<(), AllocError>
     requires kept { IsFront (L.front_of lines.now plan.now) front.old }
     requires fits { interval * plan.now.length < 2 ^ 50 }
-    ensures text { OnOk result
+    ensures ok { OnOk result
         (out.new.items ≡ out.old.items ++ L.front_of lines.now plan.now interval) }
     ensures kept { IsFront (L.front_of lines.now plan.now) front.new }
 {

@@ -4,6 +4,7 @@ ghost use Rattle.std.specs.Prelude.{◌≡◌, ◌↔◌, length, IsErrOf, OnOk}
 ghost use Rattle.ipfix_elements.specs.Writers.{Writes};
 ghost use Rattle.flow_table.specs.Fitting.{FitsPlan};
 ghost use Rattle.flow_export.specs.AnyTables.{rows_of, table_in};
+ghost use Rattle.flow_export.specs.declared.fault.ExportFault.TheVariants.{TooManyRows};
 ghost use Rattle.flow_export.specs.TableTexts.{IsTooMany, text_of};
 
 use crate::any_table::AnyTable;
@@ -33,9 +34,9 @@ pub fn write_table<W: Write>(
     requires { FitsPlan plan.now (table_in table.now) }
     ensures ok { OnOk result
         (Writes W.contents out.old out.new (text_of text.now plan.now table.now)) }
-    ensures many { IsErrOf result ExportFault.TooManyRows
+    ensures many { IsErrOf result TooManyRows
         ↔ IsTooMany text.now (length (rows_of table.now)) }
-    ensures untouched { IsErrOf result ExportFault.TooManyRows → out.new ≡ out.old }
+    ensures untouched { IsErrOf result TooManyRows → out.new ≡ out.old }
 {
     if text.is_too_many(table.len()) {
         return Err(ExportFault::TooManyRows);

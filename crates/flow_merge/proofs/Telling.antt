@@ -81,13 +81,13 @@ pub same_after : (e : ElementId) (fields rest after : List Field) (n m : ℕ) �
 same_after e fields rest after n m one two = ap (drop 1) (sym one.is ∙ two.is)
 
 -- what follows the two times, and then the cells
-pub keys_follow : (plan : PlanValue) (all f g : List Field) (s e : ℕ) (v : FieldValues) → Tell plan all v → TellsNumber (iana 152) all s f → TellsNumber (iana 153) f e g → TellsCells (keys_and_kinds plan) g v.key (sums_on plan v)
+pub keys_follow : (plan : PlanValue) (all f g : List Field) (s e : ℕ) (v : FieldValues) → Tell plan all v → TellsNumber (iana 152) all s f → TellsNumber (iana 153) f e g → TellsCells plan.keys plan.kinds g v.key (sums_on plan v)
 keys_follow plan all f g s e v tell starts ends =
     let first : f ≡ number_field (iana 153, v.end) ∷ keys_on plan v = ap (drop 1) (sym starts.is ∙ tell.told) in
     let second : g ≡ keys_on plan v = ap (drop 1) (sym ends.is ∙ first) in
     record { are = second; fit = keys_fit plan v.key tell.key }
 
-pub sums_follow : (plan : PlanValue) (all f g h : List Field) (s e : ℕ) (cells : List Cell) (v : FieldValues) → Tell plan all v → TellsNumber (iana 152) all s f → TellsNumber (iana 153) f e g → TellsCells (keys_and_kinds plan) g cells h
+pub sums_follow : (plan : PlanValue) (all f g h : List Field) (s e : ℕ) (cells : List Cell) (v : FieldValues) → Tell plan all v → TellsNumber (iana 152) all s f → TellsNumber (iana 153) f e g → TellsCells plan.keys plan.kinds g cells h
     → TellsNumbers plan.counters h v.sums (flows_on v)
 sums_follow plan all f g h s e cells v tell starts ends keys = record {
   are = same_rest key_field FitsKey (keys_and_kinds plan) g cells v.key h (sums_on plan v) keys (keys_follow plan all f g s e v tell starts ends);
@@ -96,14 +96,14 @@ sums_follow plan all f g h s e cells v tell starts ends keys = record {
 
 -- the last field
 pub flows_follow : (plan : PlanValue) (all f g h k : List Field) (s e : ℕ) (cells : List Cell) (sums : List ℕ) (v : FieldValues) → Tell plan all v → TellsNumber (iana 152) all s f → TellsNumber (iana 153) f e g
-    → TellsCells (keys_and_kinds plan) g cells h → TellsNumbers plan.counters h sums k → TellsNumber (iana 375) k v.flows []
+    → TellsCells plan.keys plan.kinds g cells h → TellsNumbers plan.counters h sums k → TellsNumber (iana 375) k v.flows []
 flows_follow plan all f g h k s e cells sums v tell starts ends keys counters = record {
   is = same_rest number_field FitsNumber plan.counters h sums v.sums k (flows_on v) counters (sums_follow plan all f g h s e cells v tell starts ends keys);
   fits = tell.few;
 }
 
 -- all that was read
-pub values_read : (plan : PlanValue) (all f g h k : List Field) (s e n : ℕ) (cells : List Cell) (sums : List ℕ) → length plan.kinds ≡ length plan.keys → TellsNumber (iana 152) all s f → TellsNumber (iana 153) f e g → TellsCells (keys_and_kinds plan) g cells h
+pub values_read : (plan : PlanValue) (all f g h k : List Field) (s e n : ℕ) (cells : List Cell) (sums : List ℕ) → length plan.kinds ≡ length plan.keys → TellsNumber (iana 152) all s f → TellsNumber (iana 153) f e g → TellsCells plan.keys plan.kinds g cells h
     → TellsNumbers plan.counters h sums k → TellsNumber (iana 375) k n [] → Tell plan all (record { start = s; end = e; key = cells; sums = sums; flows = n })
 values_read plan all f g h k s e n cells sums beside starts ends keys counters flows =
     let both = numbers_small plan.counters sums counters.fit in

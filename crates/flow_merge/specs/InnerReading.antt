@@ -2,16 +2,21 @@
 use Rattle.std.specs.Prelude.{◌≡◌, ℕ, ◌^◌, ◌<◌, List, ◌∷◌, ◌++◌, map, zip}
 use Rattle.std.specs.List.{AllZip}
 use Rattle.ipfix_wire.specs.declared.specifier.ElementId.{ElementId}
+use Rattle.ipfix_elements.specs.Cells.{cell_octets}
 use Rattle.ipfix_elements.specs.declared.cell.Cell.{Cell}
 use Rattle.ipfix_elements.specs.declared.kind.Kind.{Kind}
 use Rattle.ipfix_message.specs.Fields.{Field}
 use Rattle.flow_table.specs.declared.key.Key.{Key}
 use Rattle.flow_table.specs.Fitting.{IsCellOf}
-use Rattle.flow_export.specs.IpfixText.{field, key_field, number_field}
+use Rattle.flow_export.specs.IpfixText.{field, key_field, number_field, width_of}
 use Rattle.flow_merge.specs.declared.row_fault.RowFault.{RowFault}
 use Rattle.flow_merge.specs.declared.row_fault.RowFault.TheVariants.{OutOfMemory, Template, Fields, Interval, Prefix, Flows, Border}
 use Rattle.flow_merge.specs.declared.told_values.ToldValues.{ToldValues}
 use Rattle.flow_merge.specs.RowFaults.{FieldValues}
+
+-- the octets are those of a cell of this kind, as many as the kind's values have
+abbrev pub SpellsCell : Kind → List ℕ → Cell → Type 0
+SpellsCell kind octets cell = IsCellOf kind cell × (cell_octets cell (width_of kind) ≡ octets)
 
 -- fields that begin with the one that tells b of a, and go on as `rest`
 pub record Begin {A B : Type 0} (telling : A × B → Field) (Fits : A → B → Type 0) (a : A) (fields : List Field) (b : B) (rest : List Field) : Type 0 where
@@ -45,8 +50,8 @@ TellsCell key fields cell rest = Begin key_field FitsKey key fields cell rest
 abbrev pub TellsNumbers : List ElementId → List Field → List ℕ → List Field → Type 0
 TellsNumbers elements fields ns rest = BeginEach number_field FitsNumber elements fields ns rest
 
-abbrev pub TellsCells : List (Key × Kind) → List Field → List Cell → List Field → Type 0
-TellsCells keys fields cells rest = BeginEach key_field FitsKey keys fields cells rest
+abbrev pub TellsCells : List Key → List Kind → List Field → List Cell → List Field → Type 0
+TellsCells keys kinds fields cells rest = BeginEach key_field FitsKey (zip keys kinds) fields cells rest
 
 -- something is told, and nothing is
 abbrev pub TellsSome : {B : Type 0} → (B → List Field → Type 0) → Type 0

@@ -1,5 +1,5 @@
 -- Exports of tables, as they are read, and their rows added up.
-use Rattle.std.specs.Prelude.{◌≡◌, ◌≢◌, ℕ, ◌+◌, ◌<◌, List, ◌∷◌, ◌++◌, length, flat_map, All, None, Some}
+use Rattle.std.specs.Prelude.{◌≡◌, ◌≢◌, ℕ, ◌+◌, ◌<◌, List, ◌∷◌, ◌++◌, length, flat_map, All, None, Some, Result, IfErr, IfOk}
 use Rattle.std.specs.List.{AllZip}
 use Rattle.ipfix_message.specs.Domains.{Message}
 use Rattle.ipfix_message.specs.declared.record.DataRecord.{DataRecord}
@@ -164,6 +164,10 @@ merging_intervals m = m.intervals.intervals
 unfoldable pub StandsFor : Merging → List RowValue → Type 0
 StandsFor m rows = AreOf m.totals rows × All (IsRowOf (totals_plan m.totals)) rows
 
+-- what holds of all rows that it may stand for
+abbrev pub ForRowsOf : Merging → (List RowValue → Type 0) → Type 0
+ForRowsOf m Holds = (rows : List RowValue) → StandsFor m rows → Holds rows
+
 -- an export's rows are added to those before
 pub record AddsExport {S : Type 0} (seen : S → SourceView) (limit : ℕ) (old : Merging) (before after : S) (rows : List RowValue) (new : Merging) : Type 0 where
   pub more : List RowValue
@@ -173,6 +177,14 @@ pub record AddsExport {S : Type 0} (seen : S → SourceView) (limit : ℕ) (old 
 -- why an export that a source gave can't be added to those before
 abbrev pub CannotAdd : {S : Type 0} → (S → SourceView) → ℕ → Merging → List RowValue → S → S → MergeFault → Type 0
 CannotAdd seen limit m rows before after fault = IsDueIn seen limit (merging_intervals m) (merging_plan m) rows before after fault
+
+-- what is answered of an export that a source gave: at Ok its rows are added to those before, whatever these are
+abbrev pub ReadsExport : {S E : Type 0} → (S → SourceView) → ℕ → Merging → S → S → Result Merging E → Type 0
+ReadsExport seen limit old before after result = ForRowsOf old (λ rows. IfOk result (AddsExport seen limit old before after rows))
+
+-- and a fault is why they can't be added
+abbrev pub RefusesExport : {S X : Type 0} → (S → SourceView) → ℕ → Merging → S → S → Result X MergeFault → Type 0
+RefusesExport seen limit m before after result = ForRowsOf m (λ rows. IfErr result (CannotAdd seen limit m rows before after))
 
 -- ---- the tables of records
 

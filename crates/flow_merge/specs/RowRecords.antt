@@ -41,23 +41,27 @@ pub record IsOfTemplate (r : DataRecord) : Type 0 where
   pub template : r.template ≡ FIRST_TEMPLATE_ID
   pub scope : r.scope ≡ 0
 
+-- the border of this index
+abbrev pub border_at : List ℕ → ℕ → ℕ
+border_at borders k = slice_index_or borders k 0
+
 -- the time from a first to a last millisecond is within interval k between borders
 pub record IsWithin (borders : List ℕ) (k start end : ℕ) : Type 0 where
   pub inside : k + 1 < length borders
-  pub begins : slice_index_or borders k 0 ≤ start
+  pub begins : border_at borders k ≤ start
   pub forward : start ≤ end
-  pub ends : end < slice_index_or borders (k + 1) 0
+  pub ends : end < border_at borders (k + 1)
 
 -- each border is before those after it, and there are at most 2^18
 abbrev pub AreOrdered : List ℕ → Type 0
 AreOrdered borders =
-    ((i j : ℕ) → i < j → j < length borders → slice_index_or borders i 0 < slice_index_or borders j 0) × (length borders ≤ 2 ^ 18)
+    ((i j : ℕ) → i < j → j < length borders → border_at borders i < border_at borders j) × (length borders ≤ 2 ^ 18)
 
 -- the border of this index is the last that is not after a time
 pub record IsLastBefore (borders : List ℕ) (time index : ℕ) : Type 0 where
   pub inside : index < length borders
-  pub before : slice_index_or borders index 0 ≤ time
-  pub after : (k : ℕ) → index < k → k < length borders → time < slice_index_or borders k 0
+  pub before : border_at borders index ≤ time
+  pub after : (k : ℕ) → index < k → k < length borders → time < border_at borders k
 
 -- the borders of intervals; the plan's have none
 abbrev pub borders_in : Intervals → List ℕ

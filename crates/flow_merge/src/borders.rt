@@ -1,7 +1,7 @@
 //! Intervals between borders.
 
-ghost use Rattle.std.specs.Prelude.{◌≡◌, ◌<◌, ◌^◌, ℕ, None, IfSome, length, slice_index_or};
-ghost use Rattle.flow_merge.specs.RowRecords.{AreOrdered, IsLastBefore, IsWithin};
+ghost use Rattle.std.specs.Prelude.{◌≡◌, ◌<◌, ◌^◌, ℕ, None, IfSome, length};
+ghost use Rattle.flow_merge.specs.RowRecords.{AreOrdered, IsLastBefore, IsWithin, border_at};
 
 /// The interval between borders that the time from a first to a last millisecond is within.
 #[tactic(auto, using(crate::proofs::AroundBorders::only_there))]
@@ -26,7 +26,7 @@ fn border_before(borders: &[u64], time: u64) -> Option<usize>
     requires { AreOrdered borders.now }
     ensures some { IfSome result (IsLastBefore borders.now time) }
     ensures none { result ≡ None
-        → (k : ℕ) → k < length borders.now → time < slice_index_or borders.now k 0 }
+        → (k : ℕ) → k < length borders.now → time < border_at borders.now k }
 {
     match borders.binary_search(&time) {
         Ok(index) => Some(index),

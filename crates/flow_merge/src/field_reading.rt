@@ -1,12 +1,10 @@
 //! Fields read one after another, each in its full width (RFC 7011, section 6.1).
 
-ghost use Rattle.std.specs.Prelude.{◌≡◌, ℕ, true, None, length, zip, IfOk, IfErr, IfSome};
+ghost use Rattle.std.specs.Prelude.{◌≡◌, ℕ, true, None, length, IfOk, IfErr, IfSome};
 ghost use Rattle.std.specs.List.{AllPass};
-ghost use Rattle.ipfix_elements.specs.Cells.{cell_octets};
-ghost use Rattle.flow_table.specs.Fitting.{IsCellOf};
 ghost use Rattle.flow_table.specs.Plans.{is_key_kind};
-ghost use Rattle.flow_export.specs.IpfixText.{number_octets, width_of};
-ghost use Rattle.flow_merge.specs.InnerReading.{Refuses, TellsCell, TellsCells, TellsNone, TellsNumber, TellsNumbers, TellsOctets, TellsSome};
+ghost use Rattle.flow_export.specs.IpfixText.{number_octets};
+ghost use Rattle.flow_merge.specs.InnerReading.{Refuses, SpellsCell, TellsCell, TellsCells, TellsNone, TellsNumber, TellsNumbers, TellsOctets, TellsSome};
 
 use crate::row_fault::RowFault;
 use flow_table::Key;
@@ -40,10 +38,8 @@ fn read_full_number(octets: &[u8]) -> Option<u64>
 // The cell that as many octets are as the kind's values have.
 fn read_full_cell(kind: Kind, octets: &[u8]) -> Option<Cell>
     requires { is_key_kind kind ≡ true }
-    ensures some { IfSome result (λ cell. cell_octets cell (width_of kind) ≡ octets.now) }
-    ensures fits { IfSome result (IsCellOf kind) }
-    ensures none { result ≡ None
-        → (cell : Cell) → IsCellOf kind cell → cell_octets cell (width_of kind) ≡ octets.now → ⊥ }
+    ensures some { IfSome result (SpellsCell kind octets.now) }
+    ensures none { result ≡ None → (cell : Cell) → SpellsCell kind octets.now cell → ⊥ }
 {
     if let Kind::Unsigned(width) = kind
         && octets.len() != width.octets()
@@ -79,10 +75,10 @@ pub(crate) fn next_cells(
 ) -> Result<Vec<Cell>, RowFault>
     requires beside { length kinds.now ≡ length keys.now }
     requires comparable { AllPass is_key_kind kinds.now }
-    ensures ok { IfOk result (λ cells.
-        TellsCells (zip keys.now kinds.now) fields.old cells.items fields.new) }
+    ensures ok { IfOk result (λ made.
+        TellsCells keys.now kinds.now fields.old made.items fields.new) }
     ensures fault { IfErr result
-        (Refuses (TellsSome (TellsCells (zip keys.now kinds.now) fields.old))) }
+        (Refuses (TellsSome (TellsCells keys.now kinds.now fields.old))) }
 {
     let mut cells = Vec::with_capacity(alloc, keys.len())?;
     for (key, kind) in keys.iter().zip(kinds) {

@@ -10,7 +10,7 @@ ghost use Rattle.flow_table.specs.Fitting.{FitsPlan};
 ghost use Rattle.flow_table.specs.SameTables.{RowValue};
 ghost use Rattle.flow_table.specs.Tables.{IsTable};
 ghost use Rattle.flow_table.specs.declared.table.Table.{Table as TableValue};
-ghost use Rattle.flow_merge.specs.Merging.{all_of, merging_intervals, merging_plan, AddsExport, CannotAdd, HasRowsOf, StandsFor, no_records, none_missing};
+ghost use Rattle.flow_merge.specs.Merging.{all_of, merging_intervals, merging_plan, ForRowsOf, HasRowsOf, ReadsExport, RefusesExport, StandsFor, no_records, none_missing};
 ghost use Rattle.flow_merge.specs.RowRecords.{CanTakeRows};
 ghost use Rattle.flow_merge.specs.RowSink.{HoldsAfter, StandsAfter};
 ghost use Rattle.flow_merge.specs.declared.merge_fault.MergeFault.TheVariants.{OutOfMemory};
@@ -87,10 +87,8 @@ impl<'a> Merging<'a> {
     pub fn read<S: Source>(self, source: &mut S, limit: u64) -> Result<Merging<'a>, MergeFault>
         ensures plan { IfOk result (λ m. merging_plan m ≡ merging_plan self.entry) }
         ensures intervals { IfOk result (λ m. merging_intervals m ≡ merging_intervals self.entry) }
-        ensures ok { (rows : List RowValue) → StandsFor self.entry rows
-            → IfOk result (AddsExport S.seen limit self.entry source.old source.new rows) }
-        ensures fault { (rows : List RowValue) → StandsFor self.entry rows
-            → IfErr result (CannotAdd S.seen limit self.entry rows source.old source.new) }
+        ensures ok { ReadsExport S.seen limit self.entry source.old source.new result }
+        ensures fault { RefusesExport S.seen limit self.entry source.old source.new result }
     {
         let alloc = self.alloc;
         let mut sink = RowSink {
@@ -111,12 +109,12 @@ impl<'a> Merging<'a> {
     ///
     /// The fault is `OutOfMemory`: an allocation was refused.
     pub fn finish(self) -> Result<FlatTable, MergeFault>
-        ensures rows { (rows : List RowValue) → StandsFor self.entry rows
-            → IfOk result (λ table. AreAddedUp rows (rows_in table)) }
+        ensures rows { ForRowsOf self.entry (λ rows.
+            IfOk result (λ made. AreAddedUp rows (rows_in made))) }
         // The table fits the plan, as an export asks.
-        ensures fits { (rows : List RowValue) → StandsFor self.entry rows
-            → IfOk result (FitsPlan (merging_plan self.entry)) }
-        ensures small { (rows : List RowValue) → StandsFor self.entry rows → AddUpTooLarge rows → ⊥ }
+        ensures fits { ForRowsOf self.entry (λ rows.
+            IfOk result (FitsPlan (merging_plan self.entry))) }
+        ensures small { ForRowsOf self.entry (λ rows. AddUpTooLarge rows → ⊥) }
         // The rows of tables are merged into those of the table of all their records.
         ensures tables { (lists : List (List DataRecord)) (ts : List TableValue)
             → StandsFor self.entry (flat_map rows_in ts)

@@ -2,13 +2,13 @@
 use Rattle.std.specs.Prelude.{◌≡◌, ℕ, ◌+◌, List, [], length, map, Option, Some, None, Result, Ok, Err, Vec}
 use Rattle.std.specs.declared.alloc.Global.{Global}
 use denote.Bor.{Bor}
-use Rattle.toml.specs.Data.{Data, Members, as_table}
+use Rattle.toml.specs.Data.{Data, Members}
 use Rattle.element_registry.specs.Registries.{Known}
 use Rattle.flow_plan.specs.Places.{IsDocument, IsNoDocument}
 use Rattle.flow_plan.specs.declared.error.PlanTextError.{PlanTextError}
 use Rattle.flow_plan.specs.declared.error.PlanTextError.TheVariants as texts
-use Rattle.flow_plan_fields.specs.Keys.{key_texts, key_value, keys_after}
-use Rattle.flow_plan_fields.specs.Maps.{MapValue, map_of_table, map_value, map_values, maps_after}
+use Rattle.flow_plan_fields.specs.Keys.{key_texts, keys_in, keys_said}
+use Rattle.flow_plan_fields.specs.Maps.{MapValue, map_of_value, map_value, map_values, maps_after}
 use Rattle.flow_plan_fields.specs.declared.error.MapTableFault.{MapTableFault}
 use Rattle.flow_plan_fields.specs.declared.error.PlanMapsError.{PlanMapsError}
 use Rattle.flow_plan_fields.specs.declared.error.PlanMapsError.TheVariants.{Document, NoMaps, Map}
@@ -22,8 +22,8 @@ ReadsMap read (Err fault) = read ≡ Err fault
 
 -- the map of a value that follows others, or its fault with its place; memory may run out
 abbrev pub ReadsMapAt : List MapValue → Data → Result NamedMap PlanMapsError → Type 0
-ReadsMapAt before value (Ok m) = map_of_table before (as_table value) ≡ Ok (map_value m)
-ReadsMapAt before value (Err (Map place fault)) = (place ≡ length before + 1) × (map_of_table before (as_table value) ≡ Err fault)
+ReadsMapAt before value (Ok m) = map_of_value before value ≡ Ok (map_value m)
+ReadsMapAt before value (Err (Map place fault)) = (place ≡ length before + 1) × (map_of_value before value ≡ Err fault)
 ReadsMapAt before value (Err (Document texts.OutOfMemory)) = Unit {0}
 ReadsMapAt before value (Err error) = ⊥
 
@@ -41,7 +41,7 @@ ReadsMaps (Some values) (Err (Map place fault)) = maps_after [] values ≡ Err (
 -- the maps of a document, and the keys that look something up in them
 pub record IsReadOf (known : List Known) (d : Members) (read : PlanMaps) : Type 0 where
   pub maps : ReadsMaps (map_values d) (Ok read.maps)
-  pub keys : map key_value read.keys.items ≡ keys_after known read.maps.items [] (key_texts d)
+  pub keys : keys_in read.keys ≡ keys_said known read.maps.items (key_texts d)
 
 -- what is read of a document
 abbrev pub ReadsDocument : List Known → Members → Result PlanMaps PlanMapsError → Type 0

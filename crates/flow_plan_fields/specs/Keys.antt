@@ -1,5 +1,6 @@
 -- Keys whose values are numbers of maps: NAME(ELEMENT), or NAME(ELEMENT, ELEMENT) and so on.
-use Rattle.std.specs.Prelude.{ℕ, ◌+◌, ◌==◌, ◌||◌, nat_le, nat_lt, Bool, List, [], ◌∷◌, ◌++◌, map, length, codes, Option, Some, None, option_map, option_and_then, unwrap_or, if◌then◌else◌, string_bytes}
+use Rattle.std.specs.Prelude.{ℕ, ◌+◌, ◌==◌, ◌||◌, nat_le, nat_lt, Bool, List, [], ◌∷◌, ◌++◌, map, length, codes, Option, Some, None, option_map, option_and_then, unwrap_or, if◌then◌else◌, string_bytes, Vec}
+use Rattle.std.specs.declared.alloc.Global.{Global}
 use Rattle.std.specs.List.{list_any, before_first, after_first, position_from, position_or_len, slice_split, flat_map}
 use Rattle.std.specs.Str.{bytes_eq}
 use Rattle.toml.specs.Data.{Data, Members, as_table, get_member}
@@ -12,7 +13,8 @@ use Rattle.flow_maps.specs.declared.map_key.AddressElement.{AddressElement}
 use Rattle.flow_maps.specs.declared.map_key.MapKey.{MapKey}
 use Rattle.flow_plan.specs.PlanTexts.{all_of, key_element, texts}
 use Rattle.flow_plan_fields.specs.FilteredPlans.{where_key}
-use Rattle.flow_plan_fields.specs.Maps.{array_values, text_at}
+use Rattle.flow_plan_fields.specs.Maps.{text_at, values_at}
+use Rattle.flow_plan_fields.specs.declared.addresses.LookUp.{LookUp}
 use Rattle.flow_plan_fields.specs.declared.named.NamedKey.{NamedKey}
 use Rattle.flow_plan_fields.specs.declared.named.NamedMap.{NamedMap}
 use Rattle.flow_plan_fields.specs.declared.named.TheConstants.{EXAMPLES_PEN, MAX_MAP_KEYS}
@@ -27,9 +29,23 @@ pub record KeyValue : Type 0 where
 abbrev pub key_value : NamedKey → KeyValue
 key_value k = record { text = string_bytes k.text; element = k.key.element; map = k.key.map; addresses = k.key.addresses.items }
 
+abbrev pub keys_in : Vec NamedKey Global → List KeyValue
+keys_in keys = map key_value keys.items
+
 -- what a key looks up, and as which element
 abbrev pub map_key_value : MapKey → ElementId × ℕ × List AddressElement
 map_key_value k = (k.element, k.map, k.addresses.items)
+
+-- a key that has a text, without it
+abbrev pub without_text : NamedKey → ElementId × ℕ × List AddressElement
+without_text k = map_key_value k.key
+
+-- what was found, if anything was
+abbrev pub items_in : {X : Type 0} → Option (Vec X Global) → Option (List X)
+items_in found = option_map (λ v. v.items) found
+
+abbrev pub look_up_in : Option LookUp → Option (ℕ × List AddressElement)
+look_up_in found = option_map (λ (l : LookUp). (l.map, l.addresses.items)) found
 
 -- ---- what a text says
 
@@ -105,6 +121,10 @@ module _ (known : List Known) (maps : List NamedMap) where
   keys_after before [] = before
   keys_after before (text ∷ texts) = keys_after (with_key before text (look_up known maps text)) texts
 
+  -- those of all
+  abbrev pub keys_said : List (List ℕ) → List KeyValue
+  keys_said texts = keys_after [] texts
+
 -- ---- the texts of a document: those of its keys, and then the elements of its conditions
 
 abbrev pub in_option : Option (List ℕ) → List (List ℕ)
@@ -114,11 +134,19 @@ in_option (Some text) = text ∷ []
 abbrev pub element_text : Data → Option (List ℕ)
 element_text value = option_and_then (text_at (codes "element")) (as_table value)
 
+-- the elements that some conditions name
+abbrev pub named_in : List Data → List (List ℕ)
+named_in conditions = flat_map (λ value. in_option (element_text value)) conditions
+
 abbrev pub texts_of_keys : Members → List (List ℕ)
 texts_of_keys d = unwrap_or (option_and_then texts (get_member (codes "keys") d)) []
 
+-- the conditions of a document; what is no array has none
+abbrev pub conditions_in : Members → List Data
+conditions_in d = unwrap_or (values_at where_key d) []
+
 abbrev pub texts_of_conditions : Members → List (List ℕ)
-texts_of_conditions d = flat_map (λ value. in_option (element_text value)) (unwrap_or (array_values (get_member where_key d)) [])
+texts_of_conditions d = named_in (conditions_in d)
 
 abbrev pub key_texts : Members → List (List ℕ)
 key_texts d = texts_of_keys d ++ texts_of_conditions d

@@ -14,10 +14,14 @@ use Rattle.flow_plan_fields.specs.Keys.{KeyValue, element_of}
 abbrev pub known_key : KeyValue → Known
 known_key k = record { element = element_of k.element.number; name = k.text; kind = Plain (kinds.Unsigned Four); is_delta = false }
 
+-- one more key
+abbrev pub with_map_key : List Known → KeyValue → Read (List Known)
+with_map_key known k = with_entry known (known_key k)
+
 -- key after key
 abbrev pub with_keys : List Known → List KeyValue → Read (List Known)
 with_keys known [] = Ok known
-with_keys known (k ∷ keys) = and_then (with_entry known (known_key k)) (λ more. with_keys more keys)
+with_keys known (k ∷ keys) = and_then (with_map_key known k) (λ more. with_keys more keys)
 
 -- what is known with them, or the fault of the first that can't be
 abbrev pub AddsKeys : List Known → List KeyValue → Result (List Known) ElementsFault → Type 0

@@ -1,5 +1,7 @@
 -- The maps that a plan names: each [[map]] has a name and a file.
-use Rattle.std.specs.Prelude.{ℕ, ◌+◌, ◌==◌, ◌&&◌, ◌||◌, not, Bool, List, [], ◌∷◌, ◌++◌, map, length, find, codes, is_some, Option, Some, None, option_map, option_and_then, Result, Ok, Err, if◌then◌else◌, string_bytes}
+use Rattle.std.specs.Prelude.{ℕ, ◌+◌, ◌==◌, ◌&&◌, ◌||◌, not, Bool, List, [], ◌∷◌, ◌++◌, map, length, find, codes, is_some, Option, Some, None, option_map, option_and_then, Result, Ok, Err, if◌then◌else◌, string_bytes, String}
+use Rattle.std.specs.Borrow.{Bor}
+use Rattle.std.specs.declared.alloc.Global.{Global}
 use Rattle.std.specs.List.{list_all, list_any}
 use Rattle.std.specs.Str.{bytes_eq}
 use Rattle.toml.specs.Data.{Data, Members, as_array, as_str, as_table, get_member}
@@ -25,6 +27,10 @@ is_map_key name = list_any (bytes_eq name) (codes "name" ∷ codes "file" ∷ []
 
 abbrev pub unknown_key : Members → Option (List ℕ)
 unknown_key d = find (λ name. not (is_map_key name)) (names d)
+
+-- the text of a key that was found
+abbrev pub found_text : Option (Bor (String Global)) → Option (List ℕ)
+found_text found = option_map (λ name. string_bytes name.now) found
 
 abbrev pub text_at : List ℕ → Members → Option (List ℕ)
 text_at key d = option_and_then as_str (get_member key d)
@@ -58,6 +64,10 @@ abbrev pub map_of_table : List MapValue → Option Members → Result MapValue M
 map_of_table before None = Err NoTable
 map_of_table before (Some d) = map_of_members before d
 
+-- the same of a value, which has to be a table
+abbrev pub map_of_value : List MapValue → Data → Result MapValue MapTableFault
+map_of_value before value = map_of_table before (as_table value)
+
 -- ---- all of them
 
 -- a fault has the place of its [[map]], counted from 1
@@ -68,12 +78,15 @@ placed place (Err fault) others = Err (place, fault)
 -- value after value, each after the maps before it
 abbrev pub maps_after : List MapValue → List Data → Result (List MapValue) (ℕ × MapTableFault)
 maps_after before [] = Ok before
-maps_after before (value ∷ values) = placed (length before + 1) (map_of_table before (as_table value)) (λ m. maps_after (before ++ m ∷ []) values)
+maps_after before (value ∷ values) = placed (length before + 1) (map_of_value before value) (λ m. maps_after (before ++ m ∷ []) values)
 
 -- the values of an array of a document, none if it is missing, and no list if it is no array
 abbrev pub array_values : Option Data → Option (List Data)
 array_values None = Some []
 array_values (Some value) = option_map values_of (as_array value)
 
+abbrev pub values_at : List ℕ → Members → Option (List Data)
+values_at key d = array_values (get_member key d)
+
 abbrev pub map_values : Members → Option (List Data)
-map_values d = array_values (get_member map_key d)
+map_values d = values_at map_key d

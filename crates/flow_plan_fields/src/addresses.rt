@@ -1,11 +1,12 @@
 //! What the text of a key looks up.
 
-ghost use Rattle.std.specs.Prelude.{◌≡◌, ◌==◌, map, IfOk};
+ghost use Rattle.std.specs.Prelude.{◌≡◌, ◌==◌, IfOk};
 ghost use Rattle.std.specs.List.{slice_split};
 ghost use Rattle.std.specs.Option.{option_map};
 ghost use Rattle.flow_table.specs.Plans.{key_kind};
-ghost use Rattle.flow_plan.specs.Shown.{texts_of};
+ghost use Rattle.flow_plan.specs.Shown.{shown_all, texts_of};
 ghost use Rattle.flow_plan_fields.specs.Keys as keys_of;
+ghost use Rattle.flow_plan_fields.specs.Keys.{addresses_of, items_in, look_up_in};
 
 use crate::named::NamedMap;
 use element_registry::{ElementKind, Elements};
@@ -32,7 +33,7 @@ pub fn look_up(
     maps: &[NamedMap],
     text: &str,
 ) -> Result<Option<LookUp>, AllocError>
-    ensures { IfOk result (λ found. option_map (λ l. (l.map, l.addresses.items)) found
+    ensures { IfOk result (λ found. look_up_in found
         ≡ keys_of.look_up elements.now maps.now text.now) }
 {
     let Some((name, names)) = call_in(text) else {
@@ -85,7 +86,7 @@ fn addresses_in(
     elements: &Elements,
     names: &str,
 ) -> Result<Option<Vec<AddressElement>>, AllocError>
-    ensures { IfOk result (λ found. option_map (λ v. v.items) found
+    ensures { IfOk result (λ found. items_in found
         ≡ keys_of.addresses_in elements.now names.now) }
 {
     let parts = split(alloc, names)?;
@@ -101,18 +102,19 @@ fn split(alloc: Global, names: &str) -> Result<Vec<&str>, AllocError>
 fn addresses_named(
     alloc: Global,
     elements: &Elements,
-    mut parts: &[&str],
+    parts: &[&str],
 ) -> Result<Option<Vec<AddressElement>>, AllocError>
-    ensures { IfOk result (λ found. option_map (λ v. v.items) found
-        ≡ keys_of.addresses_of elements.now (map (λ t. t.now) parts.entry.now)) }
+    ensures { IfOk result (λ found. items_in found
+        ≡ addresses_of elements.now (shown_all parts.now)) }
 {
     let mut addresses = Vec::new(alloc);
-    while let [part, rest @ ..] = parts {
+    let mut left = parts;
+    while let [part, rest @ ..] = left {
         match address_named(elements, after_space(part)) {
             Some(address) => addresses.push(address)?,
             None => return Ok(None),
         }
-        parts = rest;
+        left = rest;
     }
     Ok(Some(addresses))
 }

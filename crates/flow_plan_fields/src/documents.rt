@@ -1,14 +1,13 @@
 //! What stands in a document where maps and keys do.
 
-ghost use Rattle.std.specs.Prelude.{◌≡◌, ◌++◌, [], map, unwrap_or, IfOk, OnOk};
-ghost use Rattle.std.specs.List.{flat_map};
+ghost use Rattle.std.specs.Prelude.{◌≡◌, ◌++◌, map, IfOk, OnOk};
 ghost use Rattle.std.specs.Option.{option_map};
 ghost use Rattle.toml.specs.Data.{get_member};
 ghost use Rattle.toml.specs.View.{table_view, view};
-ghost use Rattle.flow_plan_fields.specs.FilteredPlans.{where_key};
 ghost use Rattle.flow_plan.specs.Shown.{texts_of};
 ghost use Rattle.flow_plan_fields.specs.Keys as keys_of;
-ghost use Rattle.flow_plan_fields.specs.Maps.{array_values, text_at as text_in};
+ghost use Rattle.flow_plan_fields.specs.Keys.{conditions_in, named_in};
+ghost use Rattle.flow_plan_fields.specs.Maps.{text_at as text_in, values_at as values_in};
 
 use flow_plan::texts_in;
 use std::alloc::{AllocError, Global};
@@ -34,8 +33,8 @@ pub fn text_at<'a>(table: &'a Table, key: &str) -> Option<&'a str>
 /// The values of a key of a document that is an array, none if it is missing, and `None` if it is no array.
 #[tactic(auto, using(crate::proofs::Listed::values_view))]
 pub fn values_at<'a>(table: &'a Table, key: &str) -> Option<&'a [Value]>
-    ensures { option_map (λ values. map view values.now) result
-        ≡ array_values (get_member key.now (table_view table.now)) }
+    ensures { option_map (λ all. map view all.now) result
+        ≡ values_in key.now (table_view table.now) }
 {
     match value_at(table, key) {
         Some(value) => Some(value.as_array()?.as_slice()),
@@ -54,8 +53,7 @@ pub fn key_texts(alloc: Global, table: &Table) -> Result<Vec<&str>, AllocError>
 
 // The conditions of a document; what is no array has none.
 fn conditions_of(table: &Table) -> &[Value]
-    ensures { map view result.now
-        ≡ unwrap_or (array_values (get_member where_key (table_view table.now))) [] }
+    ensures { map view result.now ≡ conditions_in (table_view table.now) }
 {
     match values_at(table, "where") {
         Some(values) => values,
@@ -75,19 +73,17 @@ fn texts_of_keys(alloc: Global, table: &Table) -> Result<Vec<&str>, AllocError>
     }
 }
 
-// Appends the elements of conditions.
-fn push_elements<'a>(
-    mut conditions: &'a [Value],
-    texts: &mut Vec<&'a str>,
-) -> Result<(), AllocError>
-    ensures { OnOk result (texts_of texts.new ≡ texts_of texts.old
-        ++ flat_map (λ value. keys_of.in_option (keys_of.element_text value)) (map view conditions.entry.now)) }
+// Appends the elements of conditions, which these values are.
+fn push_elements<'a>(values: &'a [Value], texts: &mut Vec<&'a str>) -> Result<(), AllocError>
+    ensures { OnOk result (texts_of texts.new
+        ≡ texts_of texts.old ++ named_in (map view values.now)) }
 {
-    while let [condition, rest @ ..] = conditions {
+    let mut left = values;
+    while let [condition, rest @ ..] = left {
         if let Some(text) = element_text(condition) {
             texts.push(text)?;
         }
-        conditions = rest;
+        left = rest;
     }
     Ok(())
 }

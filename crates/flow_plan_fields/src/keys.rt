@@ -1,9 +1,9 @@
 //! The keys of a document that look something up.
 
 ghost use Rattle.std.specs.Prelude.{◌≡◌, [], map, IfOk, OnOk};
-ghost use Rattle.std.specs.Option.{option_map};
+ghost use Rattle.flow_plan.specs.Shown.{shown_all};
 ghost use Rattle.flow_plan_fields.specs.Keys as keys_of;
-ghost use Rattle.flow_plan_fields.specs.Keys.{key_value, map_key_value};
+ghost use Rattle.flow_plan_fields.specs.Keys.{key_value, keys_in, keys_said, look_up_in, map_key_value, with_key, without_text};
 
 use crate::addresses::{LookUp, look_up};
 use crate::named::{EXAMPLES_PEN, MAX_MAP_KEYS, NamedKey, NamedMap};
@@ -17,16 +17,17 @@ pub fn keys_among(
     alloc: Global,
     elements: &Elements,
     maps: &[NamedMap],
-    mut texts: &[&str],
+    texts: &[&str],
 ) -> Result<Vec<NamedKey>, AllocError>
-    ensures { IfOk result (λ keys. map key_value keys.items
-        ≡ keys_of.keys_after elements.now maps.now [] (map (λ t. t.now) texts.entry.now)) }
+    ensures { IfOk result (λ all. keys_in all
+        ≡ keys_said elements.now maps.now (shown_all texts.now)) }
 {
     let mut keys = Vec::new(alloc);
-    while let [text, rest @ ..] = texts {
+    let mut left = texts;
+    while let [text, rest @ ..] = left {
         let found = look_up(alloc, elements, maps, text)?;
         push_key(alloc, &mut keys, text, found)?;
-        texts = rest;
+        left = rest;
     }
     Ok(keys)
 }
@@ -38,8 +39,8 @@ fn push_key(
     text: &str,
     found: Option<LookUp>,
 ) -> Result<(), AllocError>
-    ensures { OnOk result (map key_value keys.new.items ≡ keys_of.with_key
-        (map key_value keys.old.items) text.now (option_map (λ l. (l.map, l.addresses.items)) found)) }
+    ensures { OnOk result (keys_in keys.new
+        ≡ with_key (keys_in keys.old) text.now (look_up_in found)) }
 {
     let Some(LookUp { map, addresses }) = found else {
         return Ok(());
@@ -83,7 +84,7 @@ pub fn element_of(number: u16) -> ElementId
 /// The keys without their texts.
 pub fn map_keys(alloc: Global, mut keys: &[NamedKey]) -> Result<Vec<MapKey>, AllocError>
     ensures { IfOk result (λ copies. map map_key_value copies.items
-        ≡ map (λ k. map_key_value k.key) keys.entry.now) }
+        ≡ map without_text keys.entry.now) }
 {
     let mut copies = Vec::with_capacity(alloc, keys.len())?;
     while let [key, rest @ ..] = keys {

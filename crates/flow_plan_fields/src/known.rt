@@ -3,10 +3,9 @@
 ghost use Rattle.std.specs.Prelude.{◌≡◌, true, is_none, map, Ok, IfErr, IfOk, OnOk};
 ghost use Rattle.ipfix_elements.specs.Elements.{entry_of};
 ghost use Rattle.element_registry.specs.Faults.{Fails};
-ghost use Rattle.element_registry.specs.Files.{with_entry};
 ghost use Rattle.element_registry.specs.Registries.{shown};
 ghost use Rattle.flow_plan_fields.specs.Keys.{key_value};
-ghost use Rattle.flow_plan_fields.specs.Known.{known_key, AddsKeys};
+ghost use Rattle.flow_plan_fields.specs.Known.{known_key, with_map_key, AddsKeys};
 
 use crate::keys::element_of;
 use crate::named::NamedKey;
@@ -34,8 +33,8 @@ pub fn add_map_keys(
 
 // Adds the element of a key.
 fn add_key(alloc: Global, elements: &mut Elements, key: &NamedKey) -> Result<(), ElementsFault>
-    ensures ok { OnOk result (with_entry elements.old (known_key (key_value key.now)) ≡ Ok elements.new) }
-    ensures fault { IfErr result (λ fault. Fails fault (with_entry elements.old (known_key (key_value key.now)))) }
+    ensures ok { OnOk result (with_map_key elements.old (key_value key.now) ≡ Ok elements.new) }
+    ensures fault { IfErr result (λ e. Fails e (with_map_key elements.old (key_value key.now))) }
 {
     let entry = entry_of_key(alloc, key)?;
     elements.add(entry)

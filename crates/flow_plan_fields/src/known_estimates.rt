@@ -3,10 +3,9 @@
 ghost use Rattle.std.specs.Prelude.{◌≡◌, true, is_none, string_bytes, Ok, IfErr, IfOk, OnOk};
 ghost use Rattle.ipfix_elements.specs.Elements.{entry_of};
 ghost use Rattle.element_registry.specs.Faults.{Fails};
-ghost use Rattle.element_registry.specs.Files.{with_entry};
 ghost use Rattle.element_registry.specs.Registries.{shown};
 ghost use Rattle.flow_plan_fields.specs.Scaled as scaled_plans;
-ghost use Rattle.flow_plan_fields.specs.Scaled.{AddsEstimates, known_estimate};
+ghost use Rattle.flow_plan_fields.specs.Scaled.{AddsEstimates, known_estimate, with_estimate};
 
 use crate::estimates::estimated;
 use element_registry::{ElementKind, Elements, ElementsFault, Entry};
@@ -37,8 +36,8 @@ pub fn add_estimates(
 
 // Adds the element of an estimate.
 fn add_estimate(alloc: Global, elements: &mut Elements, key: &Estimate) -> Result<(), ElementsFault>
-    ensures ok { OnOk result (with_entry elements.old (known_estimate elements.old key.now) ≡ Ok elements.new) }
-    ensures fault { IfErr result (λ fault. Fails fault (with_entry elements.old (known_estimate elements.old key.now))) }
+    ensures ok { OnOk result (with_estimate elements.old key.now ≡ Ok elements.new) }
+    ensures fault { IfErr result (λ fault. Fails fault (with_estimate elements.old key.now)) }
 {
     let entry = entry_of_estimate(alloc, elements, key)?;
     elements.add(entry)

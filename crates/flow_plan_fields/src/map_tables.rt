@@ -1,14 +1,13 @@
 //! The maps of a document.
 
-ghost use Rattle.std.specs.Prelude.{◌≡◌, List, Some, map, string_bytes};
+ghost use Rattle.std.specs.Prelude.{◌≡◌, List, Some, map};
 ghost use Rattle.std.specs.List.{list_all};
 ghost use Rattle.std.specs.Option.{option_map};
 ghost use Rattle.element_registry.specs.Rows.{is_name_octet as is_octet};
-ghost use Rattle.toml.specs.Data.{as_table};
 ghost use Rattle.toml.specs.View.{table_view, view};
 ghost use Rattle.flow_plan_fields.specs.Errors.{ReadsMaps, ReadsMap, ReadsMapAt};
 ghost use Rattle.flow_plan_fields.specs.Maps as maps_of;
-ghost use Rattle.flow_plan_fields.specs.Maps.{map_value};
+ghost use Rattle.flow_plan_fields.specs.Maps.{found_text, map_value};
 
 use crate::documents::text_at;
 use crate::error::{MapTableFault, PlanMapsError};
@@ -57,7 +56,7 @@ fn read_map(alloc: Global, before: &[NamedMap], value: &Value) -> Result<NamedMa
 
 // The name and the file of a value that follows maps, or its fault.
 fn map_parts<'a>(before: &[NamedMap], value: &'a Value) -> Result<(&'a str, &'a str), MapTableFault>
-    ensures { ReadsMap (maps_of.map_of_table (map map_value before.now) (as_table (view value.now))) result }
+    ensures { ReadsMap (maps_of.map_of_value (map map_value before.now) (view value.now)) result }
 {
     let Some(table) = value.as_table() else {
         return Err(MapTableFault::NoTable);
@@ -79,8 +78,7 @@ fn map_parts<'a>(before: &[NamedMap], value: &'a Value) -> Result<(&'a str, &'a 
 
 // The first key that maps don't have.
 fn unknown_key(table: &Table) -> Option<&String>
-    ensures { option_map (λ name. string_bytes name.now) result
-        ≡ maps_of.unknown_key (table_view table.now) }
+    ensures { found_text result ≡ maps_of.unknown_key (table_view table.now) }
 {
     table.keys().find(|name| !is_map_key(name.as_str()))
 }

@@ -1,8 +1,8 @@
 //! The plan that counts estimates in place of another's counters.
 
 ghost use Rattle.std.specs.Prelude.{◌≡◌, ◌≢◌, None, Some, IfErr, IfOk, OnOk};
-ghost use Rattle.flow_table.specs.Plans.{IsPlan, chosen_fault, chosen_plan};
-ghost use Rattle.flow_plan_fields.specs.Scaled.{IsNotScaled, IsScaled};
+ghost use Rattle.flow_table.specs.Plans.{IsPlan};
+ghost use Rattle.flow_plan_fields.specs.Scaled.{counting_fault, plan_counting, IsNotScaled, IsScaled};
 ghost use Rattle.flow_plan_fields.specs.declared.scaling.ScalingFault.TheVariants as faults;
 
 use crate::estimates::{are_estimable, estimates_of, scaled_counters};
@@ -84,13 +84,10 @@ fn with_counters(
     plan: &Plan,
     counters: &[ElementId],
 ) -> Result<Plan, PlanFault>
-    ensures ok { IfOk result (λ other. other ≡ chosen_plan elements.now plan.now.choices
-        plan.now.length plan.now.method plan.now.keys counters.now plan.now.max_spread) }
-    ensures faultless { OnOk result (chosen_fault elements.now plan.now.choices
-        plan.now.length plan.now.keys counters.now plan.now.max_spread ≡ None) }
+    ensures ok { IfOk result (λ other. other ≡ plan_counting elements.now plan.now counters.now) }
+    ensures faultless { OnOk result (counting_fault elements.now plan.now counters.now ≡ None) }
     ensures fault { IfErr result (λ fault. fault ≢ PlanFault.OutOfMemory
-        → chosen_fault elements.now plan.now.choices
-        plan.now.length plan.now.keys counters.now plan.now.max_spread ≡ Some fault) }
+        → counting_fault elements.now plan.now counters.now ≡ Some fault) }
     ensures sound { IfOk result IsPlan }
 {
     Plan::with_elements(

@@ -5,6 +5,7 @@ ghost use Rattle.std.specs.Option.{option_map};
 ghost use Rattle.toml.specs.View.{table_view, view};
 ghost use Rattle.flow_plan.specs.Shown.{shown_all};
 ghost use Rattle.flow_filter.specs.Faults.{IsFault};
+ghost use Rattle.flow_plan_fields.specs.Maps.{found_text};
 ghost use Rattle.flow_plan_fields.specs.Wheres as wheres;
 ghost use Rattle.flow_plan_fields.specs.Wheres.{ReadsSide, ReadsSides, ReadsWhere, IsNoSide};
 
@@ -54,8 +55,7 @@ fn read_sides(alloc: Global, elements: &Elements, table: &Table) -> Result<Sides
 
 // The first key that conditions don't have.
 fn unknown_key(table: &Table) -> Option<&String>
-    ensures { option_map (λ name. string_bytes name.now) result
-        ≡ wheres.unknown_key (table_view table.now) }
+    ensures { found_text result ≡ wheres.unknown_key (table_view table.now) }
 {
     table.keys().find(|name| !is_where_key(name.as_str()))
 }

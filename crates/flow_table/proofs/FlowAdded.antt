@@ -1,14 +1,13 @@
 -- A flow's shares added at an interval.
-use Rattle.std.proofs.Common.{◌≡◌, ◌≢◌, ℕ, ◌+◌, ◌<◌, ◌≤◌, Bool, cond, eqb, inl, inr, List, [], ◌∷◌, length, Option, Some, Result, Ok, Err, OnOk, OnErr, IfErr, get_or, refl, sym, ap, ◌∙◌, option_map, arith}
+use Rattle.std.proofs.Common.{◌≡◌, ℕ, ◌+◌, ◌<◌, ◌≤◌, Bool, cond, eqb, inl, inr, List, [], ◌∷◌, length, Option, Some, Result, Ok, Err, OnOk, OnErr, IfErr, refl, sym, ap, ◌∙◌, option_map, arith}
 use Rattle.std.proofs.lemmas.Bool.Decides.{eqb_tells}
 use Rattle.std.proofs.lemmas.List.{length-map}
-use Rattle.flow_rows.specs.Rows.{SomeTooLarge}
 use Rattle.ipfix_elements.specs.declared.cell.Cell.{Cell}
 use Rattle.flow_table.specs.declared.flow.Flow.{Flow}
-use Rattle.flow_table.specs.Flows.{HasIntervals, flow_total, shares_of}
+use Rattle.flow_table.specs.Flows.{AreShares, HasIntervals, flow_total, shares_of}
 use Rattle.flow_table.specs.Intervals.{share}
 use Rattle.flow_table.specs.Plans.{PlanValue}
-use Rattle.flow_table.specs.Rows.{AddsRow, AreAlike, AreRowsOf, depth_of, kept_at, number_at, place_part, width_of}
+use Rattle.flow_table.specs.Rows.{AddsRow, AreAlike, AreRowsOf, TooLargeWith, kept_at, number_at, place_part}
 use Rattle.flow_table.specs.Totals.{total, joined, IsLargeAt}
 use Rattle.flow_table.specs.Words.{key_words, padded, place_words}
 use Rattle.flow_table.specs.declared.rows.Rows.{Rows}
@@ -45,11 +44,11 @@ module _ (plan : PlanValue) (old new : Rows) (k : ℕ) (key : List Cell) (words 
       by (Ok x) adds = add_joins plan old new k key (k ∷ words) flows sums of (words_of_place plan k key words are) some long alike adds
       by (Err e) adds = tt
 
-  pub add_too_large : AreRowsOf plan old → IfErr r (λ e. e ≡ SumTooLarge → SomeTooLarge (λ i. number_at old (padded (width_of old) (k ∷ words)) i + get_or (padded (depth_of old) (flows ∷ sums)) i 0))
+  pub add_too_large : AreRowsOf plan old → TooLargeWith r old (k ∷ words) (flows ∷ sums)
       → IfErr r (λ e. e ≡ SumTooLarge → IsLargeAt (joined (kept_at plan old k key) (Some (total sums flows))))
   add_too_large of = by r
     where
-      by : (a : Result (Unit {0}) TableFault) → IfErr a (λ e. e ≡ SumTooLarge → SomeTooLarge (λ i. number_at old (padded (width_of old) (k ∷ words)) i + get_or (padded (depth_of old) (flows ∷ sums)) i 0))
+      by : (a : Result (Unit {0}) TableFault) → TooLargeWith a old (k ∷ words) (flows ∷ sums)
           → IfErr a (λ e. e ≡ SumTooLarge → IsLargeAt (joined (kept_at plan old k key) (Some (total sums flows))))
       by (Ok x) large = tt
       by (Err e) large = λ same. add_large plan old new k key (k ∷ words) flows sums of (words_of_place plan k key words are) some long (large same)
@@ -71,7 +70,7 @@ whole_shares plan s e k (n ∷ ns) all =
 
 -- the counters where a flow has one interval, and else its shares
 pub picked_shares : (plan : PlanValue) (flow : Flow) (k : ℕ) (counters shares sums : List ℕ) → HasIntervals plan flow → (flow.first ≤ k) × (k < flow.first + flow.count)
-    → sums ≡ cond (eqb flow.count 1) counters shares → (flow.count ≢ 1 → shares ≡ shares_of plan flow.span.start flow.span.end counters k) → sums ≡ shares_of plan flow.span.start flow.span.end counters k
+    → sums ≡ cond (eqb flow.count 1) counters shares → AreShares plan flow counters k shares → sums ≡ shares_of plan flow.span.start flow.span.end counters k
 picked_shares plan flow k counters shares sums has within picked others =
     elim (eqb_tells flow.count 1) as (λ _. sums ≡ shares_of plan flow.span.start flow.span.end counters k) [
       | inl one ↦

@@ -1,5 +1,5 @@
 -- What a partial table holds after more records.
-use Rattle.std.proofs.Common.{◌≡◌, ◌≢◌, ◌+◌, ◌^◌, ◌<◌, ◌≤◌, ℕ, true, false, List, [], ◌∷◌, ◌++◌, map, Option, Some, None, Result, Ok, Err, OnOk, IfOk, IfErr, refl, sym, ap, ◌∙◌, subst, inr, arith}
+use Rattle.std.proofs.Common.{◌≡◌, ◌≢◌, ◌+◌, ◌^◌, ◌<◌, ◌≤◌, ℕ, true, false, List, [], ◌∷◌, ◌++◌, Option, Some, None, Result, Ok, Err, OnOk, IfOk, IfErr, refl, sym, ap, ◌∙◌, subst, inr, arith}
 use Rattle.std.specs.Result.{result_err}
 use Rattle.std.specs.Option.{IsSome, IfSome}
 use Rattle.ipfix_elements.specs.declared.cell.Cell.{Cell}
@@ -17,14 +17,14 @@ use Rattle.flow_table.specs.Flows.{AtLast, flow_part}
 use Rattle.flow_table.specs.LeftOut.{class_in, IsLeftOut}
 use Rattle.flow_table.specs.Missing.{missing_of, missing_sum, IsSmall}
 use Rattle.flow_table.specs.Plans.{PlanValue}
-use Rattle.flow_table.specs.Reading.{class_of, counter_of, IsUsed}
+use Rattle.flow_table.specs.Reading.{class_of, counters_of, IsUsed}
 use Rattle.flow_rows.specs.Rows.{Small, SomeTooLarge}
 use Rattle.flow_table.specs.Rows.{AreAlike, AreRowsOf, kept_at, number_at, width_of}
 use Rattle.flow_table.specs.Words.{key_from}
 use Rattle.flow_table.specs.declared.adding.Room.{Room}
 use Rattle.flow_table.specs.declared.rows.Rows.{Rows}
 use Rattle.ipfix_message.specs.Outcome.{unless}
-use Rattle.flow_table.specs.Partials.{totals_at, HoldsTable, LargeWith, NotesMore, StandsBy, tally_sum, one_of, count_in, tally}
+use Rattle.flow_table.specs.Partials.{AreTooManyTogether, totals_at, HoldsTable, LargeWith, NotesMore, StandsBy, tally_sum, one_of, count_in, tally}
 use Rattle.flow_table.specs.Tables.{count_of, flows_at, tally_of, AreTooMany, IsTooLarge}
 use Rattle.flow_table.specs.Totals.{Total, joined, IsLargeAt}
 use Rattle.flow_table.proofs.Fits.{no_keys_fit, read_keys_fit, both_keys_fit}
@@ -83,7 +83,7 @@ too_large_sum plan old before rs qs holds large =
     (subst IsLargeAt (ap (λ (o : Option Total). joined o (totals_at plan qs k q)) (holds.totals_are k q) ∙ sym (totals_at-append plan rs qs k q)) large.2)
 
 pub count_too_large : (plan : PlanValue) (old : Rows) (before more : Tally) (rs qs : List DataRecord) → HoldsTable plan old before rs → more ≡ tally_of plan qs
-    → (class : Class) × (2 ^ 64 ≤ count_in before class + count_in more class) → AreTooMany plan (rs ++ qs)
+    → AreTooManyTogether before more → AreTooMany plan (rs ++ qs)
 count_too_large plan old before more rs qs holds is large =
     let class = large.0 in
     let big : 2 ^ 64 ≤ count_in before class + count_in more class = large.1 in
@@ -143,19 +143,19 @@ answers (Err e) o x is h = rw is refl
 
 -- ---- flows
 
-pub flow_words : (plan : PlanValue) (r : DataRecord) (s e : ℕ) (key : List Cell) (counters : List ℕ) → IsUsed plan r s e key → counters ≡ map (λ c. counter_of c r) plan.counters
+pub flow_words : (plan : PlanValue) (r : DataRecord) (s e : ℕ) (key : List Cell) (counters : List ℕ) → IsUsed plan r s e key → counters ≡ counters_of plan.counters r
     → (k : ℕ) (q : List Cell) → flow_part plan s e key counters k q ≡ totals_at plan (r ∷ []) k q
 flow_words plan r s e key counters used c_is k q =
     ap (λ (ns : List ℕ). flow_part plan s e key ns k q) c_is ∙ sym (totals_at-used plan r s e key k q used)
 
 pub flow_ok : (plan : PlanValue) (r : DataRecord) (s e : ℕ) (key : List Cell) (counters : List ℕ) (old new : ℕ → List Cell → Option Total) (a : Result (Unit {0}) TableFault)
-    → IsUsed plan r s e key → counters ≡ map (λ c. counter_of c r) plan.counters
+    → IsUsed plan r s e key → counters ≡ counters_of plan.counters r
     → OnOk a ((k : ℕ) (q : List Cell) → new k q ≡ joined (old k q) (flow_part plan s e key counters k q)) → OnOk a ((k : ℕ) (q : List Cell) → new k q ≡ joined (old k q) (totals_at plan (r ∷ []) k q))
 flow_ok plan r s e key counters old new (Ok x) used c_is step = λ k q. step k q ∙ ap (λ (o : Option Total). joined (old k q) o) (flow_words plan r s e key counters used c_is k q)
 flow_ok plan r s e key counters old new (Err x) used c_is step = tt
 
 pub flow_large : (plan : PlanValue) (r : DataRecord) (s e : ℕ) (key : List Cell) (counters : List ℕ) (old : Rows) (room : Room) (a : Result (Unit {0}) TableFault)
-    → IsUsed plan r s e key → counters ≡ map (λ c. counter_of c r) plan.counters → key_from plan.kinds room.words.items ≡ key
+    → IsUsed plan r s e key → counters ≡ counters_of plan.counters r → key_from plan.kinds room.words.items ≡ key
     → IfErr a (λ f. f ≡ SumTooLarge → AtLast room (λ k. IsLargeAt (joined (kept_at plan old k key) (flow_part plan s e key counters k key))))
     → IfErr a (λ f. f ≡ SumTooLarge → LargeWith plan old (totals_at plan (r ∷ [])) room)
 flow_large plan r s e key counters old room (Ok x) used c_is key_is large = tt

@@ -13,7 +13,7 @@ use Rattle.flow_rows.proofs.Within.{part_own}
 use Rattle.ipfix_elements.proofs.Lookups.{mapped}
 use Rattle.ipfix_elements.specs.declared.cell.Cell.{Cell}
 use Rattle.flow_table.specs.Plans.{PlanValue}
-use Rattle.flow_table.specs.Rows.{AddsRow, AreAlike, AreRowsOf, IsPlace, depth_of, is_same_interval, is_same_key, kept_at, kept_by, number_at, padded_row, place_part, total_of_numbers, width_of}
+use Rattle.flow_table.specs.Rows.{AddsRow, AreAlike, AreRowsOf, IsPlace, IsTooLargeWithRow, depth_of, is_same_interval, is_same_key, kept_at, kept_by, number_at, padded_row, place_part, total_of_numbers, width_of}
 use Rattle.flow_table.specs.Tables.{key_cmp, place_cmp}
 use Rattle.flow_table.specs.Totals.{Total, total, added, joined, HasLarge, IsLarge, IsLargeAt}
 use Rattle.flow_table.specs.Words.{first_of, key_from, key_words, padded, place_words, word_count}
@@ -303,7 +303,7 @@ module _ (plan : PlanValue) (old new : Rows) (k0 : ℕ) (q0 : List Cell) (ws : L
             | inr g ↦ g
           ]
 
-  pub add_large : SomeTooLarge (λ i. number_at old (padded (width_of old) ws) i + get_or (padded (depth_of old) (flows ∷ sums)) i 0) → IsLargeAt (joined (kept_at plan old k0 q0) (Some (total sums flows)))
+  pub add_large : IsTooLargeWithRow (number_at old) (padded_row old ws (flows ∷ sums)) → IsLargeAt (joined (kept_at plan old k0 q0) (Some (total sums flows)))
   unfolding kept_at
   add_large large = subst (λ (o : Option (List ℕ)). IsLargeAt (joined (kept_by plan old o) (Some (total sums flows)))) (sym are) (large_by large)
 

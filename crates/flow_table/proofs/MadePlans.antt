@@ -22,7 +22,7 @@ use Rattle.flow_table.specs.declared.key.Side.TheVariants.{Read, Exported}
 use Rattle.flow_table.specs.declared.method.Method.{Method}
 use Rattle.flow_table.specs.declared.plan_fault.PlanFault.{PlanFault}
 use Rattle.flow_table.specs.declared.plan_fault.PlanFault.TheVariants.{KeyCount, KeyKind, Prefix, CounterCount, CounterKind}
-use Rattle.flow_table.specs.Plans.{PlanValue, IsPlan, first_fault_of, chosen_fault, chosen_plan, basic, plan_with, field_kind, key_kind, kinds_of, context_kind, first_fault, fault_among, is_context, is_key_element, is_record_key, may_be_key, exporter, exporter_ipv4, exporter_ipv6, observation_domain, same_element, is_between, is_element, is_time, is_value, is_key, is_key_kind, is_built_in_counter, is_counter, is_delta_of, is_prefix_of, has_twice, elements_in, or_else, fault_unless, length_fault, spread_fault, repeat_fault, is_taken_total, may_count}
+use Rattle.flow_table.specs.Plans.{KindsStay, PlanValue, IsPlan, first_fault_of, chosen_fault, chosen_plan, basic, plan_with, field_kind, key_kind, context_kind, first_fault, fault_among, is_context, is_key_element, is_record_key, may_be_key, exporter, exporter_ipv4, exporter_ipv6, observation_domain, same_element, is_between, is_element, is_time, is_value, is_key, is_key_kind, is_built_in_counter, is_counter, is_delta_of, is_prefix_of, has_twice, elements_in, or_else, fault_unless, length_fault, spread_fault, repeat_fault, is_taken_total, may_count}
 
 -- ---- lists
 
@@ -346,7 +346,7 @@ kept_fault known choices len keys counters max_spread h =
     ap₂ (fault_by len keys counters max_spread) (of_keys ∙ sym tests.kinds) (of_counters ∙ sym tests.counted) ∙ h
 
 pub kept_kinds : (known : List Known) (choices : Choices) (len : ℕ) (keys : List Key) (counters : List ElementId) (max_spread : ℕ)
-    → chosen_fault [] choices len keys counters max_spread ≡ None → kinds_of known keys ≡ kinds_of [] keys
+    → chosen_fault [] choices len keys counters max_spread ≡ None → KindsStay known keys
 kept_kinds known choices len keys counters max_spread h =
     let tests = passed_tests WithContext [] choices len keys counters max_spread h in
     all_mapped (λ (k : Key). key_kind known k.element) (λ (k : Key). key_kind [] k.element) (λ k. is_key [] k.element) (λ k. kept_kind known k.element) keys tests.kinds

@@ -1,12 +1,12 @@
 -- A row added to the totals of rows.
-use Rattle.std.proofs.Common.{◌≡◌, ℕ, ◌+◌, ◌<◌, List, [], ◌∷◌, ◌++◌, length, Some, Result, Ok, Err, OnOk, IfErr, get_or}
-use Rattle.flow_rows.specs.Rows.{Small, SomeTooLarge}
+use Rattle.std.proofs.Common.{◌≡◌, ℕ, ◌+◌, ◌<◌, List, [], ◌∷◌, ◌++◌, length, Some, Result, Ok, Err, OnOk, IfErr}
+use Rattle.flow_rows.specs.Rows.{Small}
 use Rattle.flow_table.specs.AddedUp.{AddUpTooLarge}
 use Rattle.flow_table.specs.Plans.{PlanValue}
 use Rattle.flow_table.specs.RowTotals.{HoldsRows}
-use Rattle.flow_table.specs.Rows.{AddsRow, AreAlike, depth_of, number_at, width_of}
+use Rattle.flow_table.specs.Rows.{AddsRow, AreAlike, TooLargeWith, number_at}
 use Rattle.flow_table.specs.SameTables.{RowValue}
-use Rattle.flow_table.specs.Words.{key_words, padded}
+use Rattle.flow_table.specs.Words.{key_words}
 use Rattle.flow_table.specs.declared.rows.Rows.{Rows}
 use Rattle.flow_table.specs.declared.table_fault.TableFault.{TableFault}
 use Rattle.flow_table.specs.declared.table_fault.TableFault.TheVariants.{SumTooLarge}
@@ -23,7 +23,7 @@ module _ (plan : PlanValue) (old new : Rows) (rows : List RowValue) (row : RowVa
       (λ k q big. kept_small plan new k q small big)
   held_ok (Err e) alike small adds = tt
 
-  pub held_err : (r : Result (Unit {0}) TableFault) → IfErr r (λ e. e ≡ SumTooLarge → SomeTooLarge (λ i. number_at old (padded (width_of old) (row.interval ∷ words)) i + get_or (padded (depth_of old) (row.flows ∷ row.sums)) i 0))
+  pub held_err : (r : Result (Unit {0}) TableFault) → TooLargeWith r old (row.interval ∷ words) (row.flows ∷ row.sums)
       → IfErr r (λ e. e ≡ SumTooLarge → AddUpTooLarge (rows ++ row ∷ []))
   held_err (Ok x) large = tt
   held_err (Err e) large = λ same.

@@ -7,7 +7,7 @@ use Rattle.flow_table.specs.AddedUp.{place, total_of, part_of, added_up, AreAdde
 use Rattle.flow_table.specs.Finishing.{AreLinesOf, line_of}
 use Rattle.flow_table.specs.Plans.{PlanValue}
 use Rattle.flow_table.specs.RowTotals.{HoldsRows}
-use Rattle.flow_table.specs.Rows.{AreRowsOf, kept_at, place_part}
+use Rattle.flow_table.specs.Rows.{AreRowsOf, AreSmall, kept_at, place_part}
 use Rattle.flow_table.specs.SameTables.{RowValue, value_of}
 use Rattle.flow_table.specs.Tables.{place_of, place_cmp}
 use Rattle.flow_table.specs.Totals.{Total, joined, IsLargeAt}
@@ -28,7 +28,7 @@ module _ (plan : PlanValue) where
 
   pub held_more : (old new : Rows) (rows : List RowValue) (row : RowValue) → HoldsRows plan old rows → AreRowsOf plan new
       → ((k : ℕ) (q : List Cell) → kept_at plan new k q ≡ joined (kept_at plan old k q) (place_part row.interval row.key (total_of row) k q))
-      → ((k : ℕ) (q : List Cell) → IsLargeAt (kept_at plan new k q) → ⊥) → HoldsRows plan new (rows ++ row ∷ [])
+      → AreSmall plan new → HoldsRows plan new (rows ++ row ∷ [])
   held_more old new rows row held of_plan step fits =
       record {
         of_plan = of_plan;

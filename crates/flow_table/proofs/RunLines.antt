@@ -9,9 +9,9 @@ use Rattle.std.proofs.lemmas.List.Sums.{sum_by-cons}
 use Rattle.flow_rows.specs.Rows.{Row as FlatRow, Above, Ascends, Counted, IsRun, part, total_at, words_cmp}
 use Rattle.flow_rows.proofs.Found.{total_here}
 use Rattle.ipfix_elements.specs.declared.cell.Cell.{Cell}
-use Rattle.flow_table.specs.Finishing.{AreLinesOf, AreRunLines, Line, line_cmp, line_from}
+use Rattle.flow_table.specs.Finishing.{AreLinesFrom, AreLinesOf, Line, line_cmp, line_from}
 use Rattle.flow_table.specs.Plans.{PlanValue}
-use Rattle.flow_table.specs.Rows.{AreRowsOf, IsPlace, kept_at, kept_by, number_at, rows_in, total_of_numbers, width_of}
+use Rattle.flow_table.specs.Rows.{AreRowsOf, IsPlace, kept_at, kept_by, number_at, total_of_numbers, width_of}
 use Rattle.flow_table.specs.Tables.{place_cmp}
 use Rattle.flow_table.specs.Totals.{Total}
 use Rattle.flow_table.specs.Words.{key_from, padded, place_words}
@@ -121,5 +121,5 @@ module _ (plan : PlanValue) (rows : Rows) (of : AreRowsOf plan rows) where
         complete = λ k q t is. found_at k q t xs are same is;
       }
 
-  pub lines_of : (lines : List Line) → AreRunLines plan.kinds n0 (rows_in rows) lines → AreLinesOf (kept_at plan rows) lines
+  pub lines_of : (lines : List Line) → AreLinesFrom plan rows lines → AreLinesOf (kept_at plan rows) lines
   lines_of lines are = subst (AreLinesOf (kept_at plan rows)) (sym are.are) (run_lines_of are.run are.ascends are.same)

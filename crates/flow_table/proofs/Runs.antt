@@ -1,14 +1,16 @@
 -- Totals at intervals in a row.
-use Rattle.std.proofs.Common.{◌≡◌, ◌≢◌, ◌⊎◌, ◌+◌, ◌<◌, ◌≤◌, ℕ, zero, suc, Bool, true, false, cond, nat_eq, nat_le, nat_lt, List, Option, Some, None, refl, sym, ap, ◌∙◌, subst, inl, inr, arith}
+use Rattle.std.proofs.Common.{◌≡◌, ◌≢◌, ◌⊎◌, ◌+◌, ◌<◌, ◌≤◌, ℕ, zero, suc, Bool, true, false, cond, nat_eq, nat_le, nat_lt, List, Option, Some, None, Result, Ok, Err, IfErr, refl, sym, ap, ◌∙◌, subst, inl, inr, arith}
 use Rattle.std.specs.List.{list_any, range_with_len}
 use Rattle.std.proofs.lemmas.Bool.{cases_Bool, ltb-true, ltb-false, leb-true, leb-false}
 use Rattle.std.proofs.lemmas.Bool.Decides.{eqb_tells}
 use Rattle.ipfix_elements.specs.declared.cell.Cell.{Cell}
 use Rattle.flow_table.specs.Totals.{Total, joined, IsLargeAt}
-use Rattle.flow_table.specs.Rows.{is_same_key, part_at, place_part}
+use Rattle.flow_table.specs.Rows.{is_same_interval, is_same_key, part_at, place_part}
 use Rattle.flow_table.specs.Flows.{is_in_run, run_part, flow_total, flow_part}
 use Rattle.flow_table.specs.Intervals.{covers}
 use Rattle.flow_table.specs.Plans.{PlanValue}
+use Rattle.flow_table.specs.declared.table_fault.TableFault.{TableFault}
+use Rattle.flow_table.specs.declared.table_fault.TableFault.TheVariants.{SumTooLarge}
 use Rattle.flow_table.proofs.Keyed.{itself}
 use Rattle.flow_table.proofs.Places.{keys_tell, intervals_tell}
 
@@ -128,3 +130,26 @@ pub large_words : (old : ℕ → List Cell → Option Total) (plan : PlanValue) 
     → IsLargeAt (joined (old i key) (Some (flow_total plan s e counters i))) → IsLargeAt (joined (old i key) (Some (flow_total plan s e numbers i)))
 large_words old plan s e i key counters numbers same large =
     subst (λ (ns : List ℕ). IsLargeAt (joined (old i key) (Some (flow_total plan s e ns i)))) same large
+
+-- ---- the interval that was added to last
+
+own_place : (i : ℕ) (key : List Cell) (t : Total) → place_part i key t i key ≡ Some t
+own_place i key t =
+    ap (λ (b : Bool). cond b (part_at key t key) None) (itself is_same_interval intervals_tell i)
+    ∙ ap (λ (b : Bool). cond b (Some t) None) (itself is_same_key keys_tell key)
+
+pub large_last : (old : ℕ → List Cell → Option Total) (t : Total) (key : List Cell) (i : ℕ) (o : Option ℕ) (r : Result (Unit {0}) TableFault) → o ≡ Some i
+    → IfErr r (λ e. e ≡ SumTooLarge → IsLargeAt (joined (old i key) (Some t)))
+    → IfErr r (λ e. e ≡ SumTooLarge → (k : ℕ) × (o ≡ Some k) × IsLargeAt (joined (old k key) (place_part i key t k key)))
+large_last old t key i o (Ok x) is large = tt
+large_last old t key i o (Err e) is large = λ same. (i, is, subst (λ (p : Option Total). IsLargeAt (joined (old i key) p)) (sym (own_place i key t)) (large same))
+
+some_same : (a b : ℕ) → Some a ≡ Some b → a ≡ b
+some_same a b h = cc
+
+pub last_large : (old : ℕ → List Cell → Option Total) (t : Total) (key : List Cell) (i : ℕ) (o : Option ℕ) → o ≡ Some i
+    → (k : ℕ) × (o ≡ Some k) × IsLargeAt (joined (old k key) (place_part i key t k key)) → IsLargeAt (joined (old i key) (Some t))
+last_large old t key i o is at =
+    let same : at.0 ≡ i = some_same at.0 i (sym at.1 ∙ is) in
+    let here = subst (λ (k : ℕ). IsLargeAt (joined (old k key) (place_part i key t k key))) same at.2 in
+    subst (λ (p : Option Total). IsLargeAt (joined (old i key) p)) (own_place i key t) here

@@ -23,7 +23,7 @@ use Rattle.ipfix_elements.specs.Elements.{iana, kind_of}
 use Rattle.ipfix_elements.specs.Values.{number_in}
 use Rattle.ipfix_elements.specs.declared.kind.Kind.TheVariants.{Millis}
 use Rattle.ipfix_wire.specs.declared.specifier.ElementId.{ElementId}
-use Rattle.flow_table.specs.Reading.{number_as, time_in, time_of, time_before, micros_time, nanos_time, delta_time, fine_time, unsigned32_of, duration_of, basic_end, told_start, told_end, start_by_duration, end_by_duration, init_time, uptime_at_start, uptime_at_end, first_time, uptime_end_of, latest_end, is_known, uptime_time, uptime_start, uptime_end, any_start, any_end, fine_start, fine_end, basic_start, other_start, other_end, start_of, end_of, key_of, is_too_long, flow_class, class_of, IsUsed}
+use Rattle.flow_table.specs.Reading.{number_as, time_in, time_of, time_before, micros_time, nanos_time, delta_time, fine_time, unsigned32_of, duration_of, basic_end, told_start, told_end, start_by_duration, end_by_duration, init_time, uptime_at_start, uptime_at_end, first_time, uptime_end_of, latest_end, is_known, uptime_time, uptime_start, uptime_end, any_start, any_end, fine_start, fine_end, basic_start, other_start, other_end, start_of, start_without_uptime, end_of, end_without_uptime, key_of, is_too_long, flow_class, class_of, IsUsed}
 use Rattle.flow_table.proofs.UsedRecords.{is_used}
 
 -- ---- times
@@ -130,14 +130,14 @@ or_none : (o p : Option ℕ) → p ≡ None → option_or o p ≡ o
 or_none None p h = h
 or_none (Some t) p h = refl
 
-pub start_without : (r : DataRecord) → octets_of init_time r.fields ≡ None → start_of times.All r ≡ option_or (told_start r) (start_by_duration r (told_end r))
+pub start_without : (r : DataRecord) → octets_of init_time r.fields ≡ None → start_of times.All r ≡ start_without_uptime r
 unfolding start_of
 start_without r h =
     ap (λ (o : Option ℕ). option_or (basic_start r) (option_or (fine_start r) (option_or o (start_by_duration r (any_end r))))) (no_uptime uptime_at_start r h)
     ∙ ap (λ (o : Option ℕ). option_or (basic_start r) (option_or (fine_start r) (start_by_duration r o))) (or_none (told_end r) (uptime_end r) (no_uptime uptime_at_end r h))
     ∙ or_assoc (basic_start r) (fine_start r) (start_by_duration r (told_end r))
 
-pub end_without : (r : DataRecord) → octets_of init_time r.fields ≡ None → end_of times.All r ≡ option_or (told_end r) (end_by_duration r (told_start r))
+pub end_without : (r : DataRecord) → octets_of init_time r.fields ≡ None → end_of times.All r ≡ end_without_uptime r
 unfolding end_of
 end_without r h =
     ap (λ (o : Option ℕ). option_or (basic_end r) (option_or (fine_end r) (option_or o (end_by_duration r (any_start r))))) (no_uptime uptime_at_end r h)

@@ -9,6 +9,7 @@ use Rattle.ipfix_elements.specs.declared.kind.Kind.{Kind}
 use Rattle.flow_table.specs.Fitting.{IsCellOf}
 use Rattle.ipfix_elements.specs.declared.kind.Kind.TheVariants.{Unsigned, Ipv4, Ipv6, Mac, Seconds, Millis, Octets}
 use Rattle.flow_table.specs.Plans.{IsPlan, PlanValue}
+use Rattle.flow_table.specs.Readings.{HaveWords}
 use Rattle.flow_table.specs.Words.{address_words, spelled, both_words, cell_words, first_of, key_words, word_count, words_of_kind}
 use Rattle.flow_table.proofs.Octets.{eight_spell, octets_pass}
 
@@ -90,7 +91,7 @@ no_more : (kinds : List Kind) (ws : List ℕ) → AllZip IsCellOf kinds [] → b
 no_more [] ws fits = ap (λ (vs : List ℕ). Some vs) (append-nil ws)
 no_more (kind ∷ kinds) ws fits = absurd fits
 
-pub words_done : (cells : List Cell) (i : ℕ) (ws : List ℕ) → length cells ≤ i → WordsSoFar cells ws i → (kinds : List Kind) → AllZip IsCellOf kinds cells → key_words kinds cells ≡ Some ws
+pub words_done : (cells : List Cell) (i : ℕ) (ws : List ℕ) → length cells ≤ i → WordsSoFar cells ws i → HaveWords cells ws
 words_done cells i ws l so_far kinds fits =
     let s = so_far kinds fits in
     let none = drop_all i cells l in

@@ -52,6 +52,10 @@ rows_in table = map value_of table.rows.items
 abbrev pub all_records : List (List DataRecord) → List DataRecord
 all_records lists = flat_map (λ rs. rs) lists
 
+-- for all lists of records whose tables these are
+abbrev pub ForListsOf : PlanValue → List Table → (List (List DataRecord) → Type 0) → Type 0
+ForListsOf plan tables P = (lists : List (List DataRecord)) → AllZip (IsTable plan) lists tables → P lists
+
 -- rows are what those of the tables of lists of records add up to
 pub record AreRowsOfAll (plan : PlanValue) (lists : List (List DataRecord)) (rows : List RowValue) : Type 0 where
   pub tables : List Table

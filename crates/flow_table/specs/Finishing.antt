@@ -1,11 +1,14 @@
 -- The rows of a finished table.
-use Rattle.std.specs.Prelude.{◌≡◌, ℕ, suc, List, map, All, Contains, drop, slice_index_or, Option, Some}
+use Rattle.std.specs.Prelude.{◌≡◌, ℕ, suc, List, length, map, All, Contains, drop, slice_index_or, Option, Some}
 use Rattle.std.specs.List.Sorted.{IsStrictlySortedBy}
 use Rattle.std.specs.declared.cmp.Ordering.{Ordering}
 use Rattle.flow_rows.specs.Rows.{Row as FlatRow, IsRun, total_at}
 use Rattle.ipfix_elements.specs.declared.cell.Cell.{Cell}
 use Rattle.ipfix_elements.specs.declared.kind.Kind.{Kind}
+use Rattle.flow_table.specs.declared.rows.Rows.{Rows}
 use Rattle.flow_table.specs.declared.table.Row.{Row}
+use Rattle.flow_table.specs.Plans.{PlanValue}
+use Rattle.flow_table.specs.Rows.{rows_in}
 use Rattle.flow_table.specs.Tables.{place_of, place_cmp}
 use Rattle.flow_table.specs.Totals.{Total, total}
 use Rattle.flow_table.specs.Words.{first_of, key_from}
@@ -31,6 +34,10 @@ pub record AreRunLines (kinds : List Kind) (n : ℕ) (rows : List FlatRow) (line
   pub ascends : IsRun run
   pub same : (q : List ℕ) (i : ℕ) → total_at run q i ≡ total_at rows q i
   pub are : lines ≡ map (line_from kinds n) run
+
+-- those of the rows of a plan
+abbrev pub AreLinesFrom : PlanValue → Rows → List Line → Type 0
+AreLinesFrom plan rows lines = AreRunLines plan.kinds (length plan.counters) (rows_in rows) lines
 
 -- the lines of all totals, in order
 pub record AreLinesOf (kept : ℕ → List Cell → Option Total) (lines : List Line) : Type 0 where

@@ -1,5 +1,5 @@
 -- Rows and tables by their values, and the rows that words and numbers stand for.
-use Rattle.std.specs.Prelude.{ℕ, suc, List, map, drop, slice_index_or}
+use Rattle.std.specs.Prelude.{◌≡◌, ℕ, suc, List, map, drop, slice_index_or}
 use Rattle.std.specs.Global.{Global}
 use Rattle.flow_rows.specs.Rows.{Row as FlatRow}
 use Rattle.ipfix_elements.specs.declared.kind.Kind.{Kind}
@@ -9,7 +9,7 @@ use Rattle.flow_table.specs.declared.run.Run.TheVariants.{Two, Four, Six, Nine, 
 use Rattle.flow_table.specs.declared.table.Row.{Row}
 use Rattle.flow_table.specs.declared.table.Table.{Table}
 use Rattle.flow_table.specs.declared.tally.Tally.{Tally}
-use Rattle.flow_table.specs.SameTables.{RowValue, row_value}
+use Rattle.flow_table.specs.SameTables.{RowValue, row_value, value_of}
 use Rattle.flow_table.specs.Vectors.{vec_of}
 use Rattle.flow_table.specs.Words.{first_of, key_from}
 
@@ -24,6 +24,10 @@ table_of alloc rows tally missing = record { rows = vec_of alloc (map (row_of al
 -- what words and numbers say under these kinds and so many counters
 abbrev pub value_from : List Kind → ℕ → FlatRow → RowValue
 value_from kinds n x = row_value (slice_index_or x.key 0 0) (key_from kinds (drop 1 x.key)) (first_of n (λ i. slice_index_or x.numbers (suc i) 0)) (slice_index_or x.numbers 0 0)
+
+-- a row says what words and numbers do
+abbrev pub IsRowFrom : List Kind → ℕ → Row → FlatRow → Type 0
+IsRowFrom kinds n row x = value_of row ≡ value_from kinds n x
 
 abbrev pub run_in : Run → List FlatRow
 run_in (Two rows) = rows.items

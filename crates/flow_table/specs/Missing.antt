@@ -1,5 +1,5 @@
 -- How many records of a list lack what a plan asks of them: a time, a key or a counter.
-use Rattle.std.specs.Prelude.{◌≡◌, ℕ, zero, suc, ◌+◌, ◌^◌, ◌<◌, ◌==◌, ◌&&◌, Bool, false, is_none, is_some, if◌then◌else◌, List, [], ◌∷◌, length, map, filter, All, Option, Some, None, option_map}
+use Rattle.std.specs.Prelude.{◌≡◌, ℕ, zero, suc, ◌+◌, ◌-◌, ◌^◌, ◌<◌, ◌==◌, ◌&&◌, min, Bool, false, is_none, is_some, if◌then◌else◌, List, [], ◌∷◌, length, map, filter, All, Option, Some, None, option_map}
 use Rattle.std.specs.List.{range_with_len}
 use Rattle.ipfix_wire.specs.declared.specifier.ElementId.{ElementId}
 use Rattle.ipfix_elements.specs.declared.kind.Kind.{Kind}
@@ -61,6 +61,10 @@ missing_of plan rs = record {
 }
 
 -- ---- sums
+
+-- what would be 2^64 or more stays below it
+abbrev pub capped : ℕ → ℕ
+capped n = min n (2 ^ 64 - 1)
 
 -- of two lists of records
 abbrev pub missing_sum : Missing → Missing → Missing

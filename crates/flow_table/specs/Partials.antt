@@ -1,5 +1,5 @@
 -- What a partial table stands for: a list of data records.
-use Rattle.std.specs.Prelude.{◌≡◌, ℕ, ◌+◌, ◌^◌, ◌<◌, ◌==◌, if◌then◌else◌, List, ◌++◌, map, Option, Some, None, Result, OnOk}
+use Rattle.std.specs.Prelude.{◌≡◌, ℕ, ◌+◌, ◌^◌, ◌<◌, ◌≤◌, ◌==◌, if◌then◌else◌, List, [], ◌∷◌, ◌++◌, map, Option, Some, None, IsSome, Result, OnOk}
 use Rattle.ipfix_elements.specs.declared.cell.Cell.{Cell}
 use Rattle.ipfix_message.specs.declared.record.DataRecord.{DataRecord}
 use Rattle.flow_table.specs.declared.class.Class.{Class}
@@ -24,6 +24,10 @@ use Rattle.flow_table.specs.Words.{key_from}
 -- the totals of the row of an interval and a key, if there is one
 unfoldable pub totals_at : PlanValue → List DataRecord → ℕ → List Cell → Option Total
 totals_at plan rs k key = if flows_at plan rs k key == 0 then None else Some (total (map (sum_at plan rs k key) plan.counters) (flows_at plan rs k key))
+
+-- those of one record alone
+abbrev pub totals_of_one : PlanValue → DataRecord → ℕ → List Cell → Option Total
+totals_of_one plan r k key = totals_at plan (r ∷ []) k key
 
 -- the totals and the tally are those of the table of a list that isn't too large, and whose keys fit
 pub record HoldsTable (plan : PlanValue) (rows : Rows) (tally : Tally) (rs : List DataRecord) : Type 0 where
@@ -55,6 +59,14 @@ plan_of p = p.plan
 unfoldable pub fault_of : Partial → Option TableFault
 fault_of p = p.fault
 
+-- it answers one
+abbrev pub Failed : Partial → Type 0
+Failed p = IsSome (fault_of p)
+
+-- some number of a list of records under its plan has no place in 64 bits
+abbrev pub IsTooLargeFor : Partial → List DataRecord → Type 0
+IsTooLargeFor p rs = IsTooLarge (plan_of p) rs
+
 -- the totals of a key that was read have no place in 64 bits at an interval, with those of more
 abbrev pub LargeWith : PlanValue → Rows → (ℕ → List Cell → Option Total) → Room → Type 0
 LargeWith plan rows more room = AtLast room (λ k. IsLargeAt (joined (kept_at plan rows k (key_from plan.kinds room.words.items)) (more k (key_from plan.kinds room.words.items))))
@@ -72,9 +84,13 @@ NamesRow fault plan room rs = fault ≡ Some SumTooLarge → IsNamed plan room.l
 unfoldable pub StandsFor : Partial → List DataRecord → Type 0
 StandsFor p rs = StandsBy p.fault p.plan p.rows p.tally rs × CountsMissing p.fault p.plan p.missing rs × NamesRow p.fault p.plan p.room rs
 
--- for each list of records that it stands for; and for each two lists of two partial tables, one after the other
+-- for each list of records that it stands for; the same, and its plan; and for each two lists of two partial tables, one
+-- after the other
 abbrev pub ForRecords : Partial → (List DataRecord → Type 0) → Type 0
 ForRecords p P = (rs : List DataRecord) → StandsFor p rs → P rs
+
+abbrev pub ForLists : Partial → (PlanValue → List DataRecord → Type 0) → Type 0
+ForLists p P = ForRecords p (λ rs. P (plan_of p) rs)
 
 abbrev pub ForBoth : Partial → Partial → (List DataRecord → Type 0) → Type 0
 ForBoth p other P = (rs qs : List DataRecord) → StandsFor p rs → StandsFor other qs → P (rs ++ qs)
@@ -85,11 +101,11 @@ Adds before more after = ForRecords before (λ rs. StandsFor after (rs ++ more))
 
 -- if these records are added without a fault, none of the numbers is too large
 abbrev pub IsSmallIfOk : {X : Type 0} → Partial → List DataRecord → Result X TableFault → Type 0
-IsSmallIfOk before more result = ForRecords before (λ rs. OnOk result (IsTooLarge (plan_of before) (rs ++ more) → ⊥))
+IsSmallIfOk before more result = ForRecords before (λ rs. OnOk result (IsTooLargeFor before (rs ++ more) → ⊥))
 
 -- and if they are refused as too large, one is
 abbrev pub IsLargeIfSumTooLarge : {X : Type 0} → Partial → List DataRecord → Result X TableFault → Type 0
-IsLargeIfSumTooLarge before more result = ForRecords before (λ rs. OnSumTooLarge result (IsTooLarge (plan_of before) (rs ++ more)))
+IsLargeIfSumTooLarge before more result = ForRecords before (λ rs. OnSumTooLarge result (IsTooLargeFor before (rs ++ more)))
 
 -- ---- tallies
 
@@ -122,6 +138,10 @@ count_in t Backward = t.backward
 count_in t Unkeyed = t.unkeyed
 count_in t TooLong = t.too_long
 count_in t Used = t.used
+
+-- the records of some class in two tallies are too many to be counted
+abbrev pub AreTooManyTogether : Tally → Tally → Type 0
+AreTooManyTogether a b = (class : Class) × (2 ^ 64 ≤ count_in a class + count_in b class)
 
 -- each count has a place in 64 bits
 abbrev pub CountsFit : Tally → Type 0

@@ -132,9 +132,9 @@ plan_with length method keys kinds counters max_spread choices = record {
 abbrev pub chosen_plan : List Known → Choices → ℕ → Method → List Key → List ElementId → ℕ → PlanValue
 chosen_plan known choices length method keys counters max_spread = plan_with length method keys (kinds_of known keys) counters max_spread choices
 
--- one that chooses nothing
-abbrev pub plan_value : List Known → ℕ → Method → List Key → List ElementId → ℕ → PlanValue
-plan_value known length method keys counters max_spread = chosen_plan known basic length method keys counters max_spread
+-- one whose elements are built in, and that chooses nothing
+abbrev pub plan_value : ℕ → Method → List Key → List ElementId → ℕ → PlanValue
+plan_value length method keys counters max_spread = chosen_plan [] basic length method keys counters max_spread
 
 -- the keys of a plan, each with its kind
 abbrev pub keys_and_kinds : PlanValue → List (Key × Kind)
@@ -235,10 +235,14 @@ element_in Exported k = exported_element k
 abbrev pub elements_in : Side → List Key → List ElementId → List ElementId
 elements_in side keys counters = map (element_in side) keys ++ counters
 
--- whether an element stands twice in a list
+-- whether an element stands in a list
+abbrev pub is_among : ElementId → List ElementId → Bool
+is_among e es = list_any (λ other. same_element other e) es
+
+-- whether one stands twice
 abbrev pub has_twice : List ElementId → Bool
 has_twice [] = false
-has_twice (e ∷ es) = list_any (λ other. same_element other e) es || has_twice es
+has_twice (e ∷ es) = is_among e es || has_twice es
 
 -- the first of two faults, if there is one
 abbrev pub or_else : Option PlanFault → Option PlanFault → Option PlanFault
@@ -289,6 +293,18 @@ first_fault known length keys counters max_spread = fault_among OfRecords known 
 -- the first fault that fits what a plan says, whatever kinds it has
 abbrev pub first_fault_of : List Known → PlanValue → Option PlanFault
 first_fault_of known plan = chosen_fault known plan.choices plan.length plan.keys plan.counters plan.max_spread
+
+-- no fault fits it
+abbrev pub IsValid : List Known → PlanValue → Type 0
+IsValid known plan = first_fault_of known plan ≡ None
+
+-- for each such plan
+abbrev pub ForValid : List Known → (PlanValue → Type 0) → Type 0
+ForValid known P = (plan : PlanValue) → IsValid known plan → P plan
+
+-- keys have the kinds that they have without files
+abbrev pub KindsStay : List Known → List Key → Type 0
+KindsStay known keys = kinds_of known keys ≡ kinds_of [] keys
 
 -- ---- what holds of every plan
 

@@ -1,5 +1,5 @@
 -- Data records read under a plan: start and end, key, counters and class (RFC 7015, section 5).
-use Rattle.std.specs.Prelude.{◌≡◌, ℕ, ◌+◌, ◌-◌, ◌*◌, ◌/◌, ◌^◌, ◌<◌, ◌≤◌, ◌&&◌, Bool, true, false, nat_lt, nat_le, if◌then◌else◌, List, [], ◌∷◌, Option, Some, None, is_none, unwrap_or, option_map, option_and_then}
+use Rattle.std.specs.Prelude.{◌≡◌, ℕ, ◌+◌, ◌-◌, ◌*◌, ◌/◌, ◌^◌, ◌<◌, ◌≤◌, ◌&&◌, Bool, true, false, nat_lt, nat_le, if◌then◌else◌, List, [], ◌∷◌, map, Option, Some, None, is_none, unwrap_or, option_map, option_and_then}
 use Rattle.std.specs.Option.{option_or}
 use Rattle.ipfix_wire.specs.declared.specifier.ElementId.{ElementId}
 use Rattle.ipfix_elements.specs.declared.cell.Cell.{Cell}
@@ -39,6 +39,10 @@ number_of element r = number_as (Unsigned Eight) element r
 -- a counter that is missing or absent is 0
 abbrev pub counter_of : ElementId → DataRecord → ℕ
 counter_of element r = unwrap_or (number_of element r) 0
+
+-- the counters of a record, one for each element
+abbrev pub counters_of : List ElementId → DataRecord → List ℕ
+counters_of elements r = map (λ c. counter_of c r) elements
 
 -- a counter of a record is above 2^63: two such ones are too large a sum
 abbrev pub is_great : DataRecord → ElementId → Bool
@@ -163,6 +167,19 @@ uptime_start r = uptime_time uptime_at_start r
 abbrev pub uptime_end : DataRecord → Option ℕ
 uptime_end r = uptime_time uptime_at_end r
 
+-- a time by the uptime of an element is no guess: however often that began anew, up to a latest time, the time that follows is
+-- the one that is read, or none is
+abbrev pub IsSure : DataRecord → ElementId → ℕ → Type 0
+IsSure r element latest =
+    (first rounds time : ℕ) → first_time element r ≡ Some first → first + rounds * 2 ^ 32 ≤ latest → uptime_time element r ≡ Some time → time ≡ first + rounds * 2 ^ 32
+
+-- the start, and the end, that an element says which is no uptime, or that follows by the duration from the other that one says
+abbrev pub start_without_uptime : DataRecord → Option ℕ
+start_without_uptime r = option_or (told_start r) (start_by_duration r (told_end r))
+
+abbrev pub end_without_uptime : DataRecord → Option ℕ
+end_without_uptime r = option_or (told_end r) (end_by_duration r (told_start r))
+
 -- the start, and the end, that an element or an uptime says
 abbrev pub any_start : DataRecord → Option ℕ
 any_start r = option_or (told_start r) (uptime_start r)
@@ -188,6 +205,14 @@ start_of times.All r = option_or (basic_start r) (other_start r)
 unfoldable pub end_of : Times → DataRecord → Option ℕ
 end_of times.Basic r = basic_end r
 end_of times.All r = option_or (basic_end r) (other_end r)
+
+-- where the first of two ways to read times gives one, the second gives the same
+abbrev pub TimesStay : (DataRecord → Option ℕ) → (DataRecord → Option ℕ) → Type 0
+TimesStay first second = (r : DataRecord) (time : ℕ) → first r ≡ Some time → second r ≡ Some time
+
+-- both give the same of each record without an element
+abbrev pub AgreeWithout : ElementId → (DataRecord → Option ℕ) → (DataRecord → Option ℕ) → Type 0
+AgreeWithout element first second = (r : DataRecord) → octets_of element r.fields ≡ None → first r ≡ second r
 
 -- ---- keys (RFC 7015, section 5.2)
 

@@ -1,5 +1,5 @@
 -- What reading a data record under a plan answers.
-use Rattle.std.specs.Prelude.{◌≡◌, ℕ, ◌+◌, ◌-◌, ◌^◌, min, if◌then◌else◌, List, length, Option, Some, None, slice_index_or}
+use Rattle.std.specs.Prelude.{◌≡◌, ℕ, ◌+◌, if◌then◌else◌, List, length, Option, Some, None}
 use Rattle.std.specs.List.{AllZip}
 use Rattle.ipfix_wire.specs.declared.specifier.ElementId.{ElementId}
 use Rattle.ipfix_elements.specs.declared.cell.Cell.{Cell}
@@ -13,10 +13,10 @@ use Rattle.flow_table.specs.declared.words.CellWords.{CellWords}
 use Rattle.flow_table.specs.Fitting.{FitsKeys, IsCellOf}
 use Rattle.flow_table.specs.Flows.{HasIntervals}
 use Rattle.flow_table.specs.LeftOut.{IsLeftOut}
-use Rattle.flow_table.specs.Missing.{is_absent_at}
+use Rattle.flow_table.specs.Missing.{capped, is_absent_at}
 use Rattle.flow_table.specs.Plans.{PlanValue}
 use Rattle.flow_table.specs.Reading.{cells_of, IsUsed}
-use Rattle.flow_table.specs.Words.{cell_words, key_words, words_in}
+use Rattle.flow_table.specs.Words.{HasWords, key_words, nth, words_in}
 
 -- ---- keys
 
@@ -25,7 +25,7 @@ pub record HasCell (kind : Kind) (found : Option Cell) (words : List ℕ) : Type
   pub cell : Cell
   pub is : found ≡ Some cell
   pub fits : IsCellOf kind cell
-  pub are : cell_words kind cell ≡ Some words
+  pub are : HasWords kind cell words
 
 -- the words of a cell of the kind, if there is one
 abbrev pub ReadsCell : Kind → Option Cell → Option CellWords → Type 0
@@ -43,6 +43,10 @@ pub record HasKey (keys : List Key) (kinds : List Kind) (r : DataRecord) (words 
 abbrev pub ReadsKey : List Key → List Kind → DataRecord → List ℕ → Option ℕ → Type 0
 ReadsKey keys kinds r words None = HasKey keys kinds r words
 ReadsKey keys kinds r words (Some place) = cells_of keys kinds r ≡ None
+
+-- under all kinds that cells have, these are their words
+abbrev pub HaveWords : List Cell → List ℕ → Type 0
+HaveWords cells words = (kinds : List Kind) → AllZip IsCellOf kinds cells → key_words kinds cells ≡ Some words
 
 -- ---- records
 
@@ -62,4 +66,4 @@ ReadsAs plan r words (Used flow) = IsUsedBy plan r flow words
 -- one more at the place of each element that is missing or absent, but at most 2^64 - 1
 pub record Notes (before : List ℕ) (elements : List ElementId) (r : DataRecord) (after : List ℕ) : Type 0 where
   pub long : length after ≡ length before
-  pub counts : (c : ℕ) → slice_index_or after c 0 ≡ min (slice_index_or before c 0 + (if is_absent_at elements c r then 1 else 0)) (2 ^ 64 - 1)
+  pub counts : (c : ℕ) → nth after c ≡ capped (nth before c + (if is_absent_at elements c r then 1 else 0))

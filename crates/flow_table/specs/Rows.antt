@@ -1,11 +1,13 @@
 -- Totals by interval and key, and the rows that they are kept in.
-use Rattle.std.specs.Prelude.{◌≡◌, ℕ, suc, ◌+◌, ◌==◌, ◌<◌, ◌≤◌, Bool, List, length, Option, Some, None, if◌then◌else◌, slice_index_or}
+use Rattle.std.specs.Prelude.{◌≡◌, ℕ, suc, ◌+◌, ◌==◌, ◌<◌, ◌≤◌, Bool, List, ◌∷◌, length, Option, Some, None, Result, OnOk, if◌then◌else◌, slice_index_or}
 use Rattle.std.specs.Ordering.{nat_cmp, is_eq}
 use Rattle.flow_rows.specs.Rows.{Row, SomeTooLarge, part, row, total_at}
 use Rattle.ipfix_elements.specs.declared.cell.Cell.{Cell}
 use Rattle.flow_table.specs.declared.rows.Rows.{Rows}
 use Rattle.flow_table.specs.declared.rows.Rows.TheVariants.{Two, Four, Six, Nine, Most}
+use Rattle.flow_table.specs.declared.table_fault.TableFault.{TableFault}
 use Rattle.flow_table.specs.Plans.{PlanValue}
+use Rattle.flow_table.specs.TableFaults.{OnSumTooLarge}
 use Rattle.flow_table.specs.Tables.{key_cmp}
 use Rattle.flow_table.specs.Totals.{IsLargeAt, Total, joined, total}
 use Rattle.flow_table.specs.Words.{first_of, padded, place_words, word_count}
@@ -59,6 +61,9 @@ number_at rows q i = total_at (rows_in rows) q i
 abbrev pub padded_to : ℕ → ℕ → List ℕ → List ℕ → Row
 padded_to width depth words numbers = row (padded width words) (padded depth numbers)
 
+abbrev pub row_in : ℕ → ℕ → ℕ → List ℕ → ℕ → List ℕ → Row
+row_in width depth interval words flows sums = padded_to width depth (interval ∷ words) (flows ∷ sums)
+
 abbrev pub padded_row : Rows → List ℕ → List ℕ → Row
 padded_row rows words numbers = padded_to (width_of rows) (depth_of rows) words numbers
 
@@ -69,13 +74,28 @@ both a b q i = a q i + b q i
 abbrev pub SameNumbers : (List ℕ → ℕ → ℕ) → (List ℕ → ℕ → ℕ) → Type 0
 SameNumbers a b = (q : List ℕ) (i : ℕ) → a q i ≡ b q i
 
+-- rows have the numbers of two others together; and some number of two at the words of a key has no place in 64 bits together
+abbrev pub IsSum : List Row → List Row → List Row → Type 0
+IsSum a b sum = SameNumbers (total_at sum) (both (total_at a) (total_at b))
+
+abbrev pub AddTooLarge : List Row → List Row → List ℕ → Type 0
+AddTooLarge a b q = SomeTooLarge (both (total_at a) (total_at b) q)
+
 -- some number has no place in 64 bits with a row more
 abbrev pub IsTooLargeWithRow : (List ℕ → ℕ → ℕ) → Row → Type 0
 IsTooLargeWithRow numbers more = SomeTooLarge (λ i. numbers more.key i + slice_index_or more.numbers i 0)
 
+-- a sum is too large only where some number of rows is, with a row of these words and numbers more
+abbrev pub TooLargeWith : {X : Type 0} → Result X TableFault → Rows → List ℕ → List ℕ → Type 0
+TooLargeWith result rows words numbers = OnSumTooLarge result (IsTooLargeWithRow (number_at rows) (padded_row rows words numbers))
+
 -- the numbers of one row more
+abbrev pub AddsTo : List Row → Row → List Row → Type 0
+AddsTo old more new = SameNumbers (total_at new) (both (total_at old) (λ q i. part q i more))
+
+-- the same of rows, and of words and numbers
 abbrev pub AddsRow : Rows → List ℕ → List ℕ → Rows → Type 0
-AddsRow old words numbers new = (q : List ℕ) (i : ℕ) → number_at new q i ≡ number_at old q i + part q i (padded_row old words numbers)
+AddsRow old words numbers new = AddsTo (rows_in old) (padded_row old words numbers) (rows_in new)
 
 -- rows of the same width and depth
 abbrev pub AreAlike : Rows → Rows → Type 0
@@ -118,6 +138,14 @@ pub record AreRowsOf (plan : PlanValue) (rows : Rows) : Type 0 where
 abbrev pub AddsTotals : PlanValue → Rows → (ℕ → List Cell → Option Total) → Rows → Type 0
 AddsTotals plan old more new = (k : ℕ) (q : List Cell) → kept_at plan new k q ≡ joined (kept_at plan old k q) (more k q)
 
--- totals that had a place in 64 bits have one still
+-- unless it fails, more was added to rows of the plan
+abbrev pub AddsIfOk : {X : Type 0} → Result X TableFault → PlanValue → Rows → (ℕ → List Cell → Option Total) → Rows → Type 0
+AddsIfOk result plan old more new = AreRowsOf plan old → OnOk result (AddsTotals plan old more new)
+
+-- all totals have a place in 64 bits
+abbrev pub AreSmall : PlanValue → Rows → Type 0
+AreSmall plan rows = (k : ℕ) (q : List Cell) → IsLargeAt (kept_at plan rows k q) → ⊥
+
+-- those that had one have one still
 abbrev pub StaySmall : PlanValue → Rows → Rows → Type 0
 StaySmall plan old new = (k : ℕ) (q : List Cell) → (IsLargeAt (kept_at plan old k q) → ⊥) → IsLargeAt (kept_at plan new k q) → ⊥

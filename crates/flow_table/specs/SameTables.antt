@@ -1,5 +1,5 @@
 -- Tables with the same rows.
-use Rattle.std.specs.Prelude.{◌≡◌, ℕ, List, map}
+use Rattle.std.specs.Prelude.{◌≡◌, ℕ, List, map, slice_index_or}
 use Rattle.ipfix_elements.specs.declared.cell.Cell.{Cell}
 use Rattle.flow_table.specs.declared.table.Row.{Row}
 use Rattle.flow_table.specs.declared.table.Table.{Table}
@@ -16,6 +16,10 @@ row_value interval key sums flows = record { interval = interval; key = key; sum
 
 abbrev pub value_of : Row → RowValue
 value_of row = row_value row.interval row.key.items row.sums.items row.flows
+
+-- of the element at an index of a list this holds
+abbrev pub AtIndex : {X : Type 0} → List X → ℕ → (X → Type 0) → Type 0
+AtIndex {X} xs index P = (d : X) → P (slice_index_or xs index d)
 
 -- the same rows in the same order, the same tally, and the same missing
 pub record IsSameTable (t u : Table) : Type 0 where

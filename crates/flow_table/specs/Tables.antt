@@ -11,6 +11,7 @@ use Rattle.ipfix_elements.specs.Cells.{cell_cmp}
 use Rattle.ipfix_message.specs.declared.record.DataRecord.{DataRecord}
 use Rattle.flow_table.specs.declared.class.Class.{Class}
 use Rattle.flow_table.specs.declared.class.Class.TheVariants.{Options, Untimed, Backward, Unkeyed, TooLong, Used}
+use Rattle.flow_table.specs.declared.missing.Missing.{Missing}
 use Rattle.flow_table.specs.declared.table.Row.{Row}
 use Rattle.flow_table.specs.declared.table.RowPlace.{RowPlace}
 use Rattle.flow_table.specs.declared.table.Table.{Table}
@@ -35,6 +36,10 @@ tally_of plan rs = record {
   too_long = count_of plan rs TooLong;
   used = count_of plan rs Used;
 }
+
+-- for what the records of each list lack under each plan, and their tally
+abbrev pub ForCounts : (PlanValue → Missing → Tally → Type 0) → Type 0
+ForCounts P = (plan : PlanValue) (rs : List DataRecord) → P plan (missing_of plan rs) (tally_of plan rs)
 
 -- ---- the flows of an interval and a key
 

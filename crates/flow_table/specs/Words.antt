@@ -1,5 +1,5 @@
 -- The words of a place, an interval and a key, which compare as places do.
-use Rattle.std.specs.Prelude.{ℕ, zero, suc, ◌+◌, ◌*◌, ◌==◌, ◌&&◌, nat_lt, Bool, List, [], ◌∷◌, ◌++◌, length, take, drop, slice_index_or, Option, Some, None, option_map, if◌then◌else◌}
+use Rattle.std.specs.Prelude.{◌≡◌, ℕ, zero, suc, ◌+◌, ◌*◌, ◌==◌, ◌&&◌, nat_lt, Bool, List, [], ◌∷◌, ◌++◌, length, take, drop, slice_index_or, Option, Some, None, option_map, if◌then◌else◌}
 use Rattle.std.specs.Int.{w64, to_be_bytes}
 use Rattle.std.specs.List.{list_all}
 use Rattle.ipfix_elements.specs.declared.cell.Cell.{Cell}
@@ -30,6 +30,9 @@ cell_words kinds.Ipv4 (cells.Ipv4 address) = address_words 4 address (spelled 0 
 cell_words kinds.Ipv6 (cells.Ipv6 address) = address_words 16 address (spelled 0 (take 8 address) ∷ spelled 0 (drop 8 address) ∷ [])
 cell_words kinds.Mac (cells.Mac address) = address_words 6 address (spelled 0 address ∷ [])
 cell_words kind cell = None
+
+abbrev pub HasWords : Kind → Cell → List ℕ → Type 0
+HasWords kind cell words = cell_words kind cell ≡ Some words
 
 -- one word, or two
 abbrev pub words_in : CellWords → List ℕ
@@ -73,6 +76,10 @@ abbrev pub padded : ℕ → List ℕ → List ℕ
 padded zero ws = []
 padded (suc n) [] = 0 ∷ padded n []
 padded (suc n) (w ∷ ws) = w ∷ padded n ws
+
+-- the number at a place, 0 after the last
+abbrev pub nth : List ℕ → ℕ → ℕ
+nth ns i = slice_index_or ns i 0
 
 -- the first so many numbers of all
 abbrev pub first_of : ℕ → (ℕ → ℕ) → List ℕ

@@ -1,12 +1,9 @@
 //! Adding a flow to the totals of its intervals.
 
 ghost use Rattle.std.specs.Prelude.{◌≡◌, ◌≤◌, ◌<◌, ◌+◌, ◌∷◌, ℕ, List, Some, OnOk, length, if◌then◌else◌};
-ghost use Rattle.ipfix_elements.specs.declared.cell.Cell.{Cell as CellValue};
-ghost use Rattle.flow_table.specs.Flows.{HasIntervals, AtLast, WithKey, read_part, read_total};
+ghost use Rattle.flow_table.specs.Flows.{AddsRead, HasIntervals, LargeAtLast, WithKey, read_at, read_part};
 ghost use Rattle.flow_table.specs.Plans.{IsPlan};
-ghost use Rattle.flow_table.specs.Totals.{IsLargeAt, joined};
-ghost use Rattle.flow_table.specs.Rows.{AddsTotals, AreRowsOf, StaySmall, kept_at, place_part};
-ghost use Rattle.flow_table.specs.TableFaults.{OnSumTooLarge};
+ghost use Rattle.flow_table.specs.Rows.{AreRowsOf, AreSmall, StaySmall};
 
 use crate::flow::Flow;
 use crate::plan::Plan;
@@ -31,8 +28,10 @@ pub struct Room {
 impl Room {
     /// Takes the first of the words, if there is one, as the interval that was added to last.
     pub fn take_interval(&mut self)
-        ensures { (k : ℕ) (others : List ℕ) → self.old.words.items ≡ k ∷ others
-            → (self.new.last ≡ Some k) × (self.new.words.items ≡ others) }
+        ensures last { (w : ℕ) (ws : List ℕ) → self.old.words.items ≡ w ∷ ws
+            → self.new.last ≡ Some w }
+        ensures words { (w : ℕ) (ws : List ℕ) → self.old.words.items ≡ w ∷ ws
+            → self.new.words.items ≡ ws }
     {
         if !self.words.is_empty() {
             self.last = Some(self.words.remove(0));
@@ -61,14 +60,9 @@ fn add_at(
     requires within { (flow.first ≤ interval) × (interval < flow.first + flow.count) }
     requires counters { length room.old.counters.items ≡ length plan.now.counters }
     ensures rows { WithKey plan.now rows.old room.old (λ key. AreRowsOf plan.now rows.new) }
-    ensures ok { WithKey plan.now rows.old room.old (λ key. OnOk result
-        (AddsTotals plan.now rows.old
-        (place_part interval key (read_total plan.now flow room.old interval)) rows.new)) }
-    ensures fits { OnOk result ((k : ℕ) (q : List CellValue)
-        → IsLargeAt (kept_at plan.now rows.new k q) → ⊥) }
-    ensures large { WithKey plan.now rows.old room.old (λ key. OnSumTooLarge result
-        (IsLargeAt (joined (kept_at plan.now rows.old interval key)
-        (Some (read_total plan.now flow room.old interval))))) }
+    ensures ok { AddsRead (read_at interval) result plan.now rows.old flow room.old rows.new }
+    ensures fits { OnOk result (AreSmall plan.now rows.new) }
+    ensures large { LargeAtLast (read_at interval) result plan.now rows.old flow room.old room.new }
     ensures at { room.new.last ≡ Some interval }
     // What was read of the flow stays.
     ensures words { room.new.words.items ≡ room.old.words.items }
@@ -87,12 +81,9 @@ pub fn add_flow(plan: &Plan, rows: &mut Rows, flow: Flow, room: &mut Room) -> Re
     requires intervals { HasIntervals plan.now flow }
     requires counters { length room.old.counters.items ≡ length plan.now.counters }
     ensures rows { WithKey plan.now rows.old room.old (λ key. AreRowsOf plan.now rows.new) }
-    ensures ok { WithKey plan.now rows.old room.old (λ key. OnOk result
-        (AddsTotals plan.now rows.old (read_part plan.now flow room.old key) rows.new)) }
+    ensures ok { AddsRead read_part result plan.now rows.old flow room.old rows.new }
     ensures fits { OnOk result (StaySmall plan.now rows.old rows.new) }
-    ensures large { WithKey plan.now rows.old room.old (λ key. OnSumTooLarge result
-        (AtLast room.new (λ k. IsLargeAt (joined (kept_at plan.now rows.old k key)
-        (read_part plan.now flow room.old key k key))))) }
+    ensures large { LargeAtLast read_part result plan.now rows.old flow room.old room.new }
     ensures words { room.new.words.items ≡ room.old.words.items }
 {
     room.interval = flow.first;

@@ -3,7 +3,7 @@
 ghost use Rattle.std.specs.Prelude.{◌≡◌};
 ghost use Rattle.std.specs.List.{list_all, list_any};
 ghost use Rattle.flow_table.specs.Plans as plans;
-ghost use Rattle.flow_table.specs.Plans.{same_element, element_in, elements_in};
+ghost use Rattle.flow_table.specs.Plans.{element_in, elements_in, fault_among, same_element};
 
 use crate::choices::{Choices, Totals};
 use crate::key::{Key, KeyElements, Side};
@@ -57,8 +57,7 @@ fn is_among_keys(element: ElementId, keys: &[Key], side: Side) -> bool
 
 // Whether the element is that of a key on that side, or a counter.
 fn is_among(element: ElementId, keys: &[Key], counters: &[ElementId], side: Side) -> bool
-    ensures { result
-        ≡ list_any (λ other. same_element other element) (elements_in side keys.now counters.now) }
+    ensures { result ≡ plans.is_among element (elements_in side keys.now counters.now) }
 {
     is_among_keys(element, keys, side) || counters.contains(&element)
 }
@@ -114,7 +113,7 @@ pub fn first_fault(
     choices: Choices,
 ) -> Option<PlanFault>
     ensures { result
-        ≡ plans.fault_among which elements.now choices length keys.now counters.now max_spread }
+        ≡ fault_among which elements.now choices length keys.now counters.now max_spread }
 {
     if length == 0 {
         return Some(PlanFault::Length);

@@ -1,12 +1,11 @@
 //! Finished tables with no block of memory for each row.
 
-ghost use Rattle.std.specs.Prelude.{◌≡◌, ◌<◌, length, map, slice_index_or, IfOk, OnOk};
-ghost use Rattle.flow_table.specs.AddedUp.{rows_in as rows_of};
-ghost use Rattle.flow_table.specs.Finishing.{AreRunLines, line_of};
+ghost use Rattle.std.specs.Prelude.{◌≡◌, ◌<◌, length, map, IfOk, OnOk};
+ghost use Rattle.flow_table.specs.AddedUp.{rows_in};
+ghost use Rattle.flow_table.specs.Finishing.{AreLinesFrom, line_of};
 ghost use Rattle.flow_table.specs.Fitting.{FitsPlan, FitsRow};
 ghost use Rattle.flow_table.specs.Plans.{PlanValue};
-ghost use Rattle.flow_table.specs.Rows.{rows_in};
-ghost use Rattle.flow_table.specs.SameTables.{IsSameTable, RowValue, value_of};
+ghost use Rattle.flow_table.specs.SameTables.{AtIndex, IsSameTable, value_of};
 
 use crate::missing::Missing;
 use crate::plan::Plan;
@@ -50,8 +49,8 @@ impl FlatTable {
         tally: Tally,
         missing: Missing,
     ) -> Result<FlatTable, AllocError>
-        ensures rows { IfOk result (λ table. AreRunLines plan.kinds
-            (length plan.counters) (rows_in rows) (map line_of table.rows.items)) }
+        ensures rows { IfOk result
+            (λ table. AreLinesFrom plan rows (map line_of table.rows.items)) }
         ensures tally { IfOk result (λ table. table.tally ≡ tally) }
         ensures missing { IfOk result (λ table. table.missing ≡ missing) }
     {
@@ -79,8 +78,8 @@ impl FlatTable {
     /// After an `Err` it is open what `row` says.
     pub fn row_at(&self, index: usize, row: &mut Row) -> Result<(), AllocError>
         requires { index < length self.now.rows.items }
-        ensures row { OnOk result ((d : RowValue)
-            → value_of row.new ≡ slice_index_or (rows_of self.now) index d) }
+        ensures row { OnOk result
+            (AtIndex (rows_in self.now) index (λ value. value_of row.new ≡ value)) }
         // The rows of a table that fits a plan do.
         ensures fits { (plan : PlanValue) → FitsPlan plan self.now
             → OnOk result (FitsRow plan row.new) }
@@ -115,7 +114,7 @@ impl FlatTable {
 
     /// All rows, each with two blocks of memory.
     fn all_rows(&self) -> Result<Vec<Row>, AllocError>
-        ensures { IfOk result (λ rows. map value_of rows.items ≡ rows_of self.now) }
+        ensures { IfOk result (λ rows. map value_of rows.items ≡ rows_in self.now) }
     {
         let mut rows = Vec::with_capacity(self.alloc, self.len())?;
         for index in 0..self.len() {

@@ -1,8 +1,9 @@
 //! How many data records lack what a plan asks of them.
 
-ghost use Rattle.std.specs.Prelude.{◌≡◌, ◌+◌, ◌-◌, ◌^◌, ◌<◌, ℕ, length, min, slice_index_or};
+ghost use Rattle.std.specs.Prelude.{◌≡◌, ◌+◌, ◌<◌, ℕ, length};
 ghost use Rattle.flow_table.specs.LeftOut.{missing_in};
-ghost use Rattle.flow_table.specs.Missing.{AreAdded};
+ghost use Rattle.flow_table.specs.Missing.{AreAdded, capped};
+ghost use Rattle.flow_table.specs.Words.{nth};
 
 use crate::left_out::LeftOut;
 use crate::plan::{MAX_COUNTERS, MAX_KEYS};
@@ -62,8 +63,7 @@ pub(crate) fn missing_together(a: &Missing, b: &Missing) -> Missing
 // The sums of two lists, place by place, each at most 2^64 - 1.
 fn sums<const N: usize>(a: &[u64; N], b: &[u64; N]) -> [u64; N]
     ensures long { length result ≡ length a.now }
-    ensures sums { (i : ℕ) → i < length a.now → slice_index_or result i 0
-        ≡ min (slice_index_or a.now i 0 + slice_index_or b.now i 0) (2 ^ 64 - 1) }
+    ensures sums { (i : ℕ) → i < length a.now → nth result i ≡ capped (nth a.now i + nth b.now i) }
 {
     let mut sums = *a;
     for i in 0..N {

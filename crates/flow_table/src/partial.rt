@@ -1,12 +1,12 @@
 //! Partial tables, which records are added to and which are merged into one.
 
-ghost use Rattle.std.specs.Prelude.{◌≡◌, ◌∷◌, [], None, Some, Err, IfOk, IfErr, OnOk, IfSome, IsSome};
+ghost use Rattle.std.specs.Prelude.{◌≡◌, ◌∷◌, [], None, Some, Err, IfOk, IfErr, OnOk, IfSome};
 ghost use Rattle.flow_table.specs.Fitting.{FitsPlan};
 ghost use Rattle.ipfix_message.specs.Outcome.{unless};
-ghost use Rattle.flow_table.specs.Partials.{StandsFor, ForRecords, ForBoth, Adds, IsSmallIfOk, IsLargeIfSumTooLarge, fault_of, plan_of};
+ghost use Rattle.flow_table.specs.Partials.{Adds, ForBoth, ForLists, ForRecords, Failed, IsLargeIfSumTooLarge, IsSmallIfOk, IsTooLargeFor, StandsFor, fault_of, plan_of};
 ghost use Rattle.flow_table.specs.Reading.{class_of};
 ghost use Rattle.flow_table.specs.TableFaults.{OnSumTooLarge};
-ghost use Rattle.flow_table.specs.Tables.{AreTooMany, IsLargeRow, IsTable, IsTooLarge};
+ghost use Rattle.flow_table.specs.Tables.{AreTooMany, IsLargeRow, IsTable};
 ghost use Rattle.flow_table.specs.declared.table_fault.TableFault.TheVariants.{OutOfMemory, SumTooLarge};
 
 use crate::adding::Room;
@@ -76,7 +76,7 @@ impl Partial {
         ensures plan { plan_of self.new ≡ plan_of self.old }
         ensures answer { result
             ≡ unless (fault_of self.new) (class_of (plan_of self.old) data_record.now) }
-        ensures sticky { IsSome (fault_of self.old) → fault_of self.new ≡ fault_of self.old }
+        ensures sticky { Failed self.old → fault_of self.new ≡ fault_of self.old }
         ensures adds { Adds self.old (data_record.now ∷ []) self.new }
         ensures small { IsSmallIfOk self.old (data_record.now ∷ []) result }
         ensures large { IsLargeIfSumTooLarge self.old (data_record.now ∷ []) result }
@@ -105,14 +105,13 @@ impl Partial {
         requires { plan_of other ≡ plan_of self.old }
         ensures plan { plan_of self.new ≡ plan_of self.old }
         ensures answer { result ≡ unless (fault_of self.new) tt }
-        ensures sticky { IsSome (fault_of self.old) → fault_of self.new ≡ fault_of self.old }
-        ensures takes_over { fault_of self.old ≡ None → IsSome (fault_of other)
+        ensures sticky { Failed self.old → fault_of self.new ≡ fault_of self.old }
+        ensures takes_over { fault_of self.old ≡ None → Failed other
             → fault_of self.new ≡ fault_of other }
         ensures merges { ForBoth self.old other (StandsFor self.new) }
-        ensures small { ForBoth self.old other
-            (λ rs. OnOk result (IsTooLarge (plan_of self.old) rs → ⊥)) }
+        ensures small { ForBoth self.old other (λ rs. OnOk result (IsTooLargeFor self.old rs → ⊥)) }
         ensures large { ForBoth self.old other
-            (λ rs. OnSumTooLarge result (IsTooLarge (plan_of self.old) rs)) }
+            (λ rs. OnSumTooLarge result (IsTooLargeFor self.old rs)) }
     {
         let Partial {
             rows,
@@ -156,10 +155,10 @@ impl Partial {
     ///
     /// The error is an allocation that was refused.
     pub fn large_row(&self) -> Result<Option<RowPlace>, AllocError>
-        ensures row { ForRecords self.now
-            (λ rs. IfOk result (λ row. IfSome row (IsLargeRow (plan_of self.now) rs))) }
-        ensures none { ForRecords self.now (λ rs. IfOk result (λ row. row ≡ None
-            → fault_of self.now ≡ Some SumTooLarge → AreTooMany (plan_of self.now) rs)) }
+        ensures row { ForLists self.now
+            (λ plan rs. IfOk result (λ row. IfSome row (IsLargeRow plan rs))) }
+        ensures none { ForLists self.now (λ plan rs. IfOk result (λ row. row ≡ None
+            → fault_of self.now ≡ Some SumTooLarge → AreTooMany plan rs)) }
     {
         if self.fault != Some(TableFault::SumTooLarge) {
             return Ok(None);
@@ -180,9 +179,8 @@ impl Partial {
         ensures err { fault_of self ≡ None → IfErr result (λ e. e ≡ OutOfMemory) }
         ensures table { ForRecords self (λ rs. IfOk result (IsTable (plan_of self) rs)) }
         ensures fits { ForRecords self (λ rs. IfOk result (FitsPlan (plan_of self))) }
-        ensures small { ForRecords self (λ rs. OnOk result (IsTooLarge (plan_of self) rs → ⊥)) }
-        ensures large { ForRecords self
-            (λ rs. OnSumTooLarge result (IsTooLarge (plan_of self) rs)) }
+        ensures small { ForRecords self (λ rs. OnOk result (IsTooLargeFor self rs → ⊥)) }
+        ensures large { ForRecords self (λ rs. OnSumTooLarge result (IsTooLargeFor self rs)) }
     {
         let Partial {
             alloc,
@@ -207,9 +205,8 @@ impl Partial {
         ensures err { fault_of self ≡ None → IfErr result (λ e. e ≡ OutOfMemory) }
         ensures table { ForRecords self (λ rs. IfOk result (IsTable (plan_of self) rs)) }
         ensures fits { ForRecords self (λ rs. IfOk result (FitsPlan (plan_of self))) }
-        ensures small { ForRecords self (λ rs. OnOk result (IsTooLarge (plan_of self) rs → ⊥)) }
-        ensures large { ForRecords self
-            (λ rs. OnSumTooLarge result (IsTooLarge (plan_of self) rs)) }
+        ensures small { ForRecords self (λ rs. OnOk result (IsTooLargeFor self rs → ⊥)) }
+        ensures large { ForRecords self (λ rs. OnSumTooLarge result (IsTooLargeFor self rs)) }
     {
         Ok(self.finish_flat()?.into_table()?)
     }

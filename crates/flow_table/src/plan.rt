@@ -52,8 +52,9 @@ impl Model for Plan {
 }
 
 impl Plan {
-    ghost use Rattle.std.specs.Prelude.{◌≡◌, ◌≢◌, ◌≤◌, ◌<◌, [], Some, None, length, All, IfOk, IfErr, OnOk, IsErrOf};
+    ghost use Rattle.std.specs.Prelude.{◌≡◌, ◌≤◌, ◌<◌, [], None, length, All, IfOk, OnOk};
     ghost use Rattle.std.specs.List.{AllPass};
+    ghost use Rattle.flow_table.specs.PlanFaults.{FaultIsFirst, IfNoMemory};
     ghost use Rattle.flow_table.specs.Plans.{IsPlan, HasPrefix, is_value, is_key_kind, chosen_fault, chosen_plan, context_of, has_key, plan_value, first_fault};
 
     /// The plan of the arguments, or the first fault that fits them, in this order: `Length`,
@@ -68,16 +69,16 @@ impl Plan {
         counters: &[ElementId],
         max_spread: u32,
     ) -> Result<Plan, PlanFault>
-        ensures ok { IfOk result (λ plan. plan
-            ≡ plan_value [] length method keys.now counters.now max_spread) }
+        ensures ok { IfOk result
+            (λ p. p ≡ plan_value length method keys.now counters.now max_spread) }
         ensures sound { OnOk result
-            (IsPlan (plan_value [] length method keys.now counters.now max_spread)) }
+            (IsPlan (plan_value length method keys.now counters.now max_spread)) }
         ensures faultless { OnOk result
             (first_fault [] length keys.now counters.now max_spread ≡ None) }
-        ensures fault { IfErr result (λ fault. fault ≢ PlanFault.OutOfMemory
-            → first_fault [] length keys.now counters.now max_spread ≡ Some fault) }
-        ensures memory { IsErrOf result PlanFault.OutOfMemory
-            → first_fault [] length keys.now counters.now max_spread ≡ None }
+        ensures fault { FaultIsFirst result
+            (first_fault [] length keys.now counters.now max_spread) }
+        ensures memory { IfNoMemory result
+            (first_fault [] length keys.now counters.now max_spread ≡ None) }
     {
         let elements = Elements::built_in(alloc);
         let choices = Choices::BASIC;
@@ -116,10 +117,10 @@ impl Plan {
             ≡ chosen_plan elements.now choices length method keys.now counters.now max_spread) }
         ensures faultless { OnOk result
             (chosen_fault elements.now choices length keys.now counters.now max_spread ≡ None) }
-        ensures fault { IfErr result (λ fault. fault ≢ PlanFault.OutOfMemory
-            → chosen_fault elements.now choices length keys.now counters.now max_spread ≡ Some fault) }
-        ensures memory { IsErrOf result PlanFault.OutOfMemory
-            → chosen_fault elements.now choices length keys.now counters.now max_spread ≡ None }
+        ensures fault { FaultIsFirst result
+            (chosen_fault elements.now choices length keys.now counters.now max_spread) }
+        ensures memory { IfNoMemory result
+            (chosen_fault elements.now choices length keys.now counters.now max_spread ≡ None) }
     {
         if let Some(fault) = first_fault(
             KeyElements::WithContext,
@@ -148,7 +149,8 @@ impl Plan {
         max_spread: u32,
         choices: Choices,
     ) -> Result<Plan, AllocError>
-        requires { chosen_fault elements.now choices length keys.now counters.now max_spread ≡ None }
+        requires { chosen_fault elements.now choices length keys.now counters.now max_spread
+            ≡ None }
         ensures { IfOk result (λ plan. plan
             ≡ chosen_plan elements.now choices length method keys.now counters.now max_spread) }
     {

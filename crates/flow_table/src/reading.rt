@@ -1,8 +1,8 @@
 //! Data records read under a plan (RFC 7015, section 5).
 
-ghost use Rattle.std.specs.Prelude.{◌≡◌, ◌≤◌, OnOk, IfOk, length, map};
+ghost use Rattle.std.specs.Prelude.{◌≡◌, ◌≤◌, OnOk, IfOk, length};
 ghost use Rattle.std.specs.List.{list_any};
-ghost use Rattle.flow_table.specs.Reading.{counter_of, is_great, number_of};
+ghost use Rattle.flow_table.specs.Reading.{counters_of, is_great, number_of};
 ghost use Rattle.flow_table.specs.Readings.{Notes, ReadsAs};
 
 use crate::flow::Flow;
@@ -90,8 +90,7 @@ pub(crate) fn read_counters(
     missing: &mut [u64; MAX_COUNTERS],
 ) -> Result<(), AllocError>
     requires few { length elements.now ≤ MAX_COUNTERS }
-    ensures counters { OnOk result (counters.new.items
-        ≡ map (λ c. counter_of c data_record.now) elements.now) }
+    ensures counters { OnOk result (counters.new.items ≡ counters_of elements.now data_record.now) }
     ensures missing { OnOk result (Notes missing.old elements.now data_record.now missing.new) }
 {
     counters.clear();

@@ -1,10 +1,9 @@
 //! Rows that are added up.
 
-ghost use Rattle.std.specs.Prelude.{◌≡◌, ◌++◌, ◌∷◌, [], ◌<◌, IfOk, IfErr, OnOk};
+ghost use Rattle.std.specs.Prelude.{◌≡◌, [], ◌<◌, IfOk, IfErr, OnOk};
 ghost use Rattle.flow_table.specs.AddedUp.{AddUpTooLarge, AreAddedUp, rows_in};
 ghost use Rattle.flow_table.specs.Fitting.{FitsRow};
-ghost use Rattle.flow_table.specs.RowTotals.{AreOf, ForRows, totals_plan};
-ghost use Rattle.flow_table.specs.SameTables.{value_of};
+ghost use Rattle.flow_table.specs.RowTotals.{AreOf, ForRows, ForRowsWith, totals_plan};
 ghost use Rattle.flow_table.specs.TableFaults.{OnSumTooLarge};
 ghost use Rattle.flow_table.specs.declared.table_fault.TableFault.TheVariants.{OutOfMemory};
 
@@ -60,10 +59,9 @@ impl RowTotals {
         requires fits { FitsRow (totals_plan self.old) row.now }
         requires some { 0 < row.now.flows }
         ensures plan { totals_plan self.new ≡ totals_plan self.old }
-        ensures adds { ForRows self.old
-            (λ rows. OnOk result (AreOf self.new (rows ++ value_of row.now ∷ []))) }
-        ensures large { ForRows self.old
-            (λ rows. OnSumTooLarge result (AddUpTooLarge (rows ++ value_of row.now ∷ []))) }
+        ensures adds { ForRowsWith self.old row.now (λ rows. OnOk result (AreOf self.new rows)) }
+        ensures large { ForRowsWith self.old row.now
+            (λ rows. OnSumTooLarge result (AddUpTooLarge rows)) }
     {
         write_words(&row.key, &mut self.words)?;
         self.rows
@@ -74,7 +72,8 @@ impl RowTotals {
     ///
     /// The fault is `OutOfMemory`: an allocation was refused.
     pub fn finish(self, tally: Tally, missing: Missing) -> Result<FlatTable, TableFault>
-        ensures sums { ForRows self (λ rows. IfOk result (λ merged. AreAddedUp rows (rows_in merged))) }
+        ensures sums { ForRows self
+            (λ rows. IfOk result (λ merged. AreAddedUp rows (rows_in merged))) }
         ensures tally { IfOk result (λ merged. merged.tally ≡ tally) }
         ensures missing { IfOk result (λ merged. merged.missing ≡ missing) }
         ensures small { ForRows self (λ rows. AddUpTooLarge rows → ⊥) }

@@ -1,9 +1,9 @@
 //! Rows of the totals under a plan, with no block of memory for each.
 
 ghost use Rattle.std.specs.Prelude.{◌≡◌, ◌+◌, ◌*◌, ◌^◌, ◌<◌, ◌∷◌, ℕ, List, IfOk, OnOk, OnErr};
-ghost use Rattle.flow_rows.specs.Rows.{IsRun, Small, SomeTooLarge, part, total_at};
+ghost use Rattle.flow_rows.specs.Rows.{IsRun, Small, total_at};
 ghost use Rattle.flow_table.specs.FlatTables.{run_in};
-ghost use Rattle.flow_table.specs.Rows.{AddsRow, AreAlike, AreRowsOf, IsTooLargeWithRow, SameNumbers, both, number_at, padded_row, padded_to, width_of};
+ghost use Rattle.flow_table.specs.Rows.{AddTooLarge, AddsRow, AddsTo, AreAlike, AreRowsOf, IsSum, IsTooLargeWithRow, SameNumbers, TooLargeWith, number_at, row_in, rows_in, width_of};
 ghost use Rattle.flow_table.specs.TableFaults.{OnSumTooLarge};
 
 use crate::plan::Plan;
@@ -40,12 +40,12 @@ fn add_row<const K: usize, const C: usize>(
     requires fits { 8 * K + 8 * C < 2 ^ 63 }
     requires deep { 0 < C }
     requires some { 0 < flows }
-    ensures ok { OnOk result (SameNumbers (total_at rows.new) (both (total_at rows.old)
-        (λ q i. part q i (padded_to K C (interval ∷ words.now) (flows ∷ sums.now))))) }
+    ensures ok { OnOk result
+        (AddsTo rows.old (row_in K C interval words.now flows sums.now) rows.new) }
     ensures small { Small (total_at rows.new) }
     ensures err { OnErr result (SameNumbers (total_at rows.new) (total_at rows.old)) }
     ensures large { OnSumTooLarge result (IsTooLargeWithRow (total_at rows.old)
-        (padded_to K C (interval ∷ words.now) (flows ∷ sums.now))) }
+        (row_in K C interval words.now flows sums.now)) }
 {
     let piece = Piece::new(padded_words(interval, words), padded_words(flows, sums));
     match rows.add(&piece) {
@@ -62,11 +62,9 @@ fn merge_rows<const K: usize, const C: usize>(
     words: &mut Vec<u64>,
 ) -> Result<FlatRows<K, C>, TableFault>
     requires fits { 8 * K + 8 * C < 2 ^ 63 }
-    ensures ok { IfOk result (λ merged.
-        SameNumbers (total_at merged) (both (total_at rows.entry) (total_at others.entry))) }
+    ensures ok { IfOk result (λ merged. IsSum rows.entry others.entry merged) }
     ensures small { IfOk result (λ merged. Small (total_at merged)) }
-    ensures large { OnSumTooLarge result
-        (SomeTooLarge (both (total_at rows.entry) (total_at others.entry) words.new.items)) }
+    ensures large { OnSumTooLarge result (AddTooLarge rows.entry others.entry words.new.items) }
 {
     match rows.merge(others, words) {
         Ok(both) => Ok(both),
@@ -110,8 +108,7 @@ impl Rows {
         ensures small { Small (number_at self.new) }
         ensures alike { AreAlike self.new self.old }
         ensures err { OnErr result (SameNumbers (number_at self.new) (number_at self.old)) }
-        ensures large { OnSumTooLarge result (IsTooLargeWithRow (number_at self.old)
-            (padded_row self.old (interval ∷ words.now) (flows ∷ sums.now))) }
+        ensures large { TooLargeWith result self.old (interval ∷ words.now) (flows ∷ sums.now) }
     {
         match self {
             Rows::Two(rows) => add_row(rows, interval, words, flows, sums),
@@ -125,13 +122,13 @@ impl Rows {
     /// The rows of both, which are to be of one form: where they are not, the fault is `OutOfMemory`. Those
     /// of one plan are. After `SumTooLarge` a number is too large at the words that are left in `words`.
     pub fn merge(self, others: Rows, words: &mut Vec<u64>) -> Result<Rows, TableFault>
-        ensures ok { IfOk result (λ merged.
-            SameNumbers (number_at merged) (both (number_at self) (number_at others))) }
+        ensures ok { IfOk result (λ merged. IsSum (rows_in self) (rows_in others) (rows_in merged)) }
         ensures small { IfOk result (λ merged. Small (number_at merged)) }
         ensures alike { IfOk result
             (λ merged. AreAlike merged self × (width_of self ≡ width_of others)) }
-        ensures large { OnSumTooLarge result ((width_of self ≡ width_of others)
-            × SomeTooLarge (both (number_at self) (number_at others) words.new.items)) }
+        ensures wide { OnSumTooLarge result (width_of self ≡ width_of others) }
+        ensures large { OnSumTooLarge result
+            (AddTooLarge (rows_in self) (rows_in others) words.new.items) }
     {
         match (self, others) {
             (Rows::Two(rows), Rows::Two(others)) => Ok(Rows::Two(merge_rows(rows, others, words)?)),

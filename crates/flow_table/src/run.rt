@@ -1,10 +1,10 @@
 //! The rows of finished totals, with no block of memory for each.
 
-ghost use Rattle.std.specs.Prelude.{◌≡◌, ◌^◌, ◌<◌, suc, length, slice_index_or, OnOk};
-ghost use Rattle.flow_rows.specs.Rows.{Row as FlatRow, row as flat_row};
-ghost use Rattle.flow_table.specs.FlatTables.{run_in, value_from};
-ghost use Rattle.flow_table.specs.SameTables.{value_of};
-ghost use Rattle.flow_table.specs.Words.{first_of};
+ghost use Rattle.std.specs.Prelude.{◌≡◌, ◌^◌, ◌<◌, suc, length, OnOk};
+ghost use Rattle.flow_rows.specs.Rows.{row as flat_row};
+ghost use Rattle.flow_table.specs.FlatTables.{IsRowFrom, run_in};
+ghost use Rattle.flow_table.specs.SameTables.{AtIndex};
+ghost use Rattle.flow_table.specs.Words.{first_of, nth};
 
 use crate::table::Row;
 use crate::words::{word_at, words_after, write_cells};
@@ -25,8 +25,7 @@ pub enum Run {
 /// Leaves the sums that follow the number of flows in `sums`.
 fn write_sums(numbers: &[u64], counters: usize, sums: &mut Vec<u64>) -> Result<(), AllocError>
     requires { counters < 2 ^ 63 }
-    ensures { OnOk result (sums.new.items
-        ≡ first_of counters (λ i. slice_index_or numbers.now (suc i) 0)) }
+    ensures { OnOk result (sums.new.items ≡ first_of counters (λ i. nth numbers.now (suc i))) }
 {
     sums.clear();
     for i in 0..counters {
@@ -44,8 +43,7 @@ fn write_row(
     row: &mut Row,
 ) -> Result<(), AllocError>
     requires { counters < 2 ^ 63 }
-    ensures { OnOk result (value_of row.new
-        ≡ value_from kinds.now counters (flat_row words.now numbers.now)) }
+    ensures { OnOk result (IsRowFrom kinds.now counters row.new (flat_row words.now numbers.now)) }
 {
     row.interval = word_at(words, 0);
     write_cells(kinds, words_after(words, 1), &mut row.key)?;
@@ -61,7 +59,7 @@ fn write_piece<const K: usize, const C: usize>(
     row: &mut Row,
 ) -> Result<(), AllocError>
     requires { counters < 2 ^ 63 }
-    ensures { OnOk result (value_of row.new ≡ value_from kinds.now counters piece.now) }
+    ensures { OnOk result (IsRowFrom kinds.now counters row.new piece.now) }
 {
     write_row(kinds, counters, &piece.key(), &piece.numbers(), row)
 }
@@ -91,8 +89,8 @@ impl Run {
     ) -> Result<(), AllocError>
         requires within { index < length (run_in self.now) }
         requires few { counters < 2 ^ 63 }
-        ensures { OnOk result ((x : FlatRow) → value_of row.new
-            ≡ value_from kinds.now counters (slice_index_or (run_in self.now) index x)) }
+        ensures { OnOk result
+            (AtIndex (run_in self.now) index (IsRowFrom kinds.now counters row.new)) }
     {
         match self {
             Run::Two(rows) => write_piece(&rows[index], kinds, counters, row),

@@ -1,8 +1,8 @@
 //! How a flow's counters are shared among intervals.
 
-ghost use Rattle.std.specs.Prelude.{◌≡◌, ◌≢◌, ℕ, ◌+◌, ◌-◌, ◌*◌, ◌/◌, ◌%◌, ◌≤◌, ◌<◌, ◌^◌, nat_lt, IsTrue, OnOk, if◌then◌else◌};
+ghost use Rattle.std.specs.Prelude.{◌≡◌, ℕ, ◌+◌, ◌-◌, ◌*◌, ◌/◌, ◌%◌, ◌≤◌, ◌<◌, ◌^◌, nat_lt, IsTrue, OnOk, if◌then◌else◌};
 ghost use Rattle.std.specs.List.{range_with_len};
-ghost use Rattle.flow_table.specs.Flows.{HasIntervals, shares_of};
+ghost use Rattle.flow_table.specs.Flows.{AreShares, HasIntervals};
 ghost use Rattle.flow_table.specs.Intervals.{covers, interval_of, share as share_in, whole_share as whole_share_in, uniform_share as uniform_share_in, proportional_share as proportional_share_in, due_before as due_before_in};
 ghost use Rattle.flow_table.specs.Plans.{IsPlan};
 
@@ -65,8 +65,7 @@ pub(crate) fn read_shares(
     requires sound { IsPlan plan.now }
     requires intervals { HasIntervals plan.now flow }
     requires within { (flow.first ≤ interval) × (interval < flow.first + flow.count) }
-    ensures { OnOk result (flow.count ≢ 1 → shares.new.items
-        ≡ shares_of plan.now flow.span.start flow.span.end counters.now interval) }
+    ensures { OnOk result (AreShares plan.now flow counters.now interval shares.new.items) }
 {
     if flow.count == 1 {
         return Ok(());

@@ -3,10 +3,10 @@
 ghost use Rattle.std.specs.Prelude.{◌≡◌, ◌++◌, ◌∷◌, [], List, OnOk, IfOk};
 ghost use Rattle.std.specs.Result.{result_err};
 ghost use Rattle.ipfix_message.specs.declared.record.DataRecord.{DataRecord};
-ghost use Rattle.flow_table.specs.Partials.{HoldsTable, LargeWith, NamesRow, NotesMore, StandsBy, totals_at};
+ghost use Rattle.flow_table.specs.Partials.{HoldsTable, LargeWith, NamesRow, NotesMore, StandsBy, totals_of_one};
 ghost use Rattle.flow_table.specs.Reading.{class_of};
 ghost use Rattle.flow_table.specs.Readings.{IsUsedBy};
-ghost use Rattle.flow_table.specs.Rows.{AddsTotals, AreRowsOf, StaySmall};
+ghost use Rattle.flow_table.specs.Rows.{AddsIfOk, AreRowsOf, StaySmall};
 ghost use Rattle.flow_table.specs.TableFaults.{OnSumTooLarge};
 
 use crate::adding::{Room, add_flow};
@@ -31,11 +31,11 @@ fn take_flow(
 ) -> Result<(), TableFault>
     requires { IsUsedBy plan.now data_record.now flow room.old.words.items }
     ensures rows { AreRowsOf plan.now rows.old → AreRowsOf plan.now rows.new }
-    ensures ok { AreRowsOf plan.now rows.old → OnOk result
-        (AddsTotals plan.now rows.old (totals_at plan.now (data_record.now ∷ [])) rows.new) }
+    ensures ok { AddsIfOk result plan.now rows.old
+        (totals_of_one plan.now data_record.now) rows.new }
     ensures fits { OnOk result (StaySmall plan.now rows.old rows.new) }
     ensures large { AreRowsOf plan.now rows.old → OnSumTooLarge result
-        (LargeWith plan.now rows.old (totals_at plan.now (data_record.now ∷ [])) room.new) }
+        (LargeWith plan.now rows.old (totals_of_one plan.now data_record.now) room.new) }
     ensures missing { OnOk result
         (NotesMore plan.now missing.old (data_record.now ∷ []) missing.new) }
 {

@@ -1,8 +1,7 @@
 //! How many data records are of each class.
 
 ghost use Rattle.std.specs.Prelude.{◌≡◌, ◌+◌, ◌<◌, ◌≤◌, ◌^◌, OnOk, IfOk, IfErr};
-ghost use Rattle.flow_table.specs.declared.class.Class.{Class as ClassValue};
-ghost use Rattle.flow_table.specs.Partials.{CountsFit, count_in, one_of, tally_sum};
+ghost use Rattle.flow_table.specs.Partials.{AreTooManyTogether, CountsFit, count_in, one_of, tally_sum};
 ghost use Rattle.flow_table.specs.declared.table_fault.TableFault.TheVariants.{SumTooLarge};
 
 use crate::class::Class;
@@ -78,8 +77,7 @@ fn sum(a: u64, b: u64) -> Result<u64, TableFault>
 /// The tally of the records of two tallies.
 pub fn together(a: &Tally, b: &Tally) -> Result<Tally, TableFault>
     ensures ok { IfOk result (λ t. (t ≡ tally_sum a.now b.now) × CountsFit t) }
-    ensures large { IfErr result (λ e. (e ≡ SumTooLarge)
-        × ((class : ClassValue) × (2 ^ 64 ≤ count_in a.now class + count_in b.now class))) }
+    ensures large { IfErr result (λ e. (e ≡ SumTooLarge) × AreTooManyTogether a.now b.now) }
 {
     Ok(Tally {
         options: sum(a.options, b.options)?,

@@ -1,13 +1,13 @@
 //! The words of keys, which compare as their cells do.
 
-ghost use Rattle.std.specs.Prelude.{◌≡◌, ◌++◌, ◌∷◌, [], ◌≤◌, ℕ, List, Some, drop, length, slice_index_or, OnOk};
-ghost use Rattle.std.specs.List.{AllZip};
+ghost use Rattle.std.specs.Prelude.{◌≡◌, ◌++◌, ◌∷◌, [], ◌≤◌, drop, length, OnOk};
 ghost use Rattle.std.specs.Int.{to_be_bytes, w64};
 ghost use Rattle.ipfix_elements.specs.declared.cell.Cell.TheVariants as cells;
 ghost use Rattle.ipfix_elements.specs.declared.kind.Kind.{Kind as KindValue};
 ghost use Rattle.ipfix_elements.specs.declared.kind.Kind.TheVariants as kinds_of_cells;
 ghost use Rattle.flow_table.specs.Fitting.{IsCellOf};
-ghost use Rattle.flow_table.specs.Words.{cell_from as cell_in, cell_words, key_from, key_words, padded, word_count, words_in, words_of_kind};
+ghost use Rattle.flow_table.specs.Readings.{HaveWords};
+ghost use Rattle.flow_table.specs.Words.{HasWords, cell_from as cell_in, key_from, nth, padded, word_count, words_in, words_of_kind};
 
 use ipfix_elements::{Cell, Kind};
 use std::alloc::AllocError;
@@ -44,7 +44,7 @@ pub fn count_words(kinds: &[Kind]) -> usize
 
 /// The word of an IPv4 address.
 pub fn ipv4_word(address: &[u8; 4]) -> u64
-    ensures { cell_words kinds_of_cells.Ipv4 (cells.Ipv4 address.now) ≡ Some (result ∷ []) }
+    ensures { HasWords kinds_of_cells.Ipv4 (cells.Ipv4 address.now) (result ∷ []) }
 {
     let [a, b, c, d] = *address;
     u64::from_be_bytes([0, 0, 0, 0, a, b, c, d])
@@ -52,7 +52,7 @@ pub fn ipv4_word(address: &[u8; 4]) -> u64
 
 /// The word of a MAC address.
 pub fn mac_word(address: &[u8; 6]) -> u64
-    ensures { cell_words kinds_of_cells.Mac (cells.Mac address.now) ≡ Some (result ∷ []) }
+    ensures { HasWords kinds_of_cells.Mac (cells.Mac address.now) (result ∷ []) }
 {
     let [a, b, c, d, e, f] = *address;
     u64::from_be_bytes([0, 0, a, b, c, d, e, f])
@@ -60,7 +60,7 @@ pub fn mac_word(address: &[u8; 6]) -> u64
 
 /// The words of an IPv6 address.
 pub fn ipv6_words(address: &[u8; 16]) -> CellWords
-    ensures { cell_words kinds_of_cells.Ipv6 (cells.Ipv6 address.now) ≡ Some (words_in result) }
+    ensures { HasWords kinds_of_cells.Ipv6 (cells.Ipv6 address.now) (words_in result) }
 {
     let [a, b, c, d, e, f, g, h, i, j, k, l, m, n, o, p] = *address;
     CellWords::Two(
@@ -72,7 +72,7 @@ pub fn ipv6_words(address: &[u8; 16]) -> CellWords
 // The words of a cell.
 fn words_of(cell: &Cell) -> CellWords
     ensures { (kind : KindValue) → IsCellOf kind cell.now
-        → cell_words kind cell.now ≡ Some (words_in result) }
+        → HasWords kind cell.now (words_in result) }
 {
     match cell {
         Cell::Number(number) => CellWords::One(*number),
@@ -99,8 +99,7 @@ pub fn push_words(cell: CellWords, words: &mut Vec<u64>) -> Result<(), AllocErro
 
 /// Leaves the words of cells in `words`.
 pub fn write_words(cells: &[Cell], words: &mut Vec<u64>) -> Result<(), AllocError>
-    ensures { OnOk result ((kinds : List KindValue) → AllZip IsCellOf kinds cells.now
-        → key_words kinds cells.now ≡ Some words.new.items) }
+    ensures { OnOk result (HaveWords cells.now words.new.items) }
 {
     words.clear();
     for cell in cells {
@@ -111,7 +110,7 @@ pub fn write_words(cells: &[Cell], words: &mut Vec<u64>) -> Result<(), AllocErro
 
 /// The word at a place, or 0 after the last.
 pub fn word_at(words: &[u64], place: usize) -> u64
-    ensures { result ≡ slice_index_or words.now place 0 }
+    ensures { result ≡ nth words.now place }
 {
     if place < words.len() { words[place] } else { 0 }
 }

@@ -1,7 +1,7 @@
 //! Reading files of elements.
 
 ghost use Rattle.std.specs.Prelude.{ℕ, List, [], map, IfNone, IfSome};
-ghost use Rattle.report_writing.specs.Lines.{Adds, StaysFailed};
+ghost use Rattle.report_writing.specs.Lines.{StaysFailed};
 ghost use Rattle.report_writing.specs.Told.{AreToldTo};
 ghost use Rattle.input_files.specs.FileLines.{unknown_type_lines};
 ghost use Rattle.input_files.specs.Loaded.{Adds, Loads, Stops};

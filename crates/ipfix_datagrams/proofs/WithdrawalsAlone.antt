@@ -11,7 +11,7 @@ use Rattle.ipfix_message.specs.TemplateRecords.{event_at, is_padding}
 use Rattle.ipfix_message.specs.Sets.{Set, next_set}
 use Rattle.ipfix_message.proofs.TemplateRecords.{events_shrink}
 use Rattle.ipfix_message.proofs.MessageSets.{sets_shrink, next_set-nil}
-use Rattle.ipfix_datagrams.specs.Datagrams.{is_withdrawal, are_withdrawals, is_set_of_withdrawals, are_sets_of_withdrawals}
+use Rattle.ipfix_datagrams.specs.Datagrams.{is_withdrawal, are_withdrawals, is_withdrawing, are_sets_of_withdrawals}
 use Rattle.ipfix_datagrams.proofs.FirstAndLast.{cut_event}
 
 and_and : (a b c : Bool) → ((a && b) && c) ≡ (a && (b && c))
@@ -50,13 +50,13 @@ short_withdrawals kind w short =
 
 -- ---- the sets of a datagram
 
-pub next_set_withdrawals : (w : List ℕ) (s : Set) (r : List ℕ) → next_set w ≡ Ok (s, r) → are_sets_of_withdrawals w ≡ (is_set_of_withdrawals s && are_sets_of_withdrawals r)
+pub next_set_withdrawals : (w : List ℕ) (s : Set) (r : List ℕ) → next_set w ≡ Ok (s, r) → are_sets_of_withdrawals w ≡ (is_withdrawing s && are_sets_of_withdrawals r)
 next_set_withdrawals w s r is =
-    ap (λ (p : Parts Set). list_all is_set_of_withdrawals p.items && eqb (length p.rest) 0) (parts_of-next next_set sets_shrink w s r is)
-    ∙ and_and (is_set_of_withdrawals s) _ _
+    ap (λ (p : Parts Set). list_all is_withdrawing p.items && eqb (length p.rest) 0) (parts_of-next next_set sets_shrink w s r is)
+    ∙ and_and (is_withdrawing s) _ _
 
 no_set_left : (w : List ℕ) (f : MessageFault) → next_set w ≡ Err f → are_sets_of_withdrawals w ≡ eqb (length w) 0
-no_set_left w f is = ap (λ (p : Parts Set). list_all is_set_of_withdrawals p.items && eqb (length p.rest) 0) (parts_of-none next_set w f is)
+no_set_left w f is = ap (λ (p : Parts Set). list_all is_withdrawing p.items && eqb (length p.rest) 0) (parts_of-none next_set w f is)
 
 pub no_set_withdrawals : (w : List ℕ) (f : MessageFault) → eqb (length w) 0 ≡ false → next_set w ≡ Err f → are_sets_of_withdrawals w ≡ false
 no_set_withdrawals w f some is = no_set_left w f is ∙ some

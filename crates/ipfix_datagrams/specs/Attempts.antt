@@ -24,6 +24,10 @@ use Rattle.ipfix_datagrams.specs.declared.withdrawn_template.WithdrawnTemplate.{
 abbrev pub OrOutOfMemory : {X : Type 0} → Result X MessageFault → (X → Type 0) → Type 0
 OrOutOfMemory result P = MatchResult result P (λ fault. fault ≡ OutOfMemory)
 
+-- P holds, if there was memory
+abbrev pub OkIfMemory : {X : Type 0} → Result X MessageFault → Type 0 → Type 0
+OkIfMemory result P = OrOutOfMemory result (λ _. P)
+
 -- it answered what is read next, as f says, or None where that can't be read; or memory ran out
 abbrev pub ReadsNext : {X Y : Type 0} → Result (Option X) MessageFault → Result Y MessageFault → (X → Y) → Type 0
 ReadsNext result next f = OrOutOfMemory result (λ o. MatchOption o ((fault : MessageFault) × (next ≡ Err fault)) (λ x. next ≡ Ok (f x)))
@@ -97,7 +101,7 @@ CanDefine es (t ∷ ts) = IsFree es t × CanDefine (Define t ∷ es) ts
 abbrev pub DefinesIn : {X : Type 0} → Result X MessageFault → DomainsView → DomainsView → ℕ → List Template → Type 0
 DefinesIn result old new domain ts =
     (ds : History) → Represents old ds → IsOk (admit ds domain) → CanDefine (events_in ds domain) ts
-    → OrOutOfMemory result (λ _. Represents new (with_defined ds domain ts))
+    → OkIfMemory result (Represents new (with_defined ds domain ts))
 
 -- templates were defined in turn, and the rest are still to be
 pub record Defining (ds : History) (domain : ℕ) (all rest : List Template) (d : DomainsView) : Type 0 where
@@ -118,7 +122,7 @@ MayWithdraw ds domain ws = (ws ≡ []) ⊎ (knows ds domain ≡ true)
 abbrev pub WithdrawsIn : {X : Type 0} → Result X MessageFault → DomainsView → DomainsView → ℕ → List WithdrawnTemplate → Type 0
 WithdrawsIn result old new domain ws =
     (ds : History) → Represents old ds → MayWithdraw ds domain ws
-    → OrOutOfMemory result (λ _. Represents new (with_withdrawn ds domain ws))
+    → OkIfMemory result (Represents new (with_withdrawn ds domain ws))
 
 -- so it can be prepared in this domain, if there is room for that
 abbrev pub CanPrepare : History → ℕ → Preparation → Type 0

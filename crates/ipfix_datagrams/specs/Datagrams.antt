@@ -84,15 +84,15 @@ abbrev pub are_withdrawals : TemplateKind → List ℕ → Bool
 are_withdrawals kind body = list_all is_withdrawal (events_of kind body).items && is_padding (events_of kind body).rest
 
 -- a set is such a template set or options template set
-abbrev pub is_set_of_withdrawals : Set → Bool
-is_set_of_withdrawals s =
+abbrev pub is_withdrawing : Set → Bool
+is_withdrawing s =
     if s.id == TEMPLATE_SET_ID then are_withdrawals Plain s.body
     else if s.id == OPTIONS_TEMPLATE_SET_ID then are_withdrawals Options s.body
     else false
 
 -- these octets are such sets
 abbrev pub are_sets_of_withdrawals : List ℕ → Bool
-are_sets_of_withdrawals w = list_all is_set_of_withdrawals (sets_of w).items && (length (sets_of w).rest == 0)
+are_sets_of_withdrawals w = list_all is_withdrawing (sets_of w).items && (length (sets_of w).rest == 0)
 
 -- a datagram of withdrawals alone: its header can be read, all that follows is such sets, and there is a withdrawal. Such a datagram
 -- is ignored, and any other is kept or refused

@@ -9,8 +9,8 @@ ghost use Rattle.ipfix_message.specs.declared.template_record.Event.TheVariants.
 ghost use Rattle.ipfix_message.specs.declared.template_record.TheConstants.{LONGEST_BODY};
 ghost use Rattle.ipfix_wire.specs.declared.set.TheConstants.{SET_HEADER_LENGTH};
 ghost use Rattle.ipfix_session.specs.Ledger.{capped};
-ghost use Rattle.ipfix_datagrams.specs.Attempts.{Adds, Finds, OrOutOfMemory, PutsOthers, ReadsNext, OnlyIf, at_own_id, set_with};
-ghost use Rattle.ipfix_datagrams.specs.Datagrams.{are_withdrawals, events_of_set, is_set_of_withdrawals, is_withdrawal};
+ghost use Rattle.ipfix_datagrams.specs.Attempts.{Adds, Finds, OkIfMemory, OrOutOfMemory, PutsOthers, ReadsNext, OnlyIf, at_own_id, set_with};
+ghost use Rattle.ipfix_datagrams.specs.Datagrams.{are_withdrawals, events_of_set, is_withdrawing, is_withdrawal};
 
 use crate::data_sets::set_at;
 use ipfix_message::{
@@ -124,10 +124,8 @@ fn take_events(
     all: &mut Definitions,
 ) -> Result<(), MessageFault>
     requires { length body.now ≤ LONGEST_BODY }
-    ensures defines { OrOutOfMemory result
-        (λ _. Adds all.old all.new (events_of kind body.now).items) }
-    ensures only { OrOutOfMemory result
-        (λ _. OnlyIf all.old all.new (are_withdrawals kind body.now)) }
+    ensures defines { OkIfMemory result (Adds all.old all.new (events_of kind body.now).items) }
+    ensures only { OkIfMemory result (OnlyIf all.old all.new (are_withdrawals kind body.now)) }
 {
     let mut rest = body;
     while TEMPLATE_HEADER_LENGTH <= rest.len() {
@@ -144,10 +142,10 @@ fn take_events(
 // Takes a set. The fault is `OutOfMemory`.
 fn take_set(alloc: Global, id: u16, body: &[u8], all: &mut Definitions) -> Result<(), MessageFault>
     requires { length body.now ≤ LONGEST_BODY }
-    ensures defines { OrOutOfMemory result
-        (λ _. Adds all.old all.new (events_of_set (set_with id body.now))) }
-    ensures only { OrOutOfMemory result
-        (λ _. OnlyIf all.old all.new (is_set_of_withdrawals (set_with id body.now))) }
+    ensures defines { OkIfMemory result
+        (Adds all.old all.new (events_of_set (set_with id body.now))) }
+    ensures only { OkIfMemory result
+        (OnlyIf all.old all.new (is_withdrawing (set_with id body.now))) }
 {
     if id == TEMPLATE_SET_ID {
         take_events(alloc, TemplateKind::Plain, body, all)

@@ -1,6 +1,6 @@
 -- Sets that are only checked.
 use Rattle.std.proofs.Common.{◌≡◌, ℕ, ◌<◌, ◌≤◌, Bool, true, false, eqb, ltb, List, ◌∷◌, ◌++◌, length, map, Some, None, Result, Ok, Err, refl, sym, ap, subst, ◌∙◌, cond}
-use Rattle.std.specs.Prelude.{◌≢◌, ◌||◌, IsOk, MatchResult}
+use Rattle.std.specs.Prelude.{◌≢◌, ◌||◌, IsOk}
 use Rattle.std.specs.List.{list_any}
 use Rattle.std.proofs.lemmas.Bool.{lt-ltb, le-ltb, eq-eqb}
 use Rattle.ipfix_wire.specs.declared.header.Header.{Header}
@@ -15,10 +15,10 @@ use Rattle.ipfix_message.specs.DataRecords.{records_of_body, record_of}
 use Rattle.ipfix_message.specs.Fields.{Field}
 use Rattle.ipfix_message.specs.SpelledFields.{least, fields_at}
 use Rattle.ipfix_message.specs.Outcome.{◌>>=◌, map_read, Fails}
-use Rattle.ipfix_message.specs.Sets.{Set, next_set, fault_after_sets, is_template_set, has_template_set}
+use Rattle.ipfix_message.specs.Sets.{Set, set_of, next_set, fault_after_sets, is_template_set, has_template_set}
 use Rattle.ipfix_message.specs.Messages.{Decoding, one_skipped, one_unknown, data_in, set_gives, sets_from}
 use Rattle.ipfix_message.specs.TemplatesInForce.{in_force}
-use Rattle.ipfix_message.specs.Held.{Agrees, Checks}
+use Rattle.ipfix_message.specs.Held.{Agrees, Checks, ChecksBody, ChecksSet}
 use Rattle.ipfix_message.proofs.Bodies.{records_of_body-next, records_of_body-rest, records_of_body-cut}
 use Rattle.ipfix_message.proofs.Decoding.{sets_from-next, sets_from-fault, sets_from-cut, sets_from-done}
 use Rattle.ipfix_message.proofs.MessageSets.{sets_shrink, next_set-fault, next_set-nil}
@@ -89,10 +89,10 @@ is_not n k h same = true_is_not_false (eqb n k) (eq-eqb n k same) h
     true_is_not_false : (b : Bool) → b ≡ true → b ≡ false → ⊥
     true_is_not_false b t f = cc
 
-pub no_plain : (id : ℕ) (body : List ℕ) → is_template_set (record { id = id; body = body }) ≡ false → id ≢ 2
+pub no_plain : (id : ℕ) (body : List ℕ) → is_template_set (set_of id body) ≡ false → id ≢ 2
 no_plain id body h = is_not id 2 (both_false (eqb id 2) (eqb id 3) h).0
 
-pub no_options : (id : ℕ) (body : List ℕ) → is_template_set (record { id = id; body = body }) ≡ false → id ≢ 3
+pub no_options : (id : ℕ) (body : List ℕ) → is_template_set (set_of id body) ≡ false → id ≢ 3
 no_options id body h = is_not id 3 (both_false (eqb id 2) (eqb id 3) h).1
 
 ok_has : {X : Type 0} (read : Result X MessageFault) → IsOk read → (x : X) × (read ≡ Ok x)
@@ -102,11 +102,7 @@ ok_has (Err e) h = absurd cc
 cut_changes_none : (e : MessageFault) → e ≡ faults.RecordCut → e ≢ faults.TemplateChanged
 cut_changes_none e is changed = cc
 
--- a body under its template, as it was checked
-abbrev pub BodyChecked : Result (Unit {0}) MessageFault → List Spec → List ℕ → Type 0
-BodyChecked result specs body = MatchResult result (λ _. IsOk (records_of_body specs body)) (λ fault. (fault ≡ faults.RecordCut) × (records_of_body specs body ≡ Err fault))
-
-body_checked : (h : Header) (d : Decoding) (body : List ℕ) (t : Template) (result : Result (Unit {0}) MessageFault) → BodyChecked result t.specs body → Checks result d (data_in h d body (Some t))
+body_checked : (h : Header) (d : Decoding) (body : List ℕ) (t : Template) (result : Result (Unit {0}) MessageFault) → ChecksBody result t.specs body → Checks result d (data_in h d body (Some t))
 unfolding data_in
 body_checked h d body t (Ok x) checked =
     let rs = ok_has (records_of_body t.specs body) checked in (
@@ -123,7 +119,7 @@ unknown_body : (h : Header) (d : Decoding) (body : List ℕ) → Checks (Ok tt) 
 unfolding data_in
 unknown_body h d body = (record d { passed_over = one_unknown d.passed_over }, refl, refl)
 
-pub skipped : (h : Header) (d : Decoding) (id : ℕ) (body : List ℕ) → id ≢ 2 → id ≢ 3 → id < 256 → Checks (Ok tt) d (set_gives h d (record { id = id; body = body }))
+pub skipped : (h : Header) (d : Decoding) (id : ℕ) (body : List ℕ) → id ≢ 2 → id ≢ 3 → id < 256 → Checks (Ok tt) d (set_gives h d (set_of id body))
 unfolding set_gives
 skipped h d id body two three below = (
   record d { passed_over = one_skipped d.passed_over },
@@ -131,16 +127,16 @@ skipped h d id body two three below = (
   refl,
 )
 
-data_set_is : (h : Header) (d : Decoding) (id : ℕ) (body : List ℕ) → id ≢ 2 → id ≢ 3 → 256 ≤ id → set_gives h d (record { id = id; body = body }) ≡ data_in h d body (in_force d.events id)
+data_set_is : (h : Header) (d : Decoding) (id : ℕ) (body : List ℕ) → id ≢ 2 → id ≢ 3 → 256 ≤ id → set_gives h d (set_of id body) ≡ data_in h d body (in_force d.events id)
 unfolding set_gives
 data_set_is h d id body two three above = rw (different id 2 two, different id 3 three, le-ltb id 256 above) refl
 
-pub unknown : (h : Header) (d : Decoding) (id : ℕ) (body : List ℕ) → id ≢ 2 → id ≢ 3 → 256 ≤ id → in_force d.events id ≡ None → Checks (Ok tt) d (set_gives h d (record { id = id; body = body }))
+pub unknown : (h : Header) (d : Decoding) (id : ℕ) (body : List ℕ) → id ≢ 2 → id ≢ 3 → 256 ≤ id → in_force d.events id ≡ None → Checks (Ok tt) d (set_gives h d (set_of id body))
 unknown h d id body two three above none =
     subst (λ (read : Result Decoding MessageFault). Checks (Ok tt) d read) (sym (data_set_is h d id body two three above ∙ ap (data_in h d body) none)) (unknown_body h d body)
 
 pub known : (h : Header) (d : Decoding) (id : ℕ) (body : List ℕ) (t : Template) (result : Result (Unit {0}) MessageFault) → id ≢ 2 → id ≢ 3 → 256 ≤ id → in_force d.events id ≡ Some t
-    → BodyChecked result t.specs body → Checks result d (set_gives h d (record { id = id; body = body }))
+    → ChecksBody result t.specs body → Checks result d (set_gives h d (set_of id body))
 known h d id body t result two three above some checked =
     subst (λ (read : Result Decoding MessageFault). Checks result d read) (sym (data_set_is h d id body two three above ∙ ap (data_in h d body) some)) (body_checked h d body t result checked)
 
@@ -155,17 +151,17 @@ pub starts : (h : Header) (d : Decoding) (w : List ℕ) → Checking h d w (sets
 starts h d w = record { decoding = d; events = refl; same = refl }
 
 pub goes_on : (h : Header) (entries : List (ℕ × Template)) (d : Decoding) (w : List ℕ) (s : Set) (r : List ℕ) (total : Result Decoding MessageFault) → next_set w ≡ Ok (s, r)
-    → ((e : Decoding) → Agrees entries e.events → Checks (Ok tt) e (set_gives h e s)) → Agrees entries d.events → Checking h d w total → Checking h d r total
+    → ChecksSet entries s (Ok tt) → Agrees entries d.events → Checking h d w total → Checking h d r total
 goes_on h entries d w s r total here checked agrees going =
     let e = going.decoding in
-    let c = checked e (rw going.events agrees) in
+    let c = checked h e (rw going.events agrees) in
     record { decoding = c.0; events = c.2 ∙ going.events; same = sym (sets_from-next h e c.0 w s r here c.1) ∙ going.same }
 
 pub faults_in : (f : MessageFault) (h : Header) (entries : List (ℕ × Template)) (d : Decoding) (w : List ℕ) (s : Set) (r : List ℕ) (total : Result Decoding MessageFault) → next_set w ≡ Ok (s, r)
-    → ((e : Decoding) → Agrees entries e.events → Checks (Err f) e (set_gives h e s)) → Agrees entries d.events → Checking h d w total → Checks (Err f) d total
+    → ChecksSet entries s (Err f) → Agrees entries d.events → Checking h d w total → Checks (Err f) d total
 faults_in f h entries d w s r total here checked agrees going =
     let e = going.decoding in
-    let c = checked e (rw going.events agrees) in
+    let c = checked h e (rw going.events agrees) in
     (sym going.same ∙ sets_from-fault h e w s r f here c.0, c.1)
 
 -- the fault of what is left of the sets

@@ -15,13 +15,12 @@ use Rattle.ipfix_message.specs.Outcome.{◌>>=◌, unless, Fails, Gives}
 use Rattle.ipfix_wire.specs.InTurn.{Parts, parts_of}
 use Rattle.ipfix_message.specs.DataRecords.{records_of_body, record_of}
 use Rattle.ipfix_message.specs.TemplatesInForce.{template_set_gives}
-use Rattle.ipfix_message.specs.Sets.{Set, next_set, fault_after_sets}
+use Rattle.ipfix_message.specs.Sets.{Set, set_of, next_set, fault_after_sets}
 use Rattle.ipfix_message.specs.Messages.{Decoding, one_skipped, one_unknown, more_ignored, templates_in, data_in, set_gives, sets_give, sets_from}
-use Rattle.ipfix_message.specs.Held.{Updates, Holds, Reaches}
+use Rattle.ipfix_message.specs.Held.{Updates, Holds, Reaches, extended}
 use Rattle.ipfix_message.proofs.MessageSets.{sets_shrink, next_set-fault, next_set-nil}
 use Rattle.ipfix_message.proofs.Reading.{Fails-of, ok_is, not_both, bind_ok, bind_err}
 use Rattle.ipfix_wire.proofs.Parts.{parts_of-next, parts_of-none}
-use Rattle.ipfix_message.proofs.Bodies.{after}
 use Rattle.ipfix_wire.proofs.Choices.{different}
 
 -- ---- one set
@@ -52,7 +51,7 @@ no_template h d body entries p o holds none = (
 )
 
 data_set_at : (h : Header) (d : Decoding) (body : List ℕ) (entries : List (ℕ × Template)) (p : Decoded) (t : Template) (result : Result (Unit {0}) MessageFault) (v : Vec DataRecord) → Holds entries p d
-    → Gives (λ _. v.items) result (after p.records.items (record_of h t) (records_of_body t.specs body))
+    → Gives (λ _. v.items) result (extended p.records.items h t body)
     → Reaches result entries (record p { records = v }) (data_in h d body (Some t))
 unfolding data_in
 data_set_at h d body entries p t (Ok x) v holds given =
@@ -64,14 +63,14 @@ data_set_at h d body entries p t (Ok x) v holds given =
       record { templates = holds.templates; records = same; passed_over = holds.passed_over },
     )
 data_set_at h d body entries p t (Err e) v holds given =
-    Fails-of e (after p.records.items (record_of h t) (records_of_body t.specs body)) (data_in h d body (Some t)) (λ f g.
+    Fails-of e (extended p.records.items h t body) (data_in h d body (Some t)) (λ f g.
     elim (bind_err (records_of_body t.specs body) (λ rs. Ok (p.records.items ++ map (record_of h t) rs)) f g) [
       | inl here ↦ ap (λ (read : Result (List (List Field)) MessageFault). read >>= λ rs'. Ok (record d { records = d.records ++ map (record_of h t) rs' })) here
       | inr later ↦ absurd (not_both (p.records.items ++ map (record_of h t) later.0) f later.2)
     ]) given
 
 pub data_set : (h : Header) (d : Decoding) (body : List ℕ) (entries : List (ℕ × Template)) (p : Decoded) (o : Option Template) (t : Template) (result : Result (Unit {0}) MessageFault) (v : Vec DataRecord) → Holds entries p d → o ≡ Some t
-    → Gives (λ _. v.items) result (after p.records.items (record_of h t) (records_of_body t.specs body))
+    → Gives (λ _. v.items) result (extended p.records.items h t body)
     → Reaches result entries (record p { records = v }) (data_in h d body o)
 data_set h d body entries p o t result v holds is given =
     subst (λ (x : Option Template). Reaches result entries (record p { records = v }) (data_in h d body x)) (sym is)
@@ -140,7 +139,7 @@ pub is_done : (h : Header) (entries : List (ℕ × Template)) (p : Decoded) (w :
 is_done h entries p w total none going = (going.decoding, sym going.same ∙ sets_from-done h going.decoding w none, going.holds)
 
 pub skipped_set : (h : Header) (d : Decoding) (id : ℕ) (body : List ℕ) (entries : List (ℕ × Template)) (p : Decoded) → Holds entries p d → id ≢ 2 → id ≢ 3 → id < 256
-    → Reaches (Ok tt) entries (record p { skipped_sets = p.skipped_sets + 1 }) (set_gives h d (record { id = id; body = body }))
+    → Reaches (Ok tt) entries (record p { skipped_sets = p.skipped_sets + 1 }) (set_gives h d (set_of id body))
 unfolding set_gives
 skipped_set h d id body entries p holds two three below = (
   record d { passed_over = one_skipped d.passed_over },

@@ -26,7 +26,7 @@ use Rattle.ipfix_message.specs.Messages.{Decoding, before, sets_from}
 use Rattle.ipfix_message.proofs.Reading.{Fails-of, ok_is, not_both}
 use Rattle.ipfix_wire.proofs.Choices.{chosen, different}
 use Rattle.ipfix_message.specs.TemplatesInForce.{in_force}
-use Rattle.ipfix_message.specs.Held.{template_in, Agrees, Holds, Reaches, Admits, ChecksSets}
+use Rattle.ipfix_message.specs.Held.{template_in, Agrees, Holds, Reaches, Admits, ChecksSets, ChecksUpTo}
 use Rattle.ipfix_message.specs.Sets.{has_template_set}
 use Rattle.ipfix_message.specs.Domains.{History, IsAdmitted, admit, with_events, of_wire, message_header, message_gives, Message, StandsFor, Decodes, template_for, alone, IsChecked}
 use Rattle.ipfix_message.specs.Kept.{kept}
@@ -425,7 +425,7 @@ not_false false h = absurd cc
 
 -- by the events of its domain
 checked_after : (ds : History) (m : List ℕ) (h : Header) (es : List Event) (result : Result Bool MessageFault) → message_header m ≡ Ok h → lookup (eqb h.domain) ds ≡ Some es
-    → ChecksSets result (before es) (sets_from h (before es) (drop 16 m)) → IfOk result (λ is_data. is_data ≡ not (has_template_set (drop 16 m))) → IsChecked result ds h.domain m
+    → ChecksUpTo result (before es) (sets_from h (before es) (drop 16 m)) → IfOk result (λ is_data. is_data ≡ not (has_template_set (drop 16 m))) → IsChecked result ds h.domain m
 checked_after ds m h es (Ok true) is here checked are =
     record {
       given = record { header = h; decoding = checked.0; domains = with_events ds h.domain checked.0.events };
@@ -437,15 +437,15 @@ checked_after ds m h es (Err f) is here checked are =
     (gives_sets ds m h ds es (Err f) is (admit_same ds h.domain es here) (ap (λ (o : Option (List Event)). unwrap_or o []) here) checked.0, checked.1)
 
 checked_at : (a : Option (List (ℕ × Template))) (b : Option (List Event)) (ds : History) (m : List ℕ) (h : Header) (entries : List (ℕ × Template)) (result : Result Bool MessageFault) → message_header m ≡ Ok h
-    → a ≡ Some entries → lookup (eqb h.domain) ds ≡ b → AgreesAt a b → ((d : Decoding) → Agrees entries d.events → ChecksSets result d (sets_from h d (drop 16 m)))
+    → a ≡ Some entries → lookup (eqb h.domain) ds ≡ b → AgreesAt a b → ChecksSets entries (drop 16 m) result
     → IfOk result (λ is_data. is_data ≡ not (has_template_set (drop 16 m))) → IsChecked result ds h.domain m
 checked_at a (Some es) ds m h entries result is ea eb agrees checked are =
     let at : Agrees entries es = subst (λ (o : Option (List (ℕ × Template))). AgreesAt o (Some es)) ea agrees in
-    checked_after ds m h es result is eb (checked (before es) at) are
+    checked_after ds m h es result is eb (checked h (before es) at) are
 checked_at a None ds m h entries result is ea eb agrees checked are = absurd (subst (λ (o : Option (List (ℕ × Template))). AgreesAt o None) ea agrees)
 
 pub checked_message : (xs : List (ℕ × List (ℕ × Template))) (ds : History) (m : List ℕ) (h : Header) (entries : List (ℕ × Template)) (result : Result Bool MessageFault) → message_header m ≡ Ok h
-    → StandsFor xs ds → lookup (eqb h.domain) xs ≡ Some entries → ((d : Decoding) → Agrees entries d.events → ChecksSets result d (sets_from h d (drop 16 m)))
+    → StandsFor xs ds → lookup (eqb h.domain) xs ≡ Some entries → ChecksSets entries (drop 16 m) result
     → IfOk result (λ is_data. is_data ≡ not (has_template_set (drop 16 m))) → IsChecked result ds h.domain m
 checked_message xs ds m h entries result is stands here checked are =
     checked_at (lookup (eqb h.domain) xs) (lookup (eqb h.domain) ds) ds m h entries result is here refl (stands-at xs ds stands h.domain) checked are

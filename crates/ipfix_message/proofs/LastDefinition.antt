@@ -6,7 +6,7 @@ use Rattle.ipfix_message.specs.declared.record.Template.{Template}
 use Rattle.ipfix_message.specs.declared.template_record.TemplateKind.{TemplateKind}
 use Rattle.ipfix_message.specs.declared.template_record.Event.{Event}
 use Rattle.ipfix_message.specs.declared.template_record.Event.TheVariants.{Define, Withdraw, WithdrawAll}
-use Rattle.ipfix_message.specs.TemplatesInForce.{is_of, unless_of, in_force, Ends, Outlasts, IsInForce}
+use Rattle.ipfix_message.specs.TemplatesInForce.{is_of, unless_of, in_force, Ends, Outlasts, IsInForce, IsInForceFor}
 use Rattle.ipfix_wire.proofs.Choices.{chosen, different}
 
 abbrev some_template : Template → Option Template
@@ -34,7 +34,7 @@ unless_of-some kind (Some u) t h =
 one_later : (e : Event) (es : List Event) (t : Template) → ¬ Ends t e → IsInForce t es → IsInForce t (e ∷ es)
 one_later e es t stays is = record { later = e ∷ is.later; earlier = is.earlier; order = ap (λ (xs : List Event). e ∷ xs) is.order; lasts = (stays, is.lasts) }
 
-pub in_force-found : (es : List Event) (id : ℕ) (t : Template) → in_force es id ≡ some_template t → (t.id ≡ id) × IsInForce t es
+pub in_force-found : (es : List Event) (id : ℕ) (t : Template) → in_force es id ≡ some_template t → IsInForceFor id t es
 unfolding in_force
 in_force-found [] id t h = absurd (none_is_not t h)
 in_force-found (Define u ∷ es) id t h =

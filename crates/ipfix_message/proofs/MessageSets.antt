@@ -1,5 +1,6 @@
 -- The sets of a message: what is read is what is spelled.
 use Rattle.std.proofs.Common.{◌≡◌, ℕ, ◌+◌, ◌-◌, ◌^◌, ◌<◌, ◌≤◌, false, eqb, List, [], ◌∷◌, ◌++◌, length, take, drop, Some, Result, Ok, Err, refl, sym, ap, subst, ◌∙◌, append_assoc, arith}
+use Rattle.std.specs.Prelude.{IfErr}
 use Rattle.std.proofs.lemmas.Bool.{le-ltb, lt-ltb}
 use Rattle.std.proofs.lemmas.List.{length-append, length-drop, length-take, take-append-drop, take_at, drop_at}
 use Rattle.byteorder.specs.Endian.{big_number}
@@ -8,13 +9,13 @@ use Rattle.ipfix_wire.specs.SetHeader.{set_octets, set_at}
 use Rattle.ipfix_wire.specs.declared.set.SetSpan.{SetSpan}
 use Rattle.ipfix_wire.specs.declared.fault.WireFault.{WireFault}
 use Rattle.ipfix_wire.specs.declared.fault.WireFault.TheVariants as wire
-use Rattle.ipfix_wire.specs.InTurn.{IsLongest}
+use Rattle.ipfix_wire.specs.InTurn.{Parts}
 use Rattle.ipfix_wire.proofs.Octets.{IsOctets-drop, set_spelled}
 use Rattle.ipfix_wire.proofs.Parts.{Shrinks, Reads, Spelled}
 use Rattle.ipfix_wire.proofs.Longest.{longest_from, longest_only}
 use Rattle.ipfix_message.specs.declared.fault.MessageFault.{MessageFault}
 use Rattle.ipfix_message.specs.Faults.{fault_of}
-use Rattle.ipfix_message.specs.Sets.{Set, SpellsSet, cut_set, next_set, sets_of, fault_after_sets}
+use Rattle.ipfix_message.specs.Sets.{AreSetsOf, Set, SpellsSet, cut_set, next_set, sets_of, fault_after_sets}
 use Rattle.ipfix_wire.proofs.Choices.{different}
 use Rattle.ipfix_wire.proofs.SetHeaders.{span_err, span, span_err_is, span_not_both, SetAt, by_tests, set_at-ok, set_at-again}
 use Rattle.ipfix_message.proofs.Reading.{ok_is, not_both, fault_is}
@@ -77,11 +78,11 @@ sets_read = record { found = next_set-found; only = next_set-only }
 
 -- ---- all sets
 
-pub sets_of-found : (w : List ℕ) → IsOctets w → IsLongest SpellsSet (sets_of w).items (sets_of w).rest w
+pub sets_of-found : (w : List ℕ) → IsOctets w → AreSetsOf (sets_of w) w
 sets_of-found w fits = longest_from SpellsSet next_set sets_read sets_shrink w fits
 
-pub sets_of-only : (w : List ℕ) (sets : List Set) (rest : List ℕ) → IsOctets w → IsLongest SpellsSet sets rest w → sets_of w ≡ record { items = sets; rest = rest }
-sets_of-only w sets rest fits longest = longest_only SpellsSet next_set sets_read sets_shrink sets rest w fits longest
+pub sets_of-only : (w : List ℕ) (sets : Parts Set) → IsOctets w → AreSetsOf sets w → sets_of w ≡ sets
+sets_of-only w sets fits longest = longest_only SpellsSet next_set sets_read sets_shrink sets.items sets.rest w fits longest
 
 -- where no set can be read, the fault is that of what is left
 pub next_set-fault : (w : List ℕ) (f : MessageFault) → 0 < length w → next_set w ≡ Err f → fault_after_sets w ≡ Some f
@@ -98,6 +99,13 @@ next_set-fault w f some h = by_cases (set_at w) refl h
         (λ short same. rw (no, lt-ltb (length w) 4 short) (ap (λ (x : MessageFault). Some x) (ap fault_of (span_err_is wire.SetHeader e same) ∙ fault_is (fault_of e) f g)))
         (λ long same. rw (no, le-ltb (length w) 4 long) (ap (λ (x : MessageFault). Some x) (ap fault_of (span_err_is wire.SetLength e same) ∙ fault_is (fault_of e) f g)))
         (λ room size whole same. absurd (span_not_both (span (big_number 2 w) (number_at 2 2 w - 4)) e same))
+
+pub next_set-left : (w : List ℕ) → 0 < length w → IfErr (next_set w) (λ f. fault_after_sets w ≡ Some f)
+next_set-left w some = by_cases (next_set w) refl
+  where
+    by_cases : (read : Result (Set × List ℕ) MessageFault) → next_set w ≡ read → IfErr read (λ f. fault_after_sets w ≡ Some f)
+    by_cases (Ok x) here = tt
+    by_cases (Err f) here = next_set-fault w f some here
 
 -- nothing holds no set
 pub next_set-nil : (w : List ℕ) → length w ≡ 0 → (f : MessageFault) × (next_set w ≡ Err f)

@@ -6,7 +6,7 @@ use Rattle.std.specs.List.Sorted.{IsStrictlySortedBy}
 use Rattle.std.specs.Map.{keys_of, lookup, values_of}
 use Rattle.std.specs.Ordering.{nat_cmp, eq_by_cmp}
 use Rattle.std.specs.Cmp.{nat_eq_equiv}
-use Rattle.std.specs.BTreeMap.{BTreeMap, values, IsOrdered}
+use Rattle.std.specs.BTreeMap.{BTreeMap, IsOrdered}
 use Rattle.std.proofs.lemmas.Bool.{eq-eqb, eqb-true, false_from_ne_true, lt-ltb, le-ltb, ltb-false}
 use Rattle.std.proofs.lemmas.Bool.Decides.{eqb_tells}
 use Rattle.std.proofs.lemmas.Cmp.{eq_by_cmp_equiv, nat_cmp_total}
@@ -34,7 +34,7 @@ use Rattle.ipfix_message.specs.Messages.{Decoding, before, data_in, one_skipped,
 use Rattle.ipfix_message.specs.Outcome.{◌>>=◌, Fails, unless}
 use Rattle.ipfix_message.specs.Sets.{Set, fault_after_sets, has_template_set, is_template_set, sets_of}
 use Rattle.ipfix_message.specs.TemplatesInForce.{in_force, unless_of}
-use Rattle.ipfix_message.specs.TemplateLimits.{IsWithin, domain_fields, fields_in, fields_of, ids_of, message_within, unless_more}
+use Rattle.ipfix_message.specs.TemplateLimits.{IsWithin, domain_fields, fields_in, fields_kept, fields_of, ids_of, message_within, unless_more}
 use Rattle.ipfix_message.proofs.History.{events_of, is_some-history}
 use Rattle.ipfix_message.proofs.PartsOf.{was_read}
 use Rattle.ipfix_message.proofs.Reading.{Fails-of, bind_ok, not_both, ok_is}
@@ -223,7 +223,7 @@ in_force_ids (WithdrawAll kind ∷ es) id there = ap (list_any (eqb id)) (all_wi
 
 -- ---- a domain, by its map
 
-pub domain_counted : (m : BTreeMap ℕ Template) (es : List Event) → IsOrdered nat_cmp m → Agrees m.entries es → domain_fields in_force es ≡ 16 + sum_by fields_of (values m)
+pub domain_counted : (m : BTreeMap ℕ Template) (es : List Event) → IsOrdered nat_cmp m → Agrees m.entries es → domain_fields in_force es ≡ fields_kept m
 domain_counted m es ordered agrees = ap (λ (n : ℕ). 16 + n) (counted fields_of m.entries (in_force es) (ids_of es) ordered agrees.at (once_ids es) (in_force_ids es))
 
 -- ---- the domains, one by one
@@ -251,14 +251,14 @@ counting_first all limit = record {
 }
 
 weighed : (all front rest : List (ℕ × BTreeMap ℕ Template)) (d : ℕ) (m : BTreeMap ℕ Template) (ds : History) → IsDistinct eqb (keys_of all) → all ≡ front ++ (d, m) ∷ rest → IsOrdered nat_cmp m
-    → StandsFor (kept all) ds → weight ds (d, m) ≡ 16 + sum_by fields_of (values m)
+    → StandsFor (kept all) ds → weight ds (d, m) ≡ fields_kept m
 weighed all front rest d m ds distinct are ordered stands =
     let among : Contains all (d, m) = subst (λ (xs : List (ℕ × BTreeMap ℕ Template)). Contains xs (d, m)) (sym are) (Contains-append_right front ((d, m) ∷ rest) (d, m) (zero, omega arith, refl)) in
     let at = events_of all ds d m stands (lookup-from_Contains nat_eq_equiv d m all distinct among) in
     domain_counted m (events_in ds d) ordered (subst (Agrees m.entries) (sym at.are) at.agrees)
 
 pub counting_more : (all rest : List (ℕ × BTreeMap ℕ Template)) (d : ℕ) (m : BTreeMap ℕ Template) (limit left less : ℕ) → IsDistinct eqb (keys_of all) → IsOrdered nat_cmp m
-    → (16 + sum_by fields_of (values m)) + less ≡ left → Counting all ((d, m) ∷ rest) limit left → Counting all rest limit less
+    → fields_kept m + less ≡ left → Counting all ((d, m) ∷ rest) limit left → Counting all rest limit less
 counting_more all rest d m limit left less distinct ordered one so_far = record {
   front = so_far.front ++ (d, m) ∷ [];
   are = so_far.are ∙ sym (append_assoc so_far.front ((d, m) ∷ []) rest);
@@ -270,7 +270,7 @@ counting_more all rest d m limit left less distinct ordered one so_far = record 
 }
 
 pub counting_above : (all rest : List (ℕ × BTreeMap ℕ Template)) (d : ℕ) (m : BTreeMap ℕ Template) (limit left : ℕ) (ds : History) → IsDistinct eqb (keys_of all) → IsOrdered nat_cmp m
-    → left < 16 + sum_by fields_of (values m) → Counting all ((d, m) ∷ rest) limit left → StandsFor (kept all) ds → limit < fields_in ds
+    → left < fields_kept m → Counting all ((d, m) ∷ rest) limit left → StandsFor (kept all) ds → limit < fields_in ds
 counting_above all rest d m limit left ds distinct ordered above so_far stands =
     let here = weighed all so_far.front rest d m ds distinct so_far.are ordered stands in
     let split = sum_by-cons (weight ds) (d, m) rest in

@@ -112,6 +112,23 @@ abbrev pub Decodes : Result Decoded MessageFault → List (ℕ × List (ℕ × T
 Decodes (Ok decoded) kept read = (m : Message) × (read ≡ Ok m) × IsAnswer decoded m × StandsFor kept m.domains
 Decodes (Err e) kept read = Fails e read
 
+-- P holds after each history that what is kept stands for, unless a message was refused
+abbrev pub IfUnspent : DomainsView → (History → Type 0) → Type 0
+IfUnspent d P = d.spent ≡ false → (ds : History) → StandsFor d.domains ds → P ds
+
+-- the answer to a message, and what is kept before and after it, are those of reading it after each history that is
+-- stood for
+abbrev pub ReadsMessage : List (ℕ × List (ℕ × Template)) → List (ℕ × List (ℕ × Template)) → List ℕ → Result Decoded MessageFault → Type 0
+ReadsMessage old new m result = (ds : History) → StandsFor old ds → Decodes result new (message_gives ds m)
+
+-- the same of the domains of a session
+abbrev pub DecodesMessage : DomainsView → DomainsView → List ℕ → Result Decoded MessageFault → Type 0
+DecodesMessage old new m result = ReadsMessage old.domains new.domains m result
+
+-- the header of a message is good, and its domain is one of those that are kept or finds room among them
+abbrev pub AdmitsMessage : List (ℕ × List (ℕ × Template)) → List ℕ → Type 0
+AdmitsMessage kept m = (ds : History) → StandsFor kept ds → IsAdmitted ds m
+
 -- ---- messages that change no template
 
 -- a message is read, and the domains stay as they are

@@ -1,5 +1,6 @@
 -- What the templates of a session count, and a limit that a session may have for them.
-use Rattle.std.specs.Prelude.{ℕ, ◌+◌, ◌≤◌, nat_lt, ◌==◌, not, if◌then◌else◌, List, [], ◌∷◌, length, filter, sum_by, option_map, unwrap_or, Option, Some, None, Ok, Err}
+use Rattle.std.specs.Prelude.{ℕ, ◌+◌, ◌≤◌, ◌<◌, nat_lt, ◌==◌, Bool, MatchBool, not, if◌then◌else◌, List, [], ◌∷◌, length, filter, sum_by, option_map, unwrap_or, Option, Some, None, Ok, Err}
+use Rattle.std.specs.BTreeMap.{BTreeMap, values}
 use Rattle.std.specs.Map.{keys_of}
 use Rattle.ipfix_message.specs.declared.fault.MessageFault.TheVariants.{TooManyFields}
 use Rattle.ipfix_message.specs.declared.record.Template.{Template}
@@ -35,7 +36,15 @@ domain_fields known es = DOMAIN_FIELDS + sum_by (λ id. fields_if (known es id))
 abbrev pub fields_in : History → ℕ
 fields_in ds = sum_by (λ domain. domain_fields in_force (events_in ds domain)) (keys_of ds)
 
+-- the same by the templates that are kept of a domain
+abbrev pub fields_kept : BTreeMap ℕ Template → ℕ
+fields_kept templates = DOMAIN_FIELDS + sum_by fields_of (values templates)
+
 -- ---- a limit
+
+-- a test of whether they count no more than a limit
+abbrev pub TellsWithin : Bool → ℕ → History → Type 0
+TellsWithin b limit ds = MatchBool b (fields_in ds ≤ limit) (limit < fields_in ds)
 
 -- they count no more than the limit, if there is one
 abbrev pub IsWithin : Option ℕ → History → Type 0

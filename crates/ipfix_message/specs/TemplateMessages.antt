@@ -1,5 +1,5 @@
 -- Messages in which templates are written again (RFC 7011, sections 3.1 and 3.4).
-use Rattle.std.specs.Prelude.{ℕ, ◌+◌, ◌^◌, ◌<◌, List, ◌++◌, length, flat_map}
+use Rattle.std.specs.Prelude.{ℕ, ◌+◌, ◌^◌, ◌<◌, List, [], ◌∷◌, ◌++◌, length, flat_map}
 use Rattle.ipfix_wire.specs.MessageHeader.{header_octets}
 use Rattle.ipfix_wire.specs.declared.header.Header.{Header}
 use Rattle.ipfix_wire.specs.declared.header.TheConstants.{HEADER_LENGTH}
@@ -24,3 +24,7 @@ stamped s n = record { length = HEADER_LENGTH + n; export_time = s.export_time; 
 -- a message of templates, each in a set of its own
 abbrev pub templates_message : Stamp → List Template → List ℕ
 templates_message s ts = header_octets (stamped s (length (sets_octets ts))) ++ sets_octets ts
+
+-- a message of only one template
+abbrev pub message_of_template : Stamp → Template → List ℕ
+message_of_template s t = templates_message s (t ∷ [])

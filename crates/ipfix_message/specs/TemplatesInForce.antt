@@ -48,6 +48,10 @@ pub record IsInForce (t : Template) (es : List Event) : Type 0 where
   pub order : es ≡ later ++ Define t ∷ earlier
   pub lasts : Outlasts t later
 
+-- t is the last definition of this id, and no later event ended it
+abbrev pub IsInForceFor : ℕ → Template → List Event → Type 0
+IsInForceFor id t es = (t.id ≡ id) × IsInForce t es
+
 -- ---- what an event means after the events before it
 
 abbrev pub same_spec : Spec → Spec → Bool

@@ -28,6 +28,10 @@ abbrev pub scope_octets : TemplateKind → ℕ → List ℕ
 scope_octets Plain scope = []
 scope_octets Options scope = big_bytes 2 scope
 
+-- octets that are written, and what follows them, have room where these were read
+abbrev pub HaveRoom : List ℕ → List ℕ → List ℕ → Type 0
+HaveRoom octets rest w = length octets + length rest ≤ length w
+
 -- ---- a template as octets
 
 -- an options template has scope fields

@@ -1,12 +1,9 @@
 //! Whether the sets of a message can be read that are no template sets. Nothing of them is kept, and no memory is taken.
 
-ghost use Rattle.std.specs.Prelude.{◌≡◌, ℕ, List, false, not, IfOk, IsOk, MatchResult, Err};
-ghost use Rattle.ipfix_wire.specs.declared.header.Header.{Header};
-ghost use Rattle.ipfix_message.specs.DataRecords.{records_of_body};
-ghost use Rattle.ipfix_message.specs.Held.{Agrees, Checks, ChecksSets};
-ghost use Rattle.ipfix_message.specs.Messages.{Decoding, set_gives, sets_from};
+ghost use Rattle.std.specs.Prelude.{◌≡◌, ℕ, List, false, not, IfOk};
+ghost use Rattle.ipfix_message.specs.Held.{ChecksBody, ChecksSet, ChecksSets};
 ghost use Rattle.ipfix_message.specs.Sets as specs;
-ghost use Rattle.ipfix_message.specs.declared.fault.MessageFault.TheVariants.{RecordCut};
+ghost use Rattle.ipfix_message.specs.Sets.{set_of};
 
 use crate::fault::MessageFault;
 use crate::in_force::Templates;
@@ -16,9 +13,7 @@ use ipfix_wire::{FIRST_TEMPLATE_ID, OPTIONS_TEMPLATE_SET_ID, TEMPLATE_SET_ID};
 
 // Checks the records in the body of a data set (RFC 7011, section 3.4.3).
 fn check_body(known: &TemplateInForce, body: &[u8]) -> Result<(), MessageFault>
-    ensures { MatchResult result
-        (λ _. IsOk (records_of_body known.now.specs body.now))
-        (λ fault. (fault ≡ RecordCut) × (records_of_body known.now.specs body.now ≡ Err fault)) }
+    ensures { ChecksBody result known.now.specs body.now }
 {
     let laid_out = known.laid_out();
     let least = known.least();
@@ -31,9 +26,8 @@ fn check_body(known: &TemplateInForce, body: &[u8]) -> Result<(), MessageFault>
 
 // Checks a set that is no template set.
 fn check_set(id: u16, body: &[u8], templates: &Templates) -> Result<(), MessageFault>
-    requires { specs.is_template_set (record { id = id; body = body.now }) ≡ false }
-    ensures { (h : Header) (d : Decoding) → Agrees templates.now.entries d.events
-        → Checks result d (set_gives h d (record { id = id; body = body.now })) }
+    requires { specs.is_template_set (set_of id body.now) ≡ false }
+    ensures { ChecksSet templates.now.entries (set_of id body.now) result }
 {
     if id < FIRST_TEMPLATE_ID {
         return Ok(());
@@ -46,7 +40,7 @@ fn check_set(id: u16, body: &[u8], templates: &Templates) -> Result<(), MessageF
 
 // Whether a set of this id is a template set.
 fn is_template_set(id: u16) -> bool
-    ensures { (body : List ℕ) → result ≡ specs.is_template_set (record { id = id; body = body }) }
+    ensures { (body : List ℕ) → result ≡ specs.is_template_set (set_of id body) }
 {
     id == TEMPLATE_SET_ID || id == OPTIONS_TEMPLATE_SET_ID
 }
@@ -71,8 +65,7 @@ pub fn has_template_set(octets: &[u8]) -> bool
 /// Checks the sets in what follows a message's header, up to the first template set, and answers whether there
 /// is none. The fault is that of reading them.
 pub fn check_sets(octets: &[u8], templates: &Templates) -> Result<bool, MessageFault>
-    ensures sets { (h : Header) (d : Decoding) → Agrees templates.now.entries d.events
-        → ChecksSets result d (sets_from h d octets.now) }
+    ensures sets { ChecksSets templates.now.entries octets.now result }
     ensures data { IfOk result (λ is_data. is_data ≡ not (specs.has_template_set octets.now)) }
 {
     let mut rest = octets;

@@ -1,9 +1,9 @@
 //! The records of a data set (RFC 7011, sections 3.4.3 and 7).
 
-ghost use Rattle.std.specs.Prelude.{◌≡◌, ◌≤◌, ◌++◌, length, map};
+ghost use Rattle.std.specs.Prelude.{◌≤◌, length};
 ghost use Rattle.ipfix_message.specs.declared.template_record.TheConstants.{LONGEST_BODY};
-ghost use Rattle.ipfix_message.specs.Outcome.{Gives, map_read};
-ghost use Rattle.ipfix_message.specs.DataRecords.{records_of_body, record_of};
+ghost use Rattle.ipfix_message.specs.Outcome.{Gives};
+ghost use Rattle.ipfix_message.specs.Held.{extended};
 
 use crate::fault::MessageFault;
 use crate::field_block::Fields;
@@ -24,8 +24,7 @@ pub fn take_records(
 ) -> Result<(), MessageFault>
     requires { length body.now ≤ LONGEST_BODY }
     ensures { Gives (λ _. out.new.items) result
-        (map_read (λ rs. out.old.items ++ map (record_of header.now known.now) rs)
-        (records_of_body known.now.specs body.now)) }
+        (extended out.old.items header.now known.now body.now) }
 {
     let template = known.template();
     let laid_out = known.laid_out();

@@ -1,11 +1,11 @@
 //! The domains of a transport session, which decode its messages (RFC 7011, sections 3.1 and 8).
 
-ghost use Rattle.std.specs.Prelude.{[], ◌≡◌, ◌≤◌, ◌<◌, false, true, IsTrue, ℕ, IsErrOf, IsOk, IfOk, OnOk, OnErr, Ok, Err, MatchBool, None, nat_eq, option_copied, option_map, option_and_then};
+ghost use Rattle.std.specs.Prelude.{[], ◌≡◌, ◌≤◌, false, true, IsTrue, ℕ, IsErrOf, IsOk, IfOk, OnOk, OnErr, Ok, Err, MatchBool, None, nat_eq, option_copied, option_map, option_and_then};
 ghost use Rattle.std.specs.Map.{lookup};
 ghost use Rattle.std.specs.Ordering.{nat_cmp};
 ghost use Rattle.std.specs.BTreeMap.{get};
-ghost use Rattle.ipfix_message.specs.Domains.{History, Message, StandsFor, Decodes, IsAdmitted, IsChecked, admit, message_header, message_gives, template_for, alone};
-ghost use Rattle.ipfix_message.specs.TemplateLimits.{IsWithin, fields_in, message_within};
+ghost use Rattle.ipfix_message.specs.Domains.{History, Message, StandsFor, AdmitsMessage, Decodes, DecodesMessage, IfUnspent, IsChecked, admit, message_header, message_gives, template_for, alone};
+ghost use Rattle.ipfix_message.specs.TemplateLimits.{IsWithin, TellsWithin, fields_in, message_within};
 ghost use Rattle.ipfix_message.specs.declared.fault.MessageFault.TheVariants.{OutOfMemory, Spent, TooManyDomains};
 
 use crate::data_check::{check_sets, has_template_set};
@@ -59,10 +59,10 @@ impl Domains {
     /// the new domain itself finds no memory. After a fault each further call answers `Spent`.
     pub fn decode(&mut self, alloc: Global, message: &[u8]) -> Result<Decoded, MessageFault>
         ensures spent { IsTrue self.old.spent → result ≡ Err Spent }
-        ensures gives { self.old.spent ≡ false → (ds : History) → StandsFor self.old.domains ds
-            → Decodes result self.new.domains (message_gives ds message.now) }
-        ensures memory { IsErrOf result OutOfMemory → (ds : History) → StandsFor self.old.domains ds
-            → IsAdmitted ds message.now }
+        ensures gives { self.old.spent ≡ false
+            → DecodesMessage self.old self.new message.now result }
+        ensures memory { IsErrOf result OutOfMemory
+            → AdmitsMessage self.old.domains message.now }
         ensures ok { OnOk result (self.new.spent ≡ false) }
         ensures err { OnErr result (self.new.spent ≡ true) }
     {
@@ -87,10 +87,10 @@ impl Domains {
     ) -> Result<Decoded, MessageFault>
         requires { message_header message.now ≡ Ok header.now }
         ensures spent { IsTrue self.old.spent → result ≡ Err Spent }
-        ensures gives { self.old.spent ≡ false → (ds : History) → StandsFor self.old.domains ds
-            → Decodes result self.new.domains (message_gives ds message.now) }
-        ensures memory { IsErrOf result OutOfMemory → (ds : History) → StandsFor self.old.domains ds
-            → IsAdmitted ds message.now }
+        ensures gives { self.old.spent ≡ false
+            → DecodesMessage self.old self.new message.now result }
+        ensures memory { IsErrOf result OutOfMemory
+            → AdmitsMessage self.old.domains message.now }
         ensures ok { OnOk result (self.new.spent ≡ false) }
         ensures err { OnErr result (self.new.spent ≡ true) }
     {
@@ -115,11 +115,10 @@ impl Domains {
     ) -> Result<Decoded, MessageFault>
         requires { message_header message.now ≡ Ok header.now }
         ensures spent { IsTrue self.old.spent → result ≡ Err Spent }
-        ensures gives { self.old.spent ≡ false → (ds : History) → StandsFor self.old.domains ds
-            → IsWithin limit ds
-            → Decodes result self.new.domains (message_within limit ds message.now) }
-        ensures memory { IsErrOf result OutOfMemory → (ds : History) → StandsFor self.old.domains ds
-            → IsAdmitted ds message.now }
+        ensures gives { IfUnspent self.old (λ ds. IsWithin limit ds
+            → Decodes result self.new.domains (message_within limit ds message.now)) }
+        ensures memory { IsErrOf result OutOfMemory
+            → AdmitsMessage self.old.domains message.now }
         ensures ok { OnOk result (self.new.spent ≡ false) }
         ensures err { OnErr result (self.new.spent ≡ true) }
     {
@@ -150,8 +149,7 @@ impl Domains {
     // Whether the templates count no more than a limit, as they do if nothing was added.
     fn is_left_within(&self, may_add: bool, limit: u64) -> bool
         ensures { (ds : History) → StandsFor self.now.domains ds
-            → (may_add ≡ false → fields_in ds ≤ limit)
-            → MatchBool result (fields_in ds ≤ limit) (limit < fields_in ds) }
+            → (may_add ≡ false → fields_in ds ≤ limit) → TellsWithin result limit ds }
     {
         if may_add {
             return are_within(&self.known, limit);
@@ -162,8 +160,8 @@ impl Domains {
     /// The template that is in force for an id in a domain, or `None` after a fault.
     pub fn lookup(&self, domain: u32, id: u16) -> Option<&Template>
         ensures spent { IsTrue self.now.spent → result ≡ None }
-        ensures found { self.now.spent ≡ false → (ds : History) → StandsFor self.now.domains ds
-            → option_copied result ≡ template_for ds domain id }
+        ensures found { IfUnspent self.now
+            (λ ds. option_copied result ≡ template_for ds domain id) }
     {
         if self.spent {
             return None;
@@ -180,9 +178,9 @@ impl Domains {
         ensures spent { IsTrue self.now.spent → result ≡ None }
         ensures entries { self.now.spent ≡ false → option_map (λ t. t.entries) (option_copied result)
             ≡ lookup (nat_eq domain) self.now.domains }
-        ensures found { self.now.spent ≡ false → (ds : History) → StandsFor self.now.domains ds
-            → (id : ℕ) → option_and_then (λ t. get nat_cmp t id) (option_copied result)
-            ≡ template_for ds domain id }
+        ensures found { IfUnspent self.now (λ ds. (id : ℕ)
+            → option_and_then (λ t. get nat_cmp t id) (option_copied result)
+            ≡ template_for ds domain id) }
     {
         if self.spent {
             return None;
@@ -207,8 +205,8 @@ impl Domains {
     pub fn check_data(&self, header: &Header, message: &[u8]) -> Result<bool, MessageFault>
         requires { message_header message.now ≡ Ok header.now }
         ensures spent { IsTrue self.now.spent → result ≡ Ok false }
-        ensures checked { self.now.spent ≡ false → (ds : History) → StandsFor self.now.domains ds
-            → IsChecked result ds header.now.domain message.now }
+        ensures checked { IfUnspent self.now
+            (λ ds. IsChecked result ds header.now.domain message.now) }
     {
         let Some(templates) = self.templates(header.domain) else {
             return Ok(false);

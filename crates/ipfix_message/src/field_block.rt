@@ -5,7 +5,6 @@ ghost use Rattle.std.specs.Option.{option_map};
 ghost use Rattle.ipfix_message.specs.Fields.{octets_of};
 ghost use Rattle.ipfix_message.specs.FieldViews.{field_of};
 ghost use Rattle.ipfix_message.specs.KeptFields.{IsInSet, IsKept, after_set, kept_fields, of_set};
-ghost use Rattle.ipfix_message.specs.SetRecords.{HasRecordAt, fields_from};
 
 use crate::field_iter::{FieldIter, FieldRef};
 use crate::field_run::{FieldRun, find_element};
@@ -164,21 +163,31 @@ fn with_short(kept: Kept, short: Box<ShortFields>) -> Kept
     }
 }
 
-// The octets of the first field of an element in the record that begins at an octet of a set's body
-// or, where it has none, in a tail.
-#[inline(never)]
-fn find_in_both<'a>(
-    set: &'a SetBody,
-    start: u32,
-    tail: FieldRun<'a>,
-    element: ElementId,
-) -> Option<&'a [u8]>
-    requires { HasRecordAt set.now start }
-    ensures { option_copied result ≡ octets_of element (fields_from set.now start ++ tail.entry) }
+// The octets of the first field of an element among those of a set.
+#[inline(always)]
+fn find_in_set(kept: &Kept, element: ElementId) -> Option<&[u8]>
+    requires { IsKept kept.now }
+    ensures { option_copied result ≡ octets_of element (of_set kept.now) }
 {
-    match set.find_at(start, element) {
-        Some(octets) => Some(octets),
-        None => find_element(tail, element),
+    match kept {
+        Kept::InSet(set_record) => set_record.find(element),
+        Kept::Extended(start, set, _) | Kept::Short(start, set, _) | Kept::Pushed(start, set, _) =>
+            set.find_at(*start, element),
+        Kept::Nothing | Kept::Own(_) => None,
+    }
+}
+
+// The octets of the first field of an element among those after the fields of a set.
+#[inline(never)]
+fn find_after_set(kept: &Kept, element: ElementId) -> Option<&[u8]>
+    ensures { option_copied result ≡ octets_of element (after_set kept.now) }
+{
+    match kept {
+        Kept::Nothing | Kept::InSet(_) => None,
+        Kept::Extended(_, _, tail) => tail.find(element),
+        Kept::Short(_, _, tail) => find_element(tail.iter(), element),
+        Kept::Pushed(_, _, tail) => tail.find(element),
+        Kept::Own(own) => own.find(element),
     }
 }
 
@@ -315,13 +324,9 @@ impl Fields {
     pub fn find(&self, element: ElementId) -> Option<&[u8]>
         ensures { option_copied result ≡ octets_of element self.now }
     {
-        match &self.kept {
-            Kept::Nothing => None,
-            Kept::InSet(set_record) => set_record.find(element),
-            Kept::Extended(start, set, tail) => find_in_both(set, *start, tail.iter(), element),
-            Kept::Short(start, set, tail) => find_in_both(set, *start, tail.iter(), element),
-            Kept::Pushed(start, set, tail) => find_in_both(set, *start, tail.iter(), element),
-            Kept::Own(own) => own.find(element),
+        match find_in_set(&self.kept, element) {
+            Some(octets) => Some(octets),
+            None => find_after_set(&self.kept, element),
         }
     }
 }

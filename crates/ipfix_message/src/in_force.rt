@@ -1,12 +1,11 @@
 //! The templates of one domain that are in force (RFC 7011, section 8).
 
-ghost use Rattle.std.specs.Prelude.{◌≡◌, ◌==◌, ◌∷◌, ℕ, List, Some, if◌then◌else◌, ◌≤◌, length, OnOk, IfOk};
+ghost use Rattle.std.specs.Prelude.{◌≡◌, ◌∷◌, ℕ, Some, ◌≤◌, length, OnOk, IfOk};
 ghost use Rattle.std.specs.Ordering.{nat_cmp};
 ghost use Rattle.std.specs.BTreeMap.{get};
 ghost use Rattle.ipfix_message.specs.Outcome.{Gives};
 ghost use Rattle.ipfix_message.specs.TemplatesInForce.{is_none_of, unless_of, event_gives, template_set_gives};
-ghost use Rattle.ipfix_message.specs.Held.{Agrees, defining, Updates};
-ghost use Rattle.ipfix_message.specs.declared.template_record.Event.{Event};
+ghost use Rattle.ipfix_message.specs.Held.{MapAgrees, ChangesAt, ForEvents, defining, Updates};
 ghost use Rattle.ipfix_message.specs.declared.template_record.TheConstants.{LONGEST_BODY};
 
 use crate::fault::MessageFault;
@@ -21,8 +20,7 @@ pub type Templates = BTreeMap<u16, TemplateInForce>;
 // Puts a template in force. The layout of its records is found only if it isn't in force already.
 fn define(alloc: Global, templates: &mut Templates, new: Definition) -> Result<(), MessageFault>
     ensures gives { Gives (λ x. x) result (defining new (get nat_cmp templates.old new.id)) }
-    ensures ok { OnOk result ((id : ℕ) → get nat_cmp templates.new id
-        ≡ (if id == new.id then Some new else get nat_cmp templates.old id)) }
+    ensures ok { OnOk result (ChangesAt new.id (λ _. Some new) templates.old templates.new) }
 {
     let id = new.id();
     if let Some(known) = templates.get(&id) {
@@ -38,9 +36,7 @@ fn define(alloc: Global, templates: &mut Templates, new: Definition) -> Result<(
 // Ends a template of a kind, and answers whether there was none.
 fn withdraw(templates: &mut Templates, kind: TemplateKind, id: u16) -> bool
     ensures ignored { result ≡ is_none_of kind (get nat_cmp templates.old id) }
-    ensures left { (q : ℕ) → get nat_cmp templates.new q
-        ≡ (if q == id then unless_of kind (get nat_cmp templates.old q)
-        else get nat_cmp templates.old q) }
+    ensures left { ChangesAt id (unless_of kind) templates.old templates.new }
 {
     let is_known = match templates.get(&id) {
         Some(known) => known.is_of(kind),
@@ -61,10 +57,10 @@ fn withdraw_all(templates: &mut Templates, kind: TemplateKind)
 
 // Brings the templates up to an event, and answers whether it is a withdrawal that is ignored.
 fn take_event(alloc: Global, templates: &mut Templates, event: Event) -> Result<bool, MessageFault>
-    ensures gives { (es : List Event) → Agrees templates.old.entries es
-        → Gives (λ b. b) result (event_gives es event) }
-    ensures ok { (es : List Event) → Agrees templates.old.entries es
-        → OnOk result (Agrees templates.new.entries (event ∷ es)) }
+    ensures gives { ForEvents templates.old
+        (λ es. Gives (λ b. b) result (event_gives es event)) }
+    ensures ok { ForEvents templates.old
+        (λ es. OnOk result (MapAgrees templates.new (event ∷ es))) }
 {
     match event {
         Event::Define(new) => {
@@ -88,8 +84,8 @@ pub fn take_templates(
 ) -> Result<u64, MessageFault>
     requires { length body.now ≤ LONGEST_BODY }
     ensures few { IfOk result (λ n. n ≤ length body.now) }
-    ensures gives { (es : List Event) → Agrees templates.old.entries es
-        → Updates result templates.new.entries (template_set_gives kind es body.now) }
+    ensures gives { ForEvents templates.old
+        (λ es. Updates result templates.new.entries (template_set_gives kind es body.now)) }
 {
     let mut ignored = 0;
     let mut rest = body;

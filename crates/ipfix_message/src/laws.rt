@@ -1,7 +1,7 @@
 //! Laws of the definitions. Each is a function that does nothing, and its contract is the theorem: a
 //! call brings that to the proof of its caller.
 
-ghost use Rattle.std.specs.Prelude.{◌≡◌, ◌<◌, ◌↔◌, ℕ, List, Some, None, Ok, Err, All, length};
+ghost use Rattle.std.specs.Prelude.{◌≡◌, ◌<◌, ◌↔◌, ℕ, List, Some, None, Ok, IfErr, All, length};
 ghost use Rattle.ipfix_wire.specs.Numbers.{IsOctets};
 ghost use Rattle.ipfix_wire.specs.declared.specifier.Spec.{Spec};
 ghost use Rattle.ipfix_message.specs.Alike.{SameMessage, IsPartOf, knows};
@@ -9,13 +9,13 @@ ghost use Rattle.ipfix_message.specs.Fields.{Field};
 ghost use Rattle.ipfix_message.specs.DataRecords;
 ghost use Rattle.ipfix_message.specs.DataRecords.{IsBody, HasOctets, records_of_body};
 ghost use Rattle.ipfix_message.specs.Domains.{History, Message, message_gives};
-ghost use Rattle.ipfix_wire.specs.InTurn.{IsLongest};
+ghost use Rattle.ipfix_wire.specs.InTurn.{IsLongest, Parts};
 ghost use Rattle.ipfix_message.specs.TemplateRecords.{SpellsEvent, IsTemplateSet, IsPadding, FaultAt, events_of, fault_after_events};
 ghost use Rattle.ipfix_message.specs.declared.template_record.TemplateKind.{TemplateKind};
 ghost use Rattle.ipfix_message.specs.declared.template_record.Event.{Event};
-ghost use Rattle.ipfix_message.specs.TemplatesInForce.{IsInForce, in_force};
+ghost use Rattle.ipfix_message.specs.TemplatesInForce.{IsInForceFor, in_force};
 ghost use Rattle.ipfix_message.specs.declared.record.Template.{Template};
-ghost use Rattle.ipfix_message.specs.Sets.{Set, SpellsSet, next_set, sets_of, fault_after_sets};
+ghost use Rattle.ipfix_message.specs.Sets.{AreSetsOf, Set, next_set, sets_of, fault_after_sets};
 ghost use Rattle.ipfix_message.specs.declared.fault.MessageFault.{MessageFault};
 ghost use Rattle.ipfix_message.specs.declared.message.TheConstants.{MAX_DOMAINS};
 
@@ -31,12 +31,11 @@ pub fn one_body()
 /// follows the message's header (RFC 7011, section 3.3), and the fault of what is left is that of
 /// reading one more set.
 pub fn longest_sets()
-    ensures found { (w : List ℕ) → IsOctets w
-        → IsLongest SpellsSet (sets_of w).items (sets_of w).rest w }
-    ensures only { (w rest : List ℕ) (sets : List Set) → IsOctets w
-        → IsLongest SpellsSet sets rest w → sets_of w ≡ record { items = sets; rest = rest } }
-    ensures left { (rest : List ℕ) (f : MessageFault) → 0 < length rest
-        → next_set rest ≡ Err f → fault_after_sets rest ≡ Some f }
+    ensures found { (w : List ℕ) → IsOctets w → AreSetsOf (sets_of w) w }
+    ensures only { (w : List ℕ) (sets : Parts Set) → IsOctets w
+        → AreSetsOf sets w → sets_of w ≡ sets }
+    ensures left { (w : List ℕ) → 0 < length w
+        → IfErr (next_set w) (λ f. fault_after_sets w ≡ Some f) }
 {}
 
 /// The template records in the body of a template set are the longest list of definitions and
@@ -60,7 +59,7 @@ pub fn longest_events()
 /// withdrawal of that id or of all templates ended it (RFC 7011, section 8.1).
 pub fn last_definition()
     ensures { (es : List Event) (id : ℕ) (t : Template)
-        → (in_force es id ≡ Some t) ↔ ((t.id ≡ id) × IsInForce t es) }
+        → (in_force es id ≡ Some t) ↔ IsInForceFor id t es }
 {}
 
 /// The fields of a message's records have octets, if the message has: each number of theirs is below

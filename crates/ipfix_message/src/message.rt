@@ -3,7 +3,7 @@
 ghost use Rattle.std.specs.Prelude.{◌≡◌, ◌≤◌, ◌+◌, nat_eq, length, drop, Ok, IsOk, IsErrOf, OnOk, IsSome};
 ghost use Rattle.indexmap.specs.IndexMap.{get};
 ghost use Rattle.ipfix_message.specs.Domains;
-ghost use Rattle.ipfix_message.specs.Domains.{History, StandsFor, Decodes, IsAdmitted, message_gives, passed_over_of};
+ghost use Rattle.ipfix_message.specs.Domains.{History, StandsFor, AdmitsMessage, ReadsMessage, passed_over_of};
 ghost use Rattle.ipfix_message.specs.Held.{Admits};
 ghost use Rattle.ipfix_message.specs.Outcome.{Gives};
 ghost use Rattle.ipfix_message.specs.declared.fault.MessageFault.TheVariants.{OutOfMemory};
@@ -111,10 +111,10 @@ pub fn read_message(
     message: &[u8],
 ) -> Result<Decoded, MessageFault>
     requires { Domains.message_header message.now ≡ Ok header.now }
-    ensures gives { (ds : History) → StandsFor (kept known.old.entries) ds
-        → Decodes result (kept known.new.entries) (message_gives ds message.now) }
-    ensures memory { IsErrOf result OutOfMemory → (ds : History)
-        → StandsFor (kept known.old.entries) ds → IsAdmitted ds message.now }
+    ensures gives { ReadsMessage
+        (kept known.old.entries) (kept known.new.entries) message.now result }
+    ensures memory { IsErrOf result OutOfMemory
+        → AdmitsMessage (kept known.old.entries) message.now }
 {
     admit(alloc, known, header.domain)?;
     let mut decoded = Decoded {

@@ -4,6 +4,7 @@ ghost use Rattle.std.specs.Prelude.{◌≡◌, ◌+◌, ◌<◌, ◌≤◌, ◌^
 ghost use Rattle.ipfix_message.specs.declared.template_record.TheConstants.{LONGEST_BODY};
 ghost use Rattle.ipfix_message.specs.Outcome.{Gives};
 ghost use Rattle.ipfix_message.specs.Sets;
+ghost use Rattle.ipfix_message.specs.Sets.{set_length, set_of};
 ghost use Rattle.ipfix_message.specs.declared.fault.MessageFault.TheVariants.{OutOfMemory};
 ghost use Rattle.ipfix_message.specs.Messages;
 ghost use Rattle.ipfix_message.specs.Messages.{Decoding, set_gives, sets_from};
@@ -25,10 +26,10 @@ use std::alloc::Global;
 #[tactic(auto, unfolding(crate::specs::Sets::next_set))]
 pub fn next_set(rest: &[u8]) -> Result<((u16, &[u8]), &[u8]), MessageFault>
     requires { 0 < length rest.now }
-    ensures exact { Gives (λ x. (record { id = x.0.0; body = x.0.1.now }, x.1.now)) result
+    ensures exact { Gives (λ x. (set_of x.0.0 x.0.1.now, x.1.now)) result
         (Sets.next_set rest.now) }
-    ensures room { IfOk result (λ x.
-        SET_HEADER_LENGTH + length x.0.1.now + length x.1.now ≡ length rest.now) }
+    ensures room { IfOk result
+        (λ x. set_length x.0.1.now + length x.1.now ≡ length rest.now) }
     ensures memory { ¬ IsErrOf result OutOfMemory }
 {
     let span = read_set(rest)?;
@@ -98,7 +99,7 @@ fn take_set(
     ensures header { decoded.new.header ≡ decoded.old.header }
     ensures gives { (d : Decoding) → Holds templates.old.entries decoded.old d
         → Reaches result templates.new.entries decoded.new
-        (set_gives decoded.old.header d (record { id = id; body = body.now })) }
+        (set_gives decoded.old.header d (set_of id body.now)) }
 {
     if id == TEMPLATE_SET_ID {
         take_template_set(alloc, TemplateKind::Plain, body, templates, decoded)

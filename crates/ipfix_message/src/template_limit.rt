@@ -1,11 +1,11 @@
 //! What the templates of a session count, beside a limit.
 
-ghost use Rattle.std.specs.Prelude.{◌≡◌, ◌+◌, ◌≤◌, ◌<◌, sum_by, MatchBool, MatchOption};
-ghost use Rattle.std.specs.BTreeMap.{values, IsOrdered};
+ghost use Rattle.std.specs.Prelude.{◌≡◌, ◌+◌, ◌<◌, IfNone, IfSome};
+ghost use Rattle.std.specs.BTreeMap.{IsOrdered};
 ghost use Rattle.std.specs.Ordering.{nat_cmp};
 ghost use Rattle.ipfix_message.specs.Domains.{History, StandsFor};
 ghost use Rattle.ipfix_message.specs.Kept.{kept};
-ghost use Rattle.ipfix_message.specs.TemplateLimits.{fields_in, fields_of};
+ghost use Rattle.ipfix_message.specs.TemplateLimits.{TellsWithin, fields_kept, fields_of};
 
 use crate::in_force::Templates;
 use crate::record::Template;
@@ -26,8 +26,8 @@ pub fn count_of(template: &Template) -> u64
 
 // What is left of a limit beside the templates of a domain, if they count no more than that.
 fn left_beside(templates: &Templates, limit: u64) -> Option<u64>
-    ensures left { let n = DOMAIN_FIELDS + sum_by fields_of (values templates.now) in
-        MatchOption result (limit < n) (λ left. n + left ≡ limit) }
+    ensures above { IfNone result (limit < fields_kept templates.now) }
+    ensures left { IfSome result (λ left. fields_kept templates.now + left ≡ limit) }
     ensures ordered { IsOrdered nat_cmp templates.now }
 {
     let counted = templates.values();
@@ -41,7 +41,7 @@ fn left_beside(templates: &Templates, limit: u64) -> Option<u64>
 /// Whether the templates of all domains count no more than a limit.
 pub fn are_within(known: &IndexMap<u32, Templates>, limit: u64) -> bool
     ensures { (ds : History) → StandsFor (kept known.now.entries) ds
-        → MatchBool result (fields_in ds ≤ limit) (limit < fields_in ds) }
+        → TellsWithin result limit ds }
 {
     let mut left = limit;
     for (_, templates) in known.iter() {

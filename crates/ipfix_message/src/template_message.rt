@@ -1,8 +1,8 @@
 //! Messages in which templates are written again (RFC 7011, sections 3.1, 3.4.1 and 3.4.2).
 
-ghost use Rattle.std.specs.Prelude.{◌≡◌, ◌++◌, ◌∷◌, [], OnOk};
+ghost use Rattle.std.specs.Prelude.{◌≡◌, ◌++◌, OnOk};
 ghost use Rattle.ipfix_message.specs.WrittenTemplates.{set_id_of, kind_of, IsTemplate};
-ghost use Rattle.ipfix_message.specs.TemplateMessages.{templates_message};
+ghost use Rattle.ipfix_message.specs.TemplateMessages.{message_of_template};
 
 use crate::record::Template;
 use crate::stamp::Stamp;
@@ -34,7 +34,7 @@ pub fn append_template_message(
 ) -> Result<(), AllocError>
     requires { IsTemplate template.now }
     ensures { OnOk result
-        (out.new.items ≡ out.old.items ++ templates_message stamp (template.now ∷ [])) }
+        (out.new.items ≡ out.old.items ++ message_of_template stamp template.now) }
 {
     body.clear();
     append_template(template, body)?;

@@ -6,7 +6,7 @@ ghost use Rattle.ipfix_message.specs.Outcome.{Gives};
 ghost use Rattle.ipfix_message.specs.DataRecords;
 ghost use Rattle.ipfix_message.specs.TemplateRecords;
 ghost use Rattle.ipfix_wire.specs.FieldSpecifier.{spec_octets};
-ghost use Rattle.ipfix_message.specs.WrittenTemplates.{IsScope, IsSpec, scope_octets};
+ghost use Rattle.ipfix_message.specs.WrittenTemplates.{HaveRoom, IsScope, IsSpec, scope_octets};
 ghost use Rattle.ipfix_message.specs.TemplateRecords.{set_id_of, scope_at, specs_at, record_at, event_at};
 
 use crate::fault::MessageFault;
@@ -92,8 +92,7 @@ fn scope_of(kind: TemplateKind, count: u16, rest: &[u8]) -> Result<(u16, &[u8]),
     ensures exact { Gives (λ x. (x.0, x.1.now)) result (scope_at kind count rest.now) }
     ensures scoped { IfOk result (λ x. IsScope kind x.0 count) }
     // It is written again in no more octets.
-    ensures room { IfOk result (λ x.
-        length (scope_octets kind x.0) + length x.1.now ≤ length rest.now) }
+    ensures room { IfOk result (λ x. HaveRoom (scope_octets kind x.0) x.1.now rest.now) }
 {
     match kind {
         TemplateKind::Plain => Ok((0, rest)),
@@ -117,8 +116,8 @@ fn specs_of(alloc: Global, count: u16, octets: &[u8]) -> Result<(Vec<Spec>, &[u8
     ensures count { IfOk result (λ x. vec_len x.0 ≡ count) }
     ensures each { IfOk result (λ x. All IsSpec x.0.items) }
     // They are written again in no more octets.
-    ensures room { IfOk result (λ x.
-        length (flat_map spec_octets x.0.items) + length x.1.now ≤ length octets.now) }
+    ensures room { IfOk result
+        (λ x. HaveRoom (flat_map spec_octets x.0.items) x.1.now octets.now) }
 {
     let mut specs = Vec::new(alloc);
     let mut rest = octets;

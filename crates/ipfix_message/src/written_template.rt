@@ -38,7 +38,7 @@ fn append_specs(specs: &[Spec], out: &mut Vec<u8>) -> Result<(), AllocError>
 pub fn append_template(template: &Template, out: &mut Vec<u8>) -> Result<(), AllocError>
     requires { IsTemplate template.now }
     ensures ok { OnOk result (out.new.items ≡ out.old.items ++ template_octets template.now) }
-    ensures spelled { SpellsTemplate (kind_of template.now) template.now
+    ensures spells { SpellsTemplate (kind_of template.now) template.now
         (template_octets template.now) }
 {
     append_u16(template.id, out)?;

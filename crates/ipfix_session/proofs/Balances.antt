@@ -4,7 +4,7 @@ use Rattle.std.specs.Prelude.{◌-◌, ◌%◌, ◌^◌, sum_by}
 use Rattle.std.proofs.lemmas.List.Sums.{sum_by-cons}
 use Rattle.ipfix_message.specs.Domains.{Message}
 use Rattle.ipfix_session.specs.Ledger.{capped, count_in, sequence_behind, gap, lost_at, backward_at, lost_between, backward_between, sum_neighbours, messages_of}
-use Rattle.ipfix_session.specs.Balances.{unaccounted_between, late_between, accounted_for, sequence_at_end, AdvanceBy, KeepsCount}
+use Rattle.ipfix_session.specs.Balances.{unaccounted_between, late_between, sequence_at_end, AdvanceBy, Balances, KeepsCount}
 
 -- up to a number that is ahead of a sequence, modulo 2^32, are as many as the gap says
 over_gap : (s k n : ℕ) → (s + k + gap ((s + k) % 2 ^ 32) n) % 2 ^ 32 ≡ n % 2 ^ 32
@@ -68,5 +68,5 @@ of_own (first ∷ more) none late count lost unaccounted =
     (uncapped (sum_by count_in own) count) (uncapped (sum_neighbours lost_between own) lost) (uncapped (sum_neighbours unaccounted_between own) unaccounted)
     (advances first more (none_is (sum_neighbours backward_between own) none) (none_is (sum_neighbours late_between own) late))
 
-pub balances : (ms : List Message) (domain : ℕ) → KeepsCount ms domain → AdvanceBy (accounted_for ms domain) (messages_of domain ms)
+pub balances : (ms : List Message) (domain : ℕ) → KeepsCount ms domain → Balances ms domain
 balances ms domain keeps = of_own (messages_of domain ms) keeps.none_backward keeps.none_late keeps.count keeps.lost keeps.unaccounted

@@ -12,7 +12,7 @@ use Rattle.ipfix_session.proofs.Cut.{Begins, next_begins, begins_next, messages_
 use Rattle.ipfix_session.specs.MessageCounts.{whole_messages, PlaceView, within_header, within_message, at_fault, IsWithinHeader, IsWithinMessage, IsAtFault, EndsAt, CounterView, CountsWhole, HasRead}
 use Rattle.ipfix_session.specs.WholeMessages.{whole_octets}
 use Rattle.ipfix_session.proofs.WholeTexts.{rest-le}
-use Rattle.ipfix_session.specs.CounterPlaces.{IsReading}
+use Rattle.ipfix_session.specs.CounterPlaces.{ReadsOn}
 
 -- what follows the whole messages of a text that goes on
 abbrev pub going_on : List ℕ → List ℕ → List ℕ
@@ -159,8 +159,8 @@ counts_all c text more at has = (goes_on_faulty c text more at has).counts.octet
 
 -- ---- a text that is read part by part
 
-pub reading_on : (old new : CounterView) (piece part left text : List ℕ) → piece ≡ part ++ left → ((t : List ℕ) → HasRead old t → HasRead new (t ++ part)) → IsReading old piece text → IsReading new left text
-reading_on old new piece part left text is reads reading =
+pub reading_on : (old new : CounterView) (piece part left : List ℕ) → piece ≡ part ++ left → ((t : List ℕ) → HasRead old t → HasRead new (t ++ part)) → ReadsOn old new piece left
+reading_on old new piece part left is reads = λ text reading.
     record {
       front = reading.front ++ part;
       has_read = reads reading.front reading.has_read;

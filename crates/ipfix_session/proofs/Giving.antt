@@ -9,7 +9,7 @@ use Rattle.ipfix_message.specs.TemplateLimits.{message_within}
 use Rattle.ipfix_message.specs.declared.fault.MessageFault.{MessageFault}
 use Rattle.ipfix_message.specs.declared.record.DataRecord.{DataRecord}
 use Rattle.ipfix_session.specs.declared.stop.Stop.{Stop}
-use Rattle.ipfix_session.specs.declared.stop.Stop.TheVariants.{Fault}
+use Rattle.ipfix_session.specs.declared.stop.Stop.TheVariants.{Clean, Short, Fault}
 use Rattle.ipfix_session.specs.MessageStream.{rest_stop, next_message, cut}
 use Rattle.ipfix_session.specs.Given.{messages_give, messages_within, Given, stop_after, gives_after, gives_within, gives, given_within, behind, known_after, IsOpen, IsPrefix, records_in, records_of, records_within}
 use Rattle.ipfix_session.proofs.Cut.{found, none_at, next_stop, messages_shrink, messages_stable, bad_goes_on}
@@ -219,6 +219,17 @@ gives_after-fault ds text m rest e h f = gives_within-fault None ds text m rest 
 
 pub gives_after-fault_stays : (ds : History) (text more : List ℕ) (e : MessageFault) → (gives_after ds text).stop ≡ Fault e → gives_after ds (text ++ more) ≡ gives_after ds text
 gives_after-fault_stays ds text more e stop = gives_within-fault_stays None ds text more e stop
+
+-- the same of a text that has a fault
+pub gives_after-closed_stays : (ds : History) (text more : List ℕ) → ¬ IsOpen (gives_after ds text).stop → gives_after ds (text ++ more) ≡ gives_after ds text
+gives_after-closed_stays ds text more closed =
+    let fault = fault_of_closed (gives_after ds text).stop closed in
+    gives_after-fault_stays ds text more fault.0 fault.1
+  where
+    fault_of_closed : (s : Stop) → ¬ IsOpen s → (e : MessageFault) × (s ≡ Fault e)
+    fault_of_closed Clean closed = absurd (closed tt)
+    fault_of_closed Short closed = absurd (closed tt)
+    fault_of_closed (Fault e) closed = (e, refl)
 
 pub gives_after-open : (ds : History) (text more : List ℕ) → IsOpen (gives_after ds text).stop
     → gives_after ds (text ++ more) ≡ behind (gives_after ds text).messages (gives_after (known_after ds (gives_after ds text).messages) ((cut text).rest ++ more))

@@ -43,3 +43,7 @@ accounted_for ms domain = (domain_report ms domain).count + (domain_report ms do
 abbrev pub AdvanceBy : ℕ → List Message → Type 0
 AdvanceBy records [] = Unit {0}
 AdvanceBy records (first ∷ more) = (first.header.sequence + records) % 2 ^ 32 ≡ sequence_at_end first more
+
+-- the ledger of a domain balances: its sequence number advanced by the records that are accounted for
+abbrev pub Balances : List Message → ℕ → Type 0
+Balances ms domain = AdvanceBy (accounted_for ms domain) (messages_of domain ms)

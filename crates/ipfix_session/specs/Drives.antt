@@ -136,3 +136,9 @@ module _ {S K : Type 0} (seen : S → SourceView) (view : SinkView K) where
 
   abbrev pub TakesGiven : ℕ → S → S → K → K → SessionReport → Type 0
   TakesGiven limit before after first last report = TakesGivenWithin (unlimited limit) before after first last report
+
+  -- wherever P holds of the sink and the report after a drive, the sink took the records that the source gave
+  abbrev pub DrivenIsGiven : (K → SessionReport → Type 0) → Type 0
+  DrivenIsGiven P =
+      (limit : ℕ) (before after : S) (first last : K) (report : SessionReport)
+      → Drives limit before after first last report → P last report → TakesGiven limit before after first last report

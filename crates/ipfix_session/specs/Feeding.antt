@@ -1,5 +1,5 @@
 -- What a session stands for, and what feeding it a piece of its text does.
-use Rattle.std.specs.Prelude.{◌≡◌, ℕ, false, List, [], ◌∷◌, ◌++◌, ◌+◌, length, sum_by, Option, Some, None, Result, Ok, Err}
+use Rattle.std.specs.Prelude.{◌≡◌, ℕ, false, List, ◌∷◌, ◌++◌, ◌+◌, length, sum_by, Option, Some, None, Result, Ok, Err}
 use Rattle.ipfix_message.specs.Domains.{DomainsView, Message, StandsFor}
 use Rattle.ipfix_message.specs.declared.fault.MessageFault.TheVariants.{OutOfMemory}
 use Rattle.ipfix_message.specs.declared.passed_over.PassedOver.{PassedOver}
@@ -10,7 +10,7 @@ use Rattle.ipfix_session.specs.declared.fault.SessionFault.{SessionFault}
 use Rattle.ipfix_session.specs.declared.fault.SessionFault.TheVariants as faults
 use Rattle.ipfix_session.specs.declared.account.Account.{Account}
 use Rattle.ipfix_session.specs.MessageStream.{cut}
-use Rattle.ipfix_session.specs.Given.{given_within, known_after, records_in, records_within, stop_within, IsOpen, IsPrefix}
+use Rattle.ipfix_session.specs.Given.{given_within, known_within, records_in, records_within, stop_within, IsOpen, IsPrefix, IsToldOf}
 use Rattle.ipfix_session.specs.Ledger.{capped}
 use Rattle.ipfix_session.specs.Accounts.{accounts_of}
 use Rattle.ipfix_session.specs.Reports.{passed_over_in}
@@ -57,13 +57,17 @@ pub record GoesOnFrom (limit : Option ℕ) (s : State) (text : List ℕ) : Type 
   pub rest : s.buffer ≡ (cut text).rest
   pub not_spent : s.domains.spent ≡ false
   pub has_limit : s.limit ≡ limit
-  pub known : StandsFor s.domains.domains (known_after [] (given_within limit text).messages)
+  pub known : StandsFor s.domains.domains (known_within limit text)
 
 -- a session whose templates may count so much, or anything, stands for a text
 pub record StandsForText (limit : Option ℕ) (s : State) (text : List ℕ) : Type 0 where
   pub fault : s.fault ≡ fault_at (stop_within limit text)
-  pub tells : Tells s.counts (given_within limit text).messages (length (records_within limit text))
+  pub tells : IsToldOf (Tells s.counts) limit text
   pub goes_on : IsOpen (stop_within limit text) → GoesOnFrom limit s text
+
+-- P holds of each text for which a session stands, with the limit of its templates
+abbrev pub ForText : State → (Option ℕ → List ℕ → Type 0) → Type 0
+ForText s P = (limit : Option ℕ) (text : List ℕ) → StandsForText limit s text → P limit text
 
 module _ {K : Type 0} (view : SinkView K) where
   -- the sink took the records by which those of some messages exceed those of the old ones, and that is reported

@@ -1,5 +1,5 @@
 -- What the messages of a session give (RFC 7011, sections 3.1 and 8).
-use Rattle.std.specs.Prelude.{◌≡◌, ℕ, List, [], ◌∷◌, ◌++◌, Option, Some, None, Ok, Err}
+use Rattle.std.specs.Prelude.{◌≡◌, ℕ, List, [], ◌∷◌, ◌++◌, length, Option, Some, None, Ok, Err}
 use Rattle.std.specs.List.{flat_map}
 use Rattle.ipfix_message.specs.Domains.{History, Message}
 use Rattle.ipfix_message.specs.TemplateLimits.{message_within}
@@ -58,6 +58,13 @@ abbrev pub known_after : History → List Message → History
 known_after ds [] = ds
 known_after ds (m ∷ ms) = known_after m.domains ms
 
+-- those after the messages of a text, whose templates may count so much, or anything
+abbrev pub known_within : Option ℕ → List ℕ → History
+known_within limit text = known_after [] (given_within limit text).messages
+
+abbrev pub known_of : List ℕ → History
+known_of text = known_within None text
+
 -- a text that has no fault yet
 abbrev pub IsOpen : Stop → Type 0
 IsOpen Clean = Unit {0}
@@ -86,6 +93,10 @@ records_within limit text = records_in (given_within limit text).messages
 
 abbrev pub records_of : List ℕ → List DataRecord
 records_of text = records_within None text
+
+-- this is told of its messages and of the number of their records
+abbrev pub IsToldOf : (List Message → ℕ → Type 0) → Option ℕ → List ℕ → Type 0
+IsToldOf told limit text = told (given_within limit text).messages (length (records_within limit text))
 
 -- and where it stops
 abbrev pub stop_within : Option ℕ → List ℕ → Stop

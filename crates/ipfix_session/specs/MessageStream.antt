@@ -1,7 +1,7 @@
 -- A text as messages, one after another (RFC 7011, section 3.1; RFC 5655, section 6).
 use Rattle.std.specs.Prelude.{◌≡◌, ℕ, ◌≤◌, nat_lt, if◌then◌else◌, List, [], ◌∷◌, length, take, drop, Result, Ok, Err}
 use Rattle.ipfix_wire.specs.Numbers.{number_at}
-use Rattle.ipfix_wire.specs.InTurn.{Reader, Parts, parts_of}
+use Rattle.ipfix_wire.specs.InTurn.{IsLongest, Reader, Parts, parts_of}
 use Rattle.ipfix_wire.specs.MessageHeader.{header_at}
 use Rattle.ipfix_wire.specs.declared.header.Header.{Header}
 use Rattle.ipfix_wire.specs.declared.header.TheConstants.{HEADER_LENGTH}
@@ -42,3 +42,7 @@ next_message w = if nat_lt (length w) HEADER_LENGTH then Err (rest_stop w) else 
 -- the messages of a text in turn, and the rest, which begins with none
 abbrev pub cut : List ℕ → Parts (List ℕ)
 cut text = parts_of next_message text
+
+-- a text cut so: the longest list of messages that are spelled one after another at its beginning, and the rest
+abbrev pub IsCut : Parts (List ℕ) → List ℕ → Type 0
+IsCut parts text = IsLongest SpellsMessage parts.items parts.rest text

@@ -4,7 +4,7 @@ use Rattle.ipfix_message.specs.Domains.{DomainsView, Message, StandsFor}
 use Rattle.ipfix_session.specs.declared.report.MessagePlace.{MessagePlace}
 use Rattle.ipfix_session.specs.declared.report.FullReport.{FullReport}
 use Rattle.ipfix_session.specs.MessageStream.{cut}
-use Rattle.ipfix_session.specs.Given.{given_within, known_after, records_within}
+use Rattle.ipfix_session.specs.Given.{IsToldOf, given_within, known_after}
 use Rattle.ipfix_session.specs.Ledger.{capped, domains_of}
 use Rattle.ipfix_session.specs.Balances.{domain_balance}
 use Rattle.ipfix_session.specs.Reports.{Reports}
@@ -56,7 +56,7 @@ pub record ReportsInFull (r : FullReport) (ms : List Message) (delivered : ℕ) 
 
 -- the full report of a whole text, whose templates may count so much, or anything
 pub record IsFullReportWithin (limit : Option ℕ) (r : FullReport) (text : List ℕ) : Type 0 where
-  pub reports : ReportsInFull r (given_within limit text).messages (length (records_within limit text))
+  pub reports : IsToldOf (ReportsInFull r) limit text
   pub fault : r.report.fault ≡ end_within limit text
   pub stopped_at : r.stopped_at ≡ place_within limit text
 

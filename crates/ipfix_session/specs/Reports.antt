@@ -5,7 +5,7 @@ use Rattle.ipfix_message.specs.declared.passed_over.PassedOver.{PassedOver}
 use Rattle.ipfix_session.specs.declared.report.SessionReport.{SessionReport}
 use Rattle.ipfix_session.specs.declared.fault.SessionFault.{SessionFault}
 use Rattle.ipfix_session.specs.declared.fault.SessionFault.TheVariants.{Truncated}
-use Rattle.ipfix_session.specs.Given.{given_within, records_within}
+use Rattle.ipfix_session.specs.Given.{IsToldOf}
 use Rattle.ipfix_session.specs.Ledger.{capped, domains_of, domain_report}
 use Rattle.ipfix_session.specs.Faults.{end_within}
 
@@ -31,7 +31,7 @@ pub record Reports (r : SessionReport) (ms : List Message) (delivered : ℕ) : T
 -- the report of a whole text, whose templates may count so much, or anything: its messages before the first with a fault,
 -- all their records, and the fault that it ends with
 pub record IsReportWithin (limit : Option ℕ) (r : SessionReport) (text : List ℕ) : Type 0 where
-  pub reports : Reports r (given_within limit text).messages (length (records_within limit text))
+  pub reports : IsToldOf (Reports r) limit text
   pub fault : r.fault ≡ end_within limit text
 
 abbrev pub IsReport : SessionReport → List ℕ → Type 0

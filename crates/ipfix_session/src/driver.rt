@@ -72,9 +72,10 @@ fn drive_through<S: Source, K: Sink>(
     limits: SessionLimits,
     buffer: &mut [u8],
 ) -> FullReport
-    requires { 0 < length buffer.old }
-    ensures { length buffer.old ≤ READ_SIZE
-        → DrivesInFull S.seen K.seen limits source.old source.new sink.old sink.new result }
+    requires some { 0 < length buffer.old }
+    requires room { length buffer.old ≤ READ_SIZE }
+    ensures { DrivesInFull S.seen K.seen limits source.old source.new sink.old sink.new
+        result }
 {
     let mut session = Session::with_limit(alloc, limits.templates);
     for _ in 0..limits.reads {

@@ -3,20 +3,17 @@
 
 ghost use Rattle.std.specs.Prelude.{◌≡◌, ◌≢◌, ◌≤◌, ◌++◌, [], ℕ, List, length, drop, sum_by, take, Option, Some, None, Result, Err};
 ghost use Rattle.ipfix_wire.specs.Numbers.{IsOctets};
-ghost use Rattle.ipfix_wire.specs.InTurn.{IsLongest};
-ghost use Rattle.ipfix_message.specs.declared.fault.MessageFault.{MessageFault};
+ghost use Rattle.ipfix_wire.specs.InTurn.{Parts};
 ghost use Rattle.ipfix_message.specs.Domains.{Message};
 ghost use Rattle.ipfix_message.specs.TemplateLimits.{fields_in};
 ghost use Rattle.ipfix_message.specs.declared.record.DataRecord.{DataRecord};
-ghost use Rattle.ipfix_session.specs.MessageStream.{SpellsMessage, cut};
+ghost use Rattle.ipfix_session.specs.MessageStream.{IsCut, cut};
 ghost use Rattle.ipfix_session.specs.WholeMessages.{whole_octets};
-ghost use Rattle.ipfix_session.specs.Ledger.{messages_of};
-ghost use Rattle.ipfix_session.specs.Balances.{accounted_for, AdvanceBy, KeepsCount};
+ghost use Rattle.ipfix_session.specs.Balances.{Balances, KeepsCount};
 ghost use Rattle.ipfix_session.specs.Places.{messages_before_fault, place_after, place_of_fault};
-ghost use Rattle.ipfix_session.specs.Given.{gives, gives_after, given_within, behind, known_after, octets_of, records_of, stop_of, AreAllOf, IsOpen, IsPrefix};
+ghost use Rattle.ipfix_session.specs.Given.{gives, gives_after, given_within, behind, known_of, known_within, octets_of, records_of, stop_of, AreAllOf, IsOpen, IsPrefix};
 ghost use Rattle.ipfix_session.specs.Feeding.{State, Feeds, FeedsInTurn};
-ghost use Rattle.ipfix_session.specs.Drives.{Drives, IsGiven, TakesGiven};
-ghost use Rattle.ipfix_session.specs.declared.stop.Stop.TheVariants.{Fault};
+ghost use Rattle.ipfix_session.specs.Drives.{DrivenIsGiven, IsGiven};
 ghost use Rattle.ipfix_session.specs.declared.fault.SessionFault.{SessionFault};
 ghost use Rattle.ipfix_session.specs.declared.fault.SessionFault.TheVariants.{SinkClosed};
 ghost use Rattle.ipfix_session.specs.declared.report.SessionReport.{SessionReport};
@@ -29,11 +26,9 @@ use crate::source::Source;
 /// A text is cut into the longest list of messages that it begins with, one after another, and its
 /// rest, with which no message begins (RFC 5655, section 6).
 pub fn one_cut()
-    ensures found { (text : List ℕ) → IsOctets text
-        → IsLongest SpellsMessage (cut text).items (cut text).rest text }
-    ensures only { (text rest : List ℕ) (messages : List (List ℕ)) → IsOctets text
-        → IsLongest SpellsMessage messages rest text
-        → cut text ≡ record { items = messages; rest = rest } }
+    ensures found { (w : List ℕ) → IsOctets w → IsCut (cut w) w }
+    ensures only { (w : List ℕ) (parts : Parts (List ℕ)) → IsOctets w
+        → IsCut parts w → cut w ≡ parts }
 {}
 
 /// The octets of a text that are whole messages are its messages one after another, as they are.
@@ -47,13 +42,13 @@ pub fn goes_on()
     ensures records { (text more : List ℕ)
         → IsPrefix (records_of text) (records_of (text ++ more)) }
     // After a fault nothing changes.
-    ensures fault { (text more : List ℕ) (e : MessageFault) → stop_of text ≡ Fault e
+    ensures fault { (text more : List ℕ) → ¬ IsOpen (stop_of text)
         → gives (text ++ more) ≡ gives text }
     // Without a fault the longer text is read on from the rest of the shorter, with the domains and
     // events of its messages. So it doesn't matter how a text is cut into pieces.
     ensures rest { (text more : List ℕ) → IsOpen (stop_of text)
         → gives (text ++ more) ≡ behind (gives text).messages
-        (gives_after (known_after [] (gives text).messages) ((cut text).rest ++ more)) }
+        (gives_after (known_of text) ((cut text).rest ++ more)) }
 {}
 
 /// It doesn't matter how a text is cut into pieces: two that are fed in turn do what they do as one, and
@@ -70,12 +65,8 @@ pub fn pieces_are_one<K: Sink>()
 /// What [`drive`](crate::drive) says of a session whose sink gave no record back: the sink took the
 /// records of what the source gave.
 pub fn driven_is_given<S: Source, K: Sink>()
-    ensures refused { (limit : ℕ) (before after : S) (first last : K) (r : SessionReport)
-        → Drives S.seen K.seen limit before after first last r → K.seen.refused last ≡ 0
-        → TakesGiven S.seen K.seen limit before after first last r }
-    ensures fault { (limit : ℕ) (before after : S) (first last : K) (r : SessionReport)
-        → Drives S.seen K.seen limit before after first last r → r.fault ≢ Some SinkClosed
-        → TakesGiven S.seen K.seen limit before after first last r }
+    ensures refused { DrivenIsGiven S.seen K.seen (λ last r. K.seen.refused last ≡ 0) }
+    ensures fault { DrivenIsGiven S.seen K.seen (λ last r. r.fault ≢ Some SinkClosed) }
 {}
 
 /// A session without a fault has read all that its source held: whole messages, of which it has all
@@ -98,7 +89,7 @@ pub fn no_fault_is_all<S: Source>()
 /// last message. A loss of 2^31 records or more at once looks like a step backward, one of 2^32 like none.
 pub fn ledger_balances()
     ensures { (ms : List Message) (domain : ℕ) → KeepsCount ms domain
-        → AdvanceBy (accounted_for ms domain) (messages_of domain ms) }
+        → Balances ms domain }
 {}
 
 /// The place after the messages that count is that of the first message with a fault, by the cutting of
@@ -107,7 +98,7 @@ pub fn place_is_of_fault()
     ensures place { (text : List ℕ) → place_after (gives text).messages ≡ place_of_fault text }
     // What begins there, read after the messages before it, gives no message, and stops as the text
     // does: with the fault, if there is one.
-    ensures begins { (text : List ℕ) → gives_after (known_after [] (gives text).messages)
+    ensures begins { (text : List ℕ) → gives_after (known_of text)
         (drop (sum_by length (messages_before_fault text)) text)
         ≡ record { messages = []; stop = stop_of text } }
 {}
@@ -115,7 +106,7 @@ pub fn place_is_of_fault()
 /// The messages that count of a text leave no more templates in force than the limit allows.
 pub fn templates_are_within()
     ensures within { (limit : ℕ) (text : List ℕ)
-        → fields_in (known_after [] (given_within (Some limit) text).messages) ≤ limit }
+        → fields_in (known_within (Some limit) text) ≤ limit }
     // The messages that count are the first of those that the text gives without a limit.
     ensures first { (limit : Option ℕ) (text : List ℕ)
         → IsPrefix (given_within limit text).messages (gives text).messages }

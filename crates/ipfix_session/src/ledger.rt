@@ -28,6 +28,8 @@ pub struct Ledger {
 }
 
 impl Ledger {
+    ghost use Rattle.ipfix_session.specs.Rooms.{domain_count};
+
     /// A ledger of no messages.
     pub fn new(alloc: Global) -> Self
         ensures { result.accounts.entries ≡ [] }
@@ -43,15 +45,15 @@ impl Ledger {
     pub fn make_room(&mut self, messages: usize) -> Result<(), AllocError>
         ensures same { self.new.accounts.entries ≡ self.old.accounts.entries }
         // The room that there is stays.
-        ensures domains { index_map_len self.new.accounts ≡ index_map_len self.old.accounts }
+        ensures domains { domain_count self.new ≡ domain_count self.old }
         ensures same_accounts { spare self.old.accounts ≤ spare self.new.accounts }
         ensures same_reports { vec_capacity self.old.reports ≤ vec_capacity self.new.reports }
         ensures same_balances { vec_capacity self.old.balances ≤ vec_capacity self.new.balances }
         ensures accounts { OnOk result (messages ≤ spare self.new.accounts) }
         ensures reports { OnOk result
-            (index_map_len self.new.accounts + messages ≤ vec_capacity self.new.reports) }
+            (domain_count self.new + messages ≤ vec_capacity self.new.reports) }
         ensures balances { OnOk result
-            (index_map_len self.new.accounts + messages ≤ vec_capacity self.new.balances) }
+            (domain_count self.new + messages ≤ vec_capacity self.new.balances) }
     {
         self.accounts.reserve(messages)?;
         let domains = self.accounts.len().checked_add(messages);
@@ -73,11 +75,11 @@ impl Ledger {
     /// Takes a message into account: so many records, and what it passed over.
     pub fn take(&mut self, header: &Header, records: u64, passed_over: PassedOver)
         requires account { 0 < spare self.old.accounts }
-        requires report { index_map_len self.old.accounts < vec_capacity self.old.reports }
-        requires balance { index_map_len self.old.accounts < vec_capacity self.old.balances }
+        requires report { domain_count self.old < vec_capacity self.old.reports }
+        requires balance { domain_count self.old < vec_capacity self.old.balances }
         // It takes the room of one domain at most.
         ensures spare { spare self.old.accounts ≤ spare self.new.accounts + 1 }
-        ensures domains { index_map_len self.new.accounts ≤ index_map_len self.old.accounts + 1 }
+        ensures domains { domain_count self.new ≤ domain_count self.old + 1 }
         ensures reports { vec_capacity self.new.reports ≡ vec_capacity self.old.reports }
         ensures balances { vec_capacity self.new.balances ≡ vec_capacity self.old.balances }
         ensures taken { (ms : List Message) (m : Message)

@@ -1,9 +1,8 @@
 //! Counting the messages of a text that is read in pieces (RFC 7011, section 3.1).
 
 ghost use Rattle.std.specs.Prelude.{◌≡◌, ◌+◌, ◌<◌, ◌↔◌, ◌++◌, ℕ, List, [], length, IsTrue};
-ghost use Rattle.ipfix_session.specs.MessageStream.{cut};
-ghost use Rattle.ipfix_session.specs.MessageCounts.{CountsWhole, HasRead, IsWithinMessage, at_fault};
-ghost use Rattle.ipfix_session.specs.CounterPlaces.{IsReading};
+ghost use Rattle.ipfix_session.specs.MessageCounts.{HasRead, IsWithinMessage, at_fault};
+ghost use Rattle.ipfix_session.specs.CounterPlaces.{ReadsOn, ReadsPart};
 
 use arrayvec::ArrayVec;
 use ipfix_wire::{HEADER_LENGTH, read_header};
@@ -92,8 +91,7 @@ impl MessageCounter {
     // Reads up to the end of the header or of the message that it is in, and gives what is left.
     fn read_part<'a>(&mut self, piece: &'a [u8]) -> &'a [u8]
         requires { 0 < length piece.now }
-        ensures reads { (text : List ℕ) → IsReading self.old piece.now text
-            → IsReading self.new result.now text }
+        ensures reads { ReadsOn self.old self.new piece.now result.now }
         ensures less { length result.now < length piece.now }
     {
         match &mut self.place {
@@ -119,8 +117,7 @@ impl MessageCounter {
 
     // Goes on after a whole header.
     fn begin_message(&mut self, header: &[u8; HEADER_LENGTH])
-        ensures { (text part : List ℕ) → CountsWhole self.old.messages self.old.octets text
-            → (cut text).rest ++ part ≡ header.now → HasRead self.new (text ++ part) }
+        ensures { ReadsPart self.old self.new (λ rest. rest ≡ header.now) }
     {
         match read_header(header) {
             Ok(header) => self.go_on(header.length, header.length - HEADER_LENGTH as u16),
@@ -130,9 +127,7 @@ impl MessageCounter {
 
     // Goes on in a message of this length, of which so many octets are to come.
     fn go_on(&mut self, length: u16, due: u16)
-        ensures { (text part : List ℕ) → CountsWhole self.old.messages self.old.octets text
-            → IsWithinMessage length due ((cut text).rest ++ part)
-            → HasRead self.new (text ++ part) }
+        ensures { ReadsPart self.old self.new (IsWithinMessage length due) }
     {
         match NonZeroU16::new(due) {
             Some(due) => self.place = CounterPlace::Message { length, due },

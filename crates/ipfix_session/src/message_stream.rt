@@ -1,8 +1,8 @@
 //! A text as messages, one after another (RFC 7011, section 3.1; RFC 5655, section 6).
 
-ghost use Rattle.std.specs.Prelude.{◌≡◌, ◌<◌, length, Ok, Err, IfOk, IfErr, MatchResult};
+ghost use Rattle.std.specs.Prelude.{◌≡◌, ◌<◌, length, Ok, Err, IfOk, IfErr};
 ghost use Rattle.ipfix_message.specs.Domains.{message_header};
-ghost use Rattle.ipfix_session.specs.MessageStream;
+ghost use Rattle.ipfix_session.specs.MessageStream as stream;
 ghost use Rattle.ipfix_session.specs.Given.{IsOpen};
 ghost use Rattle.ipfix_session.specs.declared.message_stream.TheConstants.{LONGEST_MESSAGE};
 
@@ -27,9 +27,9 @@ pub struct FirstMessage<'a> {
 /// The message that a text begins with; or why the text stops there.
 #[tactic(auto, unfolding(crate::specs::MessageStream::next_message))]
 pub fn next_message(text: &[u8]) -> Result<FirstMessage<'_>, Stop>
-    ensures found { MatchResult result
-        (λ first. MessageStream.next_message text.now ≡ Ok (first.octets.now, first.rest.now))
-        (λ stop. MessageStream.next_message text.now ≡ Err stop) }
+    ensures found { IfOk result
+        (λ m. stream.next_message text.now ≡ Ok (m.octets.now, m.rest.now)) }
+    ensures stopped { IfErr result (λ stop. stream.next_message text.now ≡ Err stop) }
     ensures header { IfOk result (λ first. message_header first.octets.now ≡ Ok first.header) }
     // What may begin a message is shorter than the longest.
     ensures begun { IfErr result (λ stop. IsOpen stop → length text.now < LONGEST_MESSAGE) }

@@ -1,8 +1,7 @@
 //! The whole messages that a file begins with (RFC 7011, section 3.1).
 
-ghost use Rattle.std.specs.Prelude.{◌≡◌, ◌<◌, ℕ, List, length, Some, IfOk};
-ghost use Rattle.ipfix_session.specs.Ledger.{capped};
-ghost use Rattle.ipfix_session.specs.WholeMessages.{whole_octets};
+ghost use Rattle.std.specs.Prelude.{◌<◌, length};
+ghost use Rattle.ipfix_session.specs.WholeMessages.{TellsWholeOctets};
 
 use crate::message_counter::MessageCounter;
 use std::alloc::Global;
@@ -15,8 +14,7 @@ const PIECE: usize = 65536;
 /// at headers alone, and holds at most a piece. The number stops at `u64::MAX`. An `Err` is the reader's,
 /// or memory that couldn't be had.
 pub fn whole_messages<R: Read>(alloc: Global, reader: &mut R) -> io::Result<u64>
-    ensures { (text : List ℕ) → R.remaining reader.old ≡ Some text
-        → IfOk result (λ whole. whole ≡ capped (whole_octets text)) }
+    ensures { TellsWholeOctets result (R.remaining reader.old) }
 {
     let mut piece = vec![in alloc; 0; PIECE]?;
     walk(reader, &mut piece)
@@ -25,8 +23,7 @@ pub fn whole_messages<R: Read>(alloc: Global, reader: &mut R) -> io::Result<u64>
 // Walks over the messages of a reader through this buffer.
 fn walk<R: Read>(reader: &mut R, piece: &mut [u8]) -> io::Result<u64>
     requires { 0 < length piece.old }
-    ensures { (text : List ℕ) → R.remaining reader.old ≡ Some text
-        → IfOk result (λ whole. whole ≡ capped (whole_octets text)) }
+    ensures { TellsWholeOctets result (R.remaining reader.old) }
 {
     let mut whole = MessageCounter::new();
     for _ in 0..u64::MAX {

@@ -63,7 +63,7 @@ impl<R: Read> Source for FromReader<R> {
         ensures is_read { IsRead (⟦<FromReader<R> as Source>⟧.seen self.old) result
             (⟦<FromReader<R> as Source>⟧.seen self.new) buffer.new }
         // After its end the reader isn't asked.
-        ensures not_asked { (⟦<FromReader<R> as Source>⟧.seen self.old).ended ≡ true
+        ensures not_asked { self.old.ended ≡ true
             → reader_of self.new ≡ reader_of self.old }
         // A read that fails leaves what the reader answered to it, and no other read changes it.
         ensures failure { result ≡ Err ReadError.Failed → IsSome (failure_of self.new) }

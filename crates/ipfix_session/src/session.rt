@@ -1,11 +1,11 @@
 //! A transport session that is fed its octets in pieces (RFC 7011, section 3.1).
 
-ghost use Rattle.std.specs.Prelude.{◌≡◌, ◌≤◌, [], ℕ, length, List, Option, Some, None, Err, IfErr, OnOk, false};
+ghost use Rattle.std.specs.Prelude.{◌≡◌, ◌≤◌, [], length, Some, None, Err, IfErr, OnOk, false};
 ghost use Rattle.std.specs.Option.{ForSome};
 ghost use Rattle.ipfix_session.specs.declared.message_stream.TheConstants.{LONGEST_MESSAGE};
-ghost use Rattle.ipfix_session.specs.Feeding.{AreToldAs, Feeds, StandsForText};
+ghost use Rattle.ipfix_session.specs.Feeding.{AreToldAs, Feeds, ForText, StandsForText};
 ghost use Rattle.ipfix_session.specs.Faults.{ends_open};
-ghost use Rattle.ipfix_session.specs.Given.{given_within, records_within};
+ghost use Rattle.ipfix_session.specs.Given.{IsToldOf};
 ghost use Rattle.ipfix_session.specs.Reports.{IsReportWithin, Reports, ended_by};
 ghost use Rattle.ipfix_session.specs.Places.{CountsInFull, IsFullReportWithin, ReportsInFull};
 
@@ -77,13 +77,17 @@ impl Session {
         piece: &[u8],
         sink: &mut K,
     ) -> Result<(), SessionFault>
-        ensures feeds { (limit : Option ℕ) (text : List ℕ) → StandsForText limit self.old text
-            → Feeds K.seen limit result text piece.now sink.old sink.new self.new }
+        ensures feeds { ForText self.old (λ limit text.
+            Feeds K.seen limit result text piece.now sink.old sink.new self.new) }
         ensures ok { OnOk result (self.new.fault ≡ None) }
         ensures err { IfErr result (λ fault. self.new.fault ≡ Some fault) }
         ensures buffer { length self.new.buffer ≤ LONGEST_MESSAGE }
         ensures again { (fault : SessionFault) → self.old.fault ≡ Some fault
-            → (result ≡ Err fault) × (self.new ≡ self.old) × (sink.new ≡ sink.old) }
+            → result ≡ Err fault }
+        ensures same { (fault : SessionFault) → self.old.fault ≡ Some fault
+            → self.new ≡ self.old }
+        ensures same_sink { (fault : SessionFault) → self.old.fault ≡ Some fault
+            → sink.new ≡ sink.old }
     {
         if let Some(fault) = self.fault {
             return Err(fault);
@@ -96,8 +100,7 @@ impl Session {
     /// What the session gave, and why it ended early: its fault, or `Truncated` if its octets end
     /// within a message. This takes no memory.
     pub fn finish(self) -> SessionReport
-        ensures text { (limit : Option ℕ) (text : List ℕ) → StandsForText limit self text
-            → IsReportWithin limit result text }
+        ensures text { ForText self (λ limit text. IsReportWithin limit result text) }
         ensures so_far { AreToldAs self.counts (Reports result) }
         ensures fault { ForSome self.fault (λ fault. result.fault ≡ Some fault) }
     {
@@ -107,8 +110,7 @@ impl Session {
     /// The same report, with the balances of the domains, the place of the message that ended the session,
     /// and the templates that are in force at its end. This takes no memory.
     pub fn finish_in_full(self) -> FullReport
-        ensures text { (limit : Option ℕ) (text : List ℕ) → StandsForText limit self text
-            → IsFullReportWithin limit result text }
+        ensures text { ForText self (λ limit text. IsFullReportWithin limit result text) }
         ensures so_far { AreToldAs self.counts (CountsInFull result) }
         // After a fault with which it could not have gone on.
         ensures refused { ends_open self.fault ≡ false
@@ -126,9 +128,8 @@ impl Session {
     // What the session gave, which this fault ended: of all its text, if it has none itself, and of what was
     // counted, if this is one with which it could not have gone on.
     pub(crate) fn finish_after(self, fault: SessionFault) -> FullReport
-        ensures text { (limit : Option ℕ) (text : List ℕ) → StandsForText limit self text
-            → self.fault ≡ None → ReportsInFull result (given_within limit text).messages
-            (length (records_within limit text)) }
+        ensures text { self.fault ≡ None
+            → ForText self (IsToldOf (ReportsInFull result)) }
         ensures so_far { ends_open (Some fault) ≡ false
             → AreToldAs self.counts (ReportsInFull result) }
         ensures fault { result.report.fault ≡ Some fault }

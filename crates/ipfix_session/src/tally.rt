@@ -2,7 +2,7 @@
 
 ghost use Rattle.std.specs.Prelude.{◌≡◌, ◌+◌, ◌++◌, ◌∷◌, [], ℕ, List};
 ghost use Rattle.ipfix_message.specs.Domains.{Message};
-ghost use Rattle.ipfix_session.specs.Feeding.{Tells};
+ghost use Rattle.ipfix_session.specs.Feeding.{AreToldAs, Tells};
 ghost use Rattle.ipfix_session.specs.Intake.{counts_of};
 ghost use Rattle.ipfix_session.specs.Ledger.{count_in};
 ghost use Rattle.ipfix_session.specs.Places.{CountsInFull};
@@ -64,8 +64,7 @@ impl Tally {
     /// The full report of the session, which ended with this fault, and of which these domains are told.
     /// This takes no memory.
     pub fn into_report(self, fault: Option<SessionFault>, in_force: Option<Domains>) -> FullReport
-        ensures counts { (ms : List Message) (delivered : ℕ) → Tells (counts_of self) ms delivered
-            → CountsInFull result ms delivered }
+        ensures counts { AreToldAs (counts_of self) (CountsInFull result) }
         ensures fault { result.report.fault ≡ fault }
         ensures domains { result.domains ≡ in_force }
     {

@@ -21,7 +21,7 @@ use Rattle.flow_table.proofs.UsedRecords.{is_used}
 use Rattle.flow_export.specs.CsvText.{first_of, last_of}
 use Rattle.flow_export.specs.IpfixText.{field, key_field, number_field, row_fields}
 use Rattle.flow_export.specs.Fitting.{FitsValue}
-use Rattle.laws_export.specs.ReadBack.{CanBeCounted, CountsAgain, row_record, by_start}
+use Rattle.laws_export.specs.ReadBack.{CanBeCounted, Recounts, row_record, by_start}
 use Rattle.laws_export.proofs.FieldsFound.{Lacks, IsFound, all_found, All-left, All-right}
 use Rattle.laws_export.proofs.ValuesRead.{start_again, end_again, cells_read, counters_read}
 use Rattle.flow_export.proofs.PlanFacts.{exported_value, value_is_no_time}
@@ -120,7 +120,7 @@ all_flows plan time (row ∷ rows) is fit in_time small =
     (row_flow plan time row is (All-head (FitsValue plan) row rows fit) (All-head (λ row. last_of plan row < 2 ^ 50) row rows in_time) (All-head (λ row. All (λ v. v < 2 ^ 64) row.sums) row rows small))
     (all_flows plan time rows is (All-tail (FitsValue plan) row rows fit) (All-tail (λ row. last_of plan row < 2 ^ 50) row rows in_time) (All-tail (λ row. All (λ v. v < 2 ^ 64) row.sums) row rows small))
 
-pub counts_again : (plan : PlanValue) (time : ℕ) (rows : List RowValue) → CanBeCounted plan rows → CountsAgain plan time rows
+pub counts_again : (plan : PlanValue) (time : ℕ) (rows : List RowValue) → CanBeCounted plan rows → Recounts plan time rows
 counts_again plan time rows can table is =
     let positive : 0 < plan.length = ltb-true 0 plan.length can.is_plan.positive in
     counted plan positive (row_record plan time) rows table (all_flows plan time rows can.is_plan can.fit can.in_time can.small) can.ascending is

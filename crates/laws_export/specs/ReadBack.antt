@@ -9,7 +9,6 @@ use Rattle.ipfix_session.specs.Given.{gives, records_of, stop_of}
 use Rattle.ipfix_session.specs.Ledger.{domain_report}
 use Rattle.flow_table.specs.declared.key.Key.{Key}
 use Rattle.flow_table.specs.declared.method.Method.TheVariants.{Start}
-use Rattle.flow_table.specs.declared.table.Row.{Row}
 use Rattle.flow_table.specs.declared.table.Table.{Table}
 use Rattle.flow_table.specs.AddedUp.{place}
 use Rattle.flow_table.specs.Plans.{PlanValue, IsPlan, exported_element, exporter}
@@ -28,6 +27,10 @@ pub record CanBeExported (plan : PlanValue) (time : ℕ) (rows : List RowValue) 
   pub small_time : time < 2 ^ 32
   pub few : length rows < 2 ^ 32
   pub fit : All (FitsValue plan) rows
+
+-- of any export: its plan, its time, and its rows
+abbrev pub ForExports : (PlanValue → ℕ → List RowValue → Type 0) → Type 0
+ForExports P = (plan : PlanValue) (time : ℕ) (rows : List RowValue) → P plan time rows
 
 -- no fault, the rows in order as records of the template, and no loss in any domain
 pub record IsReadBack (plan : PlanValue) (time : ℕ) (rows : List RowValue) : Type 0 where
@@ -60,13 +63,13 @@ pub record CanBeCounted (plan : PlanValue) (rows : List RowValue) : Type 0 where
   pub small : All (λ row. All (λ v. v < 2 ^ 64) row.sums) rows
 
 -- the intervals of a table's rows end in time
-abbrev pub EndInTime : PlanValue → List Row → Type 0
-EndInTime plan rows = All (λ row. last_of plan (value_of row) < 2 ^ 50) rows
+abbrev pub EndInTime : PlanValue → Table → Type 0
+EndInTime plan table = All (λ row. last_of plan (value_of row) < 2 ^ 50) table.rows.items
 
 -- a row of one flow
 abbrev pub with_one_flow : RowValue → RowValue
 with_one_flow row = row_value row.interval row.key row.sums 1
 
 -- the aggregate of the records by method start has the rows, each with one flow
-abbrev pub CountsAgain : PlanValue → ℕ → List RowValue → Type 0
-CountsAgain plan time rows = (table : Table) → IsTable (by_start plan) (map (row_record plan time) rows) table → map value_of table.rows.items ≡ map with_one_flow rows
+abbrev pub Recounts : PlanValue → ℕ → List RowValue → Type 0
+Recounts plan time rows = (table : Table) → IsTable (by_start plan) (map (row_record plan time) rows) table → map value_of table.rows.items ≡ map with_one_flow rows

@@ -1,5 +1,5 @@
 -- The value of JSON that a data record is dumped as.
-use Rattle.std.specs.Prelude.{◌≡◌, ℕ, ℤ, unsigned_abs, ◌<◌, ◌^◌, Bool, true, List, [], ◌∷◌, codes, decimal, map, if◌then◌else◌}
+use Rattle.std.specs.Prelude.{ℕ, ℤ, unsigned_abs, ◌<◌, ◌^◌, Bool, true, List, [], ◌∷◌, codes, decimal, map, if◌then◌else◌}
 use Rattle.std.specs.List.{zip}
 use Rattle.std.specs.Option.{option_map_or}
 use Rattle.std.specs.Fmt.{signed_decimal}
@@ -21,7 +21,7 @@ use Rattle.ipfix_message.specs.Fields.{Field}
 use Rattle.ipfix_message.specs.DataRecords.{HasOctets}
 use Rattle.ipfix_message.specs.declared.record.DataRecord.{DataRecord}
 use Rattle.ipfix_dump.specs.JsonLines.{json_line}
-use Rattle.flow_export.specs.PlainNames.{have_plain_names}
+use Rattle.flow_export.specs.PlainNames.{PlainElements}
 use Rattle.laws_json.specs.Lines.{IsReadAs}
 
 abbrev pub members_of : List (List ℕ × Json) → Members
@@ -83,11 +83,10 @@ pub record FitsTypes (r : DataRecord) : Type 0 where
   pub export_time : r.export_time < 2 ^ 32
   pub scope : r.scope < 2 ^ 16
 
--- what files say of elements, by plain names
-pub record PlainElements : Type 0 where
-  pub known : List Known
-  pub plain : have_plain_names known ≡ true
+-- whatever files say, this holds of each record
+abbrev pub ForRecords : (List Known → DataRecord → Type 0) → Type 0
+ForRecords P = (files : PlainElements) (r : DataRecord) → HasOctets r → P files.known r
 
 -- the line of each record is read as a value of which P holds
 abbrev pub RecordsAreReadAs : (List Known → DataRecord → Json → Type 0) → Type 0
-RecordsAreReadAs P = (files : PlainElements) (r : DataRecord) → HasOctets r → FitsTypes r → IsReadAs (json_line files.known r) (P files.known r)
+RecordsAreReadAs P = ForRecords (λ known r. FitsTypes r → IsReadAs (json_line known r) (P known r))

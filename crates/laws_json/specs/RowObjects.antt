@@ -1,20 +1,20 @@
 -- The value of JSON that a row of a table is written as.
-use Rattle.std.specs.Prelude.{◌≡◌, ℕ, ◌<◌, ◌^◌, List, [], ◌∷◌, ◌++◌, map, codes, true, All, None, Some}
+use Rattle.std.specs.Prelude.{◌≡◌, ℕ, ◌<◌, ◌^◌, List, [], ◌∷◌, ◌++◌, map, codes, All, None, Some}
 use Rattle.json.specs.Json.{Json}
 use Rattle.element_registry.specs.Registries.{IsRegistry, Known, element_by_name}
 use Rattle.ipfix_wire.specs.declared.specifier.ElementId.{ElementId}
 use Rattle.ipfix_elements.specs.declared.cell.Cell.{Cell}
 use Rattle.ipfix_elements.specs.declared.cell.Cell.TheVariants.{Number, Ipv4, Ipv6, Mac}
-use Rattle.flow_table.specs.Plans.{PlanValue, context_name}
+use Rattle.flow_table.specs.Plans.{IsPlan, PlanValue, context_name}
 use Rattle.flow_table.specs.SameTables.{RowValue, value_of}
 use Rattle.flow_table.specs.Fitting.{FitsRow}
 use Rattle.flow_table.specs.declared.table.Row.{Row}
 use Rattle.flow_export.specs.CsvText.{first_of, heading, last_of}
 use Rattle.flow_export.specs.JsonText.{row_object}
 use Rattle.flow_export.specs.Shown.{shown_cells}
-use Rattle.flow_export.specs.PlainNames.{have_plain_names}
+use Rattle.flow_export.specs.PlainNames.{HavePlainNames, PlainElements}
 use Rattle.laws_json.specs.Lines.{IsReadAs}
-use Rattle.laws_json.specs.Objects.{object_with, PlainElements, value_of_cell}
+use Rattle.laws_json.specs.Objects.{object_with, value_of_cell}
 
 -- what the columns of a row hold, in the order of the heading: an exporter's address as it is shown
 abbrev pub columns : PlanValue → RowValue → List Cell
@@ -37,14 +37,18 @@ address_of (Mac address) = address
 abbrev pub HasAddresses : RowValue → Type 0
 HasAddresses row = All (λ cell. All (λ b. b < 256) (address_of cell)) row.key
 
+-- whatever files say, this holds of each row of each plan
+abbrev pub ForRows : (List Known → PlanValue → RowValue → Type 0) → Type 0
+ForRows P = (files : PlainElements) (plan : PlanValue) (row : RowValue) → HasAddresses row → P files.known plan row
+
 -- the line of each row is read as a value of which P holds
 abbrev pub RowsAreReadAs : (List Known → PlanValue → RowValue → Json → Type 0) → Type 0
-RowsAreReadAs P = (files : PlainElements) (plan : PlanValue) (row : RowValue) → HasAddresses row → IsReadAs (row_object files.known plan row) (P files.known plan row)
+RowsAreReadAs P = ForRows (λ known plan row. IsReadAs (row_object known plan row) (P known plan row))
 
 -- elements of files whose names can stand in a heading: no two are alike, all are plain, and none is a word of its own
 pub record FitsHeading (known : List Known) : Type 0 where
   pub registry : IsRegistry known
-  pub plain : have_plain_names known ≡ true
+  pub plain : HavePlainNames known
   pub start : element_by_name known (codes "start") ≡ None
   pub end : element_by_name known (codes "end") ≡ None
   pub flows : element_by_name known (codes "flows") ≡ None
@@ -55,6 +59,10 @@ NamesOwn known e = (name : List ℕ) (d : ElementId) → context_name e ≡ Some
 
 abbrev pub NamesContext : List Known → PlanValue → Type 0
 NamesContext known plan = All (λ k. NamesOwn known k.element) plan.keys
+
+-- for each plan whose heading can be told apart, whatever files say
+abbrev pub ForHeadings : (List Known → PlanValue → Type 0) → Type 0
+ForHeadings P = (known : List Known) (plan : PlanValue) → FitsHeading known → NamesContext known plan → IsPlan plan → P known plan
 
 -- a row as a table of the plan has it
 pub record IsTableRow (plan : PlanValue) (row : Row) : Type 0 where

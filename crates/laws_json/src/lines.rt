@@ -7,7 +7,8 @@ ghost use Rattle.ipfix_message.specs.DataRecords.{HasOctets};
 ghost use Rattle.ipfix_message.specs.declared.record.DataRecord.{DataRecord};
 ghost use Rattle.ipfix_dump.specs.JsonLines.{json_line};
 ghost use Rattle.laws_json.specs.Lines.{AreApart, IsReadAs};
-ghost use Rattle.laws_json.specs.Objects.{FitsTypes, object_of, PlainElements, RecordsAreReadAs};
+ghost use Rattle.flow_export.specs.PlainNames.{PlainElements};
+ghost use Rattle.laws_json.specs.Objects.{FitsTypes, ForRecords, object_of, RecordsAreReadAs};
 ghost use Rattle.laws_json.specs.Texts.{IsExact, IsExactNatural, line_of, NumbersAre};
 ghost use Rattle.laws_json.specs.Told.{TellsRecord};
 
@@ -15,8 +16,7 @@ ghost use Rattle.laws_json.specs.Told.{TellsRecord};
 /// scope and fields, in this order, with no space, and a newline; read as JSON (RFC 8259), it is this
 /// object and nothing else. A string is what its octets are, however it is escaped.
 pub fn lines_are_objects()
-    ensures text { (files : PlainElements) (r : DataRecord) → HasOctets r
-        → json_line files.known r ≡ line_of (object_of files.known r) }
+    ensures text { ForRecords (λ known r. json_line known r ≡ line_of (object_of known r)) }
     ensures value { RecordsAreReadAs (λ known r value. value ≡ object_of known r) }
 {}
 

@@ -1,5 +1,5 @@
 -- Exports of tables that are merged one after another.
-use Rattle.std.proofs.Common.{◌≡◌, ℕ, List, [], ◌∷◌, ◌++◌, refl, sym, ap, ◌∙◌, subst, append-nil, append_assoc}
+use Rattle.std.proofs.Common.{◌≡◌, ℕ, List, [], ◌∷◌, ◌++◌, refl, sym, ap, ◌∙◌, subst, Ok, Err, append-nil, append_assoc}
 use Rattle.std.specs.Prelude.{flat_map}
 use Rattle.std.specs.List.{AllZip}
 use Rattle.std.proofs.lemmas.Grind.{flat_map-append}
@@ -17,10 +17,10 @@ use Rattle.flow_table.specs.declared.table.Table.{Table}
 use Rattle.flow_table.proofs.AddedUp.{too_large_more}
 use Rattle.flow_table.proofs.TablesAdded.{too_large_both}
 use Rattle.flow_export.proofs.RowFields.{AllZip-append}
-use Rattle.flow_merge.specs.Merging.{all_of, AddsExport, CannotAdd, GiveExports, GivesExport, GivesExportIn, IsDueIn, StandsFor, merging_intervals, merging_plan}
+use Rattle.flow_merge.specs.Merging.{all_of, AddsExport, GiveExports, GivesExport, GivesExportIn, IsDueIn, ReadsExport, RefusesExport, StandsFor, merging_intervals, merging_plan}
 use Rattle.flow_export.specs.declared.intervals.Intervals.{Intervals}
 use Rattle.flow_export.specs.declared.intervals.Intervals.TheVariants.{OfPlan}
-use Rattle.laws_merge.specs.Exports.{AreExportsOf, HoldsExport, IsExportFault, StopsAt}
+use Rattle.laws_merge.specs.Exports.{AreExportsOf, HoldsExport, IsExportFault, StopsAt, IsFaultOfExports}
 use Rattle.flow_merge.specs.declared.merge_fault.MergeFault.{MergeFault}
 use Rattle.flow_merge.specs.declared.merge_fault.MergeFault.TheVariants.{OutOfMemory, SumTooLarge, Session, NotAnExport, Lost, Row, Border}
 use Rattle.flow_merge.specs.declared.merging.Merging.{Merging}
@@ -147,7 +147,7 @@ module _ {S : Type 0} (seen : S → SourceView) (plan : PlanValue) where
       }
 
   pub merged_on : (limit : ℕ) (sources before : List S) (s : S) (waiting : List S) (old new : Merging) (after : S) → before ≡ s ∷ waiting → MergesOn limit sources before old → merging_plan new ≡ merging_plan old → merging_intervals new ≡ merging_intervals old
-      → ((rows : List RowValue) → StandsFor old rows → AddsExport seen limit old s after rows new)
+      → ReadsExport {E = MergeFault} seen limit old s after (Ok new)
       → (merging_intervals old ≡ OfPlan → (rows : List RowValue) (rs : List DataRecord) (holds : HoldsExport (merging_plan old) (seen s) rs) → StandsFor old rows → StandsFor new (rows ++ rows_in holds.table)) → MergesOn limit sources waiting new
   merged_on limit sources before s waiting old new after is on same same_in adds exports =
       let read = subst (λ (l : List S). HasRead limit sources l old) is on.read in
@@ -165,8 +165,8 @@ module _ {S : Type 0} (seen : S → SourceView) (plan : PlanValue) where
   -- a source was refused
   pub refused_on : (limit : ℕ) (sources before : List S) (s : S) (waiting : List S) (old : Merging) (fault : MergeFault) → before ≡ s ∷ waiting → MergesOn limit sources before old
       → (merging_intervals old ≡ OfPlan → (rows : List RowValue) (rs : List DataRecord) (holds : HoldsExport (merging_plan old) (seen s) rs) → StandsFor old rows → IsExportFault (AddUpTooLarge (rows ++ rows_in holds.table)) fault)
-      → (lists : List (List DataRecord)) → AreExportsOf seen plan sources lists → IsExportFault (HasTooLargeRow plan (all_of lists)) fault
-  refused_on limit sources before s waiting old fault is on refuses lists h =
+      → IsFaultOfExports seen plan sources fault
+  refused_on limit sources before s waiting old fault is on refuses = λ lists h.
       let now = subst (λ (l : List S). Merged lists l old) is (on.merged lists h) in
       let next = next_held lists s waiting old now in
       still_due _ _ fault (too_large_all lists s waiting old now next)
@@ -174,7 +174,7 @@ module _ {S : Type 0} (seen : S → SourceView) (plan : PlanValue) where
       (λ holds. refuses on.of_plan (flat_map rows_in now.tables) next.0 holds now.stands) next.2)
 
   pub stopped_on : (limit : ℕ) (sources before : List S) (s : S) (waiting : List S) (old : Merging) (after : S) (fault : MergeFault) → before ≡ s ∷ waiting → MergesOn limit sources before old
-      → ((rows : List RowValue) → StandsFor old rows → CannotAdd seen limit old rows s after fault) → StopsAt seen limit plan sources fault
+      → RefusesExport {X = Merging} seen limit old s after (Err fault) → StopsAt seen limit plan sources fault
   stopped_on limit sources before s waiting old after fault is on due =
       let read = subst (λ (l : List S). HasRead limit sources l old) is on.read in
       let rows = flat_map (λ r. r) read.exports in

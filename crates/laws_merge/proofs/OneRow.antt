@@ -49,8 +49,8 @@ same_values plan fields v w one two =
     let ends : TellsNumber (iana 153) (number_field (iana 153, v.end) ∷ keys_on plan v) v.end (keys_on plan v) = record { is = refl; fits = one.end } in
     let second = same_after (iana 152) fields _ _ v.start w.start starts begins in
     let closes : TellsNumber (iana 153) (number_field (iana 153, v.end) ∷ keys_on plan v) w.end (keys_on plan w) = record { is = second; fits = two.end } in
-    let keys : TellsCells (keys_and_kinds plan) (keys_on plan v) v.key (sums_on plan v) = record { are = refl; fit = keys_fit plan v.key one.key } in
-    let others : TellsCells (keys_and_kinds plan) (keys_on plan v) w.key (sums_on plan w) = keys_follow plan fields _ (keys_on plan v) v.start v.end w two starts ends in
+    let keys : TellsCells plan.keys plan.kinds (keys_on plan v) v.key (sums_on plan v) = record { are = refl; fit = keys_fit plan v.key one.key } in
+    let others : TellsCells plan.keys plan.kinds (keys_on plan v) w.key (sums_on plan w) = keys_follow plan fields _ (keys_on plan v) v.start v.end w two starts ends in
     let counters : TellsNumbers plan.counters (sums_on plan v) v.sums (flows_on v) = sums_follow plan fields _ (keys_on plan v) (sums_on plan v) v.start v.end v.key v one starts ends keys in
     let sums : TellsNumbers plan.counters (sums_on plan v) w.sums (flows_on w) = sums_follow plan fields _ (keys_on plan v) (sums_on plan v) v.start v.end v.key w two starts ends keys in
     let flows : TellsNumber (iana 375) (flows_on v) v.flows [] = record { is = refl; fits = one.few } in

@@ -5,7 +5,7 @@ use Rattle.ipfix_message.specs.declared.record.DataRecord.{DataRecord}
 use Rattle.ipfix_message.specs.declared.fault.MessageFault.TheVariants as messages
 use Rattle.ipfix_session.specs.declared.fault.SessionFault.TheVariants as sessions
 use Rattle.ipfix_session.specs.Sources.{SourceView}
-use Rattle.flow_table.specs.AddedUp.{rows_in}
+use Rattle.flow_table.specs.AddedUp.{HasTooLargeRow, rows_in}
 use Rattle.flow_table.specs.Fitting.{FitsPlan}
 use Rattle.flow_table.specs.Missing.{missing_of}
 use Rattle.flow_table.specs.Plans.{PlanValue, IsPlan}
@@ -13,7 +13,7 @@ use Rattle.flow_table.specs.SameTables.{RowValue}
 use Rattle.flow_table.specs.Tables.{tally_of, IsTable}
 use Rattle.flow_table.specs.declared.table.Table.{Table}
 use Rattle.flow_export.specs.IpfixText.{ipfix_text}
-use Rattle.flow_merge.specs.Merging.{all_of, GiveExports, IsDue}
+use Rattle.flow_merge.specs.Merging.{all_of, GiveExports, HasRowsOf, IsDue}
 use Rattle.flow_merge.specs.declared.merge_fault.MergeFault.{MergeFault}
 use Rattle.flow_merge.specs.declared.merge_fault.MergeFault.TheVariants.{OutOfMemory, SumTooLarge, Session}
 
@@ -49,6 +49,10 @@ AreExportsOf seen plan sources lists = AllZip (λ source rs. HoldsExport plan (s
 abbrev pub IfExportsOf : {S : Type 0} → (S → SourceView) → PlanValue → List S → (List DataRecord → Type 0) → Type 0
 IfExportsOf seen plan sources P = (lists : List (List DataRecord)) → AreExportsOf seen plan sources lists → P (all_of lists)
 
+-- and a table has the rows of the table of all of them
+abbrev pub HasRowsOfAll : {S : Type 0} → (S → SourceView) → PlanValue → List S → Table → Type 0
+HasRowsOfAll seen plan sources table = IfExportsOf seen plan sources (λ records. HasRowsOf plan records table)
+
 -- the faults of an export: memory ran out, a read failed, more reads would have been needed, or sums are too large
 abbrev pub IsExportFault : Type 0 → MergeFault → Type 0
 IsExportFault large OutOfMemory = Unit {0}
@@ -57,6 +61,10 @@ IsExportFault large (Session sessions.ReadFailed) = Unit {0}
 IsExportFault large (Session sessions.TooManyReads) = Unit {0}
 IsExportFault large SumTooLarge = large
 IsExportFault large fault = ⊥
+
+-- the fault of exports that sources hold, too large if the records of all of them are
+abbrev pub IsFaultOfExports : {S : Type 0} → (S → SourceView) → PlanValue → List S → MergeFault → Type 0
+IsFaultOfExports seen plan sources fault = IfExportsOf seen plan sources (λ records. IsExportFault (HasTooLargeRow plan records) fault)
 
 -- the table with the records by class that exports don't tell, and with what they lack
 abbrev pub with_counts : PlanValue → List DataRecord → Table → Table

@@ -1,4 +1,5 @@
 -- What public contracts cite.
+pub mod AtMost
 pub mod Exports
 pub mod RowSums
 pub mod ByExporter

@@ -18,7 +18,8 @@ ghost use Rattle.flow_merge.specs.declared.merge_fault.MergeFault.{MergeFault};
 ghost use Rattle.flow_merge.specs.declared.merging.Merging.{Merging};
 ghost use Rattle.flow_merge.specs.declared.row_fault.RowFault.{RowFault};
 ghost use Rattle.flow_merge.specs.declared.row_fault.RowFault.TheVariants.{OutOfMemory};
-ghost use Rattle.laws_merge.specs.Exports.{HoldsRows, IfExportsOf, IsExportable, IsExportFault, IsExportOf, with_counts};
+ghost use Rattle.laws_merge.specs.Exports.{HasRowsOfAll, HoldsRows, IsExportable, IsExportFault, IsExportOf, with_counts};
+ghost use Rattle.laws_merge.specs.AtMost.{AtMostOne};
 ghost use Rattle.laws_merge.specs.ByExporter.{by_exporter, AddUpTo, HasExporter};
 ghost use Rattle.laws_merge.specs.RowSums.{rows_at, AreSumsOf};
 ghost use Rattle.flow_table.specs.Tables.{IsTable};
@@ -33,8 +34,7 @@ pub fn exports_have_row_records()
 
 /// A record is that of one row at most.
 pub fn one_row()
-    ensures { (plan : PlanValue) (r : DataRecord) (a b : RowValue)
-        → IsPlan plan → IsRowRecord plan r a → IsRowRecord plan r b → a ≡ b }
+    ensures { (plan : PlanValue) (r : DataRecord) → IsPlan plan → AtMostOne (IsRowRecord plan r) }
 {}
 
 /// A record that some fault fits, but for want of memory, is no row's.
@@ -47,8 +47,8 @@ pub fn faults_are_no_rows()
 pub fn exports_have_their_rows()
     ensures own { (plan : PlanValue) (rs : List DataRecord) (table : Table) (text : List ℕ)
         → IsExportOf plan rs table text → IsExport plan text (rows_in table) }
-    ensures only { (plan : PlanValue) (text : List ℕ) (rows others : List RowValue)
-        → IsPlan plan → IsExport plan text rows → IsExport plan text others → rows ≡ others }
+    ensures only { (plan : PlanValue) (text : List ℕ)
+        → IsPlan plan → AtMostOne (IsExport plan text) }
 {}
 
 /// What [`Merging::read`](flow_merge::Merging::read) answers of the export of a table: its rows were
@@ -69,7 +69,7 @@ pub fn exports_are_added_whole<S: Source>()
 pub fn exports_add_up_to_all_records<S: Source>()
     ensures { (limit : ℕ) (plan : PlanValue) (sources : List S) (table : Table)
         → AddsAllUp S.seen limit plan sources table
-        → IfExportsOf S.seen plan sources (λ records. HasRowsOf plan records table) }
+        → HasRowsOfAll S.seen plan sources table }
 {}
 
 /// What is exported of merged rows is the export of the table of all their records. So merged exports
@@ -98,8 +98,8 @@ pub fn exporters_add_up()
 /// Between borders, each before those after it, a time is within one interval at most: so each row is put in one, and
 /// is added once.
 pub fn one_interval()
-    ensures { (borders : List ℕ) (k j start end : ℕ) → AreOrdered borders
-        → IsWithin borders k start end → IsWithin borders j start end → k ≡ j }
+    ensures { (borders : List ℕ) (start end : ℕ) → AreOrdered borders
+        → AtMostOne (λ k. IsWithin borders k start end) }
 {}
 
 /// What rows add up to at an interval and a key is nothing if no row is there, and otherwise, for each

@@ -3,9 +3,9 @@
 ghost use Rattle.std.specs.Prelude.{◌≡◌, ◌⊎◌, IfErr, IfOk, OnOk};
 ghost use Rattle.flow_table.specs.AddedUp.{HasTooLargeRow};
 ghost use Rattle.flow_table.specs.Fitting.{FitsPlan};
-ghost use Rattle.flow_merge.specs.Merging.{AddsAllUp, HasRowsOf, no_records, none_missing};
+ghost use Rattle.flow_merge.specs.Merging.{AddsAllUp, no_records, none_missing};
 ghost use Rattle.flow_merge.specs.declared.merge_fault.MergeFault.TheVariants.{OutOfMemory};
-ghost use Rattle.laws_merge.specs.Exports.{IfExportsOf, IsExportFault, StopsAt};
+ghost use Rattle.laws_merge.specs.Exports.{HasRowsOfAll, IfExportsOf, IsFaultOfExports, StopsAt};
 
 use flow_export::Intervals;
 use flow_merge::{MergeFault, Merging};
@@ -32,13 +32,11 @@ pub fn merge<S: Source + Drop>(
     ensures stops { IfErr result (λ e. (e ≡ OutOfMemory)
         ⊎ StopsAt S.seen limit plan.now sources.items e) }
     // Of exports of tables these are the rows of the table of all their records.
-    ensures rows { IfExportsOf S.seen plan.now sources.items
-        (λ records. IfOk result (HasRowsOf plan.now records)) }
+    ensures rows { IfOk result (HasRowsOfAll S.seen plan.now sources.items) }
     // `Ok` only if no sum and no number of flows of that table is too large, `SumTooLarge` only if one is.
     ensures small { IfExportsOf S.seen plan.now sources.items
         (λ records. OnOk result (HasTooLargeRow plan.now records → ⊥)) }
-    ensures fault { IfExportsOf S.seen plan.now sources.items
-        (λ records. IfErr result (IsExportFault (HasTooLargeRow plan.now records))) }
+    ensures fault { IfErr result (IsFaultOfExports S.seen plan.now sources.items) }
     // The table fits the plan, as an export asks.
     ensures fits { IfOk result (FitsPlan plan.now) }
     ensures tally { IfOk result (λ table. table.tally ≡ no_records) }

@@ -1,6 +1,7 @@
 -- A whole message: which of its octets are its header, its sets, the records in them, and padding (RFC 7011, section 3).
-use Rattle.std.specs.Prelude.{◌≡◌, ◌≢◌, ℕ, ◌+◌, ◌<◌, ◌≤◌, Bool, true, false, if◌then◌else◌, List, [], ◌∷◌, ◌++◌, length, map, flat_map, count_by, Result, Ok, Err}
+use Rattle.std.specs.Prelude.{◌≡◌, ◌≢◌, ℕ, ◌+◌, ◌<◌, ◌≤◌, Bool, true, false, if◌then◌else◌, All, List, [], ◌∷◌, ◌++◌, length, map, flat_map, count_by, Result, Ok, Err}
 use Rattle.ipfix_wire.specs.InTurn.{InTurn}
+use Rattle.ipfix_wire.specs.Numbers.{IsOctets}
 use Rattle.ipfix_wire.specs.MessageHeader.{header_octets, IsHeader}
 use Rattle.ipfix_wire.specs.declared.header.Header.{Header}
 use Rattle.ipfix_wire.specs.declared.set.TheConstants.{TEMPLATE_SET_ID, OPTIONS_TEMPLATE_SET_ID, FIRST_TEMPLATE_ID}
@@ -89,6 +90,10 @@ IsPositive (Define t) = 0 < least t.specs
 IsPositive (Withdraw kind id) = Unit {0}
 IsPositive (WithdrawAll kind) = Unit {0}
 
+-- of any events that are so
+abbrev pub ForPositiveEvents : (List Event → Type 0) → Type 0
+ForPositiveEvents P = (es : List Event) → All IsPositive es → P es
+
 -- ---- what it gives
 
 -- the records of a set, with their domain, export time, template and scope
@@ -137,6 +142,10 @@ pub record IsReadAs (ds : History) (m : List ℕ) (x : Message) : Type 0 where
   pub events : x.decoding.events ≡ behind (events_in known x.header.domain) (all_events sets)
   pub passed : x.decoding.passed_over ≡ passed_over (events_in known x.header.domain) sets
   pub domains : x.domains ≡ with_events known x.header.domain x.decoding.events
+
+-- of any octets after what the session has, and of any message
+abbrev pub ForMessages : (History → List ℕ → Message → Type 0) → Type 0
+ForMessages P = (ds : History) (m : List ℕ) (x : Message) → IsOctets m → P ds m x
 
 -- ---- what `decode` answers
 

@@ -10,7 +10,6 @@ use Rattle.ipfix_wire.proofs.Choices.{both_true}
 use Rattle.ipfix_elements.specs.declared.cell.Cell.{Cell}
 use Rattle.ipfix_message.specs.declared.record.DataRecord.{DataRecord}
 use Rattle.recording_files.specs.Faithful.{is_flow}
-use Rattle.flow_table.specs.Bags.{IsSameBag}
 use Rattle.flow_table.specs.Intervals.{covers}
 use Rattle.flow_table.specs.Missing.{how_many, lacks_start, lacks_end, lacks_key, lacks_counter, missing_of}
 use Rattle.flow_table.specs.Plans.{PlanValue}
@@ -24,7 +23,7 @@ use Rattle.flow_table.specs.declared.table.Table.{Table}
 use Rattle.flow_table.specs.declared.tally.Tally.{Tally}
 use Rattle.flow_table.proofs.Lacking.{same_missing}
 use Rattle.flow_table.proofs.Sums.{same_map}
-use Rattle.laws_recordings.specs.RecordedFiles.{with_options}
+use Rattle.laws_recordings.specs.RecordedFiles.{SameFlows, with_options}
 
 -- ---- weights of flow records
 
@@ -52,10 +51,6 @@ flows_among p of_flows (x ∷ xs) = by_tests (is_flow x) (p x) refl refl (flows_
     by_tests true false f q more = ap (λ (c : Bool). cond c (x ∷ filter p (filter is_flow xs)) (filter p (filter is_flow xs))) q ∙ more
     by_tests false true f q more = let yes : is_flow x ≡ true = of_flows x q in absurd cc
     by_tests false false f q more = more
-
--- the same flow records, each as often
-abbrev pub SameFlows : List DataRecord → List DataRecord → Type 0
-SameFlows rs qs = IsSameBag (filter is_flow rs) (filter is_flow qs)
 
 module _ (rs qs : List DataRecord) (same : SameFlows rs qs) where
   same_sum : (p : DataRecord → Bool) → IsOfFlows p → (f : DataRecord → ℕ) → sum_by f (filter p rs) ≡ sum_by f (filter p qs)

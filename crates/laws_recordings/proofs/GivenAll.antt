@@ -21,8 +21,8 @@ use Rattle.flow_table.specs.declared.missing.Missing.{Missing}
 use Rattle.flow_table.specs.declared.table.Table.{Table}
 use Rattle.flow_table.specs.declared.tally.Tally.{Tally}
 use Rattle.flow_merge.specs.Merging.{all_of, HasRowsOf}
-use Rattle.laws_recordings.specs.RecordedFiles.{AreRecordedIn, IsRecordedIn, SessionText, all_files, records_in_session, records_of_each, with_options}
-use Rattle.laws_recordings.proofs.FlowBags.{SameFlows, table_flows, weighed as flow_weighed}
+use Rattle.laws_recordings.specs.RecordedFiles.{AreRecordedIn, IsRecordedIn, SessionText, all_files, records_in_session, records_of_each, with_options, SameFlows}
+use Rattle.laws_recordings.proofs.FlowBags.{table_flows, weighed as flow_weighed}
 
 -- the files of a session give the flow records of its text
 gives_records : (limit : Option ℕ) (text : List ℕ) (files : List (List ℕ)) → IsRecordedIn limit text files → filter is_flow (flat_map records_of files) ≡ filter is_flow (records_within limit text)

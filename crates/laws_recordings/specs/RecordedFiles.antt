@@ -1,12 +1,14 @@
 -- The files of recorded sessions, as they are collected.
-use Rattle.std.specs.Prelude.{◌≡◌, ℕ, List, [], map, flat_map, sum_by, Option}
+use Rattle.std.specs.Prelude.{◌≡◌, ℕ, List, [], filter, map, flat_map, sum_by, Option}
 use Rattle.std.specs.List.{AllZip}
 use Rattle.ipfix_message.specs.declared.record.DataRecord.{DataRecord}
 use Rattle.ipfix_session.specs.Given.{records_of, records_within}
 use Rattle.ipfix_session.specs.Sources.{SourceView}
+use Rattle.recording_files.specs.Faithful.{is_flow}
 use Rattle.recording_files.specs.Files.{AreAllSeen, Contents, FilesView, all_of}
 use Rattle.recording_files.specs.Sessions.{Progress, HoldsAll, IsTold}
 use Rattle.recording_files.specs.declared.recorded_session.RecordedSession.{RecordedSession}
+use Rattle.flow_table.specs.Bags.{IsSameBag}
 use Rattle.flow_table.specs.Plans.{PlanValue}
 use Rattle.flow_table.specs.Tables.{count_of}
 use Rattle.flow_table.specs.declared.class.Class.TheVariants.{Options}
@@ -51,6 +53,14 @@ pub record AreRecordedIn (came : List DataRecord) (files : List (List ℕ)) : Ty
   pub recordings : List (List (List ℕ))
   pub each : AllZip (λ (s : SessionText). IsRecordedIn s.limit s.text) sessions recordings
   pub same : AreSameFiles (all_files recordings) files
+
+-- the same flow records, each as often
+abbrev pub SameFlows : List DataRecord → List DataRecord → Type 0
+SameFlows rs qs = IsSameBag (filter is_flow rs) (filter is_flow qs)
+
+-- of the records that came in sessions, and of the files in which these were recorded
+abbrev pub ForRecordings : (List DataRecord → List (List ℕ) → Type 0) → Type 0
+ForRecordings P = (came : List DataRecord) (files : List (List ℕ)) → AreRecordedIn came files → P came files
 
 -- the records of each group of files
 abbrev pub records_of_each : List (List (List ℕ)) → List (List DataRecord)

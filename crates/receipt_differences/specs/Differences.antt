@@ -18,10 +18,14 @@ pub record IsTableOf (said : TableValue) (table : List ℕ) : Type 0 where
 
 -- ---- by its rows
 
+-- how the sum of a counter is named
+abbrev pub sum_name : List ℕ → List ℕ
+sum_name counter = codes "table: sum of " ++ counter
+
 -- of a counter of the same name; another one is no difference of sums
 abbrev pub sum_differs : SumValue → SumValue → List ℕ
 sum_differs found said =
-    if bytes_eq found.name said.name then number_differs (codes "table: sum of " ++ said.name) found.total said.total
+    if bytes_eq found.name said.name then number_differs (sum_name said.name) found.total said.total
     else other_line (codes "table: counters")
 
 abbrev pub sums_differ : List SumValue → List SumValue → List ℕ

@@ -1,5 +1,5 @@
 -- An order of inputs in which those that are alike stand together: by their octets, then by their exporters, then by their reports.
-use Rattle.std.specs.Prelude.{ℕ, List, [], map}
+use Rattle.std.specs.Prelude.{ℕ, List, [], map, Option}
 use Rattle.std.specs.Borrow.{Bor}
 use Rattle.std.specs.Cmp.Lexicographic.{slice_cmp}
 use Rattle.std.specs.List.Sorted.{IsPermutation, IsSortedByKey}
@@ -11,6 +11,7 @@ use Rattle.table_receipts.specs.declared.receipt.DomainReceipt.{DomainReceipt}
 use Rattle.table_receipts.specs.declared.receipt.InputReceipt.{InputReceipt}
 use Rattle.receipt_differences.specs.declared.likeness.Likeness.{Likeness}
 use Rattle.receipt_differences.specs.declared.likeness.Likeness.TheVariants.{Octets, Exporter, Report}
+use Rattle.receipt_differences.specs.Inputs.{file_differs, input_differs}
 
 abbrev pub octets_cmp : InputValue → InputValue → Ordering
 octets_cmp i j = ordering_then (nat_cmp i.file.octets j.file.octets) (slice_cmp nat_cmp i.file.digest j.file.digest)
@@ -34,10 +35,14 @@ domain_cmp d e =
     ordering_then (nat_cmp d.domain e.domain) (ordering_then (nat_cmp d.lost e.lost)
     (ordering_then (nat_cmp d.backward e.backward) (ordering_then (nat_cmp d.unaccounted e.unaccounted) (nat_cmp d.unknown_sets e.unknown_sets))))
 
+-- an input without a fault comes first, then faults by their names
+abbrev pub fault_cmp : Option (List ℕ) → Option (List ℕ) → Ordering
+fault_cmp f g = option_cmp (slice_cmp nat_cmp) f g
+
 abbrev pub report_cmp : InputValue → InputValue → Ordering
 report_cmp i j =
     ordering_then (nat_cmp i.messages j.messages) (ordering_then (nat_cmp i.records j.records)
-    (ordering_then (option_cmp (slice_cmp nat_cmp) i.fault j.fault) (slice_cmp domain_cmp i.domains j.domains)))
+    (ordering_then (fault_cmp i.fault j.fault) (slice_cmp domain_cmp i.domains j.domains)))
 
 abbrev pub likeness_cmp : Likeness → InputValue → InputValue → Ordering
 likeness_cmp Octets i j = octets_cmp i j
@@ -55,3 +60,11 @@ pub record IsOrderOf (inputs : List InputReceipt) (ordered : List (Bor InputRece
 
 abbrev pub values_of : List (Bor InputReceipt) → List InputValue
 values_of ordered = map (λ i. input_value i.now) ordered
+
+-- ---- what is told, by the inputs and the files in that order
+
+abbrev pub on_input : List (Bor InputReceipt) → List (Bor InputReceipt) → InputReceipt → List ℕ
+on_input inputs files i = input_differs (values_of inputs) (values_of files) (input_value i)
+
+abbrev pub on_file : List (Bor InputReceipt) → List (Bor InputReceipt) → InputReceipt → List ℕ
+on_file inputs files f = file_differs (values_of inputs) (values_of files) (input_value f)

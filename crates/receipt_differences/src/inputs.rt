@@ -1,19 +1,18 @@
 //! Inputs that differ from those that files gave.
 
-ghost use Rattle.std.specs.Prelude.{◌≡◌, map, string_bytes};
+ghost use Rattle.std.specs.Prelude.{◌≡◌, map};
 ghost use Rattle.std.specs.List.{flat_map};
 ghost use Rattle.report_writing.specs.Writing.{Tells};
 ghost use Rattle.table_receipts.specs.Values.{input_value};
-ghost use Rattle.table_receipts.specs.declared.receipt.InputReceipt.{InputReceipt as Input};
 ghost use Rattle.receipt_differences.specs.DifferenceLines.{line_start, named_line};
-ghost use Rattle.receipt_differences.specs.Inputs.{file_differs, file_end as end_of_file, input_differs, input_end as end_of_input, inputs_differ, lacks as lacks_any};
-ghost use Rattle.receipt_differences.specs.Orders.{Ascends, IsOrderOf, values_of};
+ghost use Rattle.receipt_differences.specs.Inputs.{file_end, input_end, inputs_differ, lacks as lacks_any};
+ghost use Rattle.receipt_differences.specs.Orders.{Ascends, IsOrderOf, on_file, on_input, values_of};
 
 use crate::likeness::Likeness;
 use crate::order::count_alike;
 use report_writing::{Origin, WriteLines, write_origin};
 use std::io;
-use table_receipts::{FileReceipt, InputReceipt};
+use table_receipts::InputReceipt;
 
 /// Writes a line for each input that a receipt tells of for which there is no file, or whose file gave something else, and
 /// then for each file for which there is no input. Each file is matched with one input at most, by their octets, their exporters
@@ -43,8 +42,8 @@ fn write_inputs<E: WriteLines>(
 ) -> io::Result<()>
     requires own { Ascends own.now }
     requires others { Ascends others.now }
-    ensures { Tells E.lines err.old err.new result (flat_map (λ (i : Input).
-        input_differs (values_of own.now) (values_of others.now) (input_value i)) inputs.now) }
+    ensures { Tells E.lines err.old err.new result
+        (flat_map (on_input own.now others.now) inputs.now) }
 {
     for input in inputs {
         write_input(input, own, others, err)?;
@@ -60,21 +59,25 @@ fn write_input<E: WriteLines>(
 ) -> io::Result<()>
     requires own { Ascends own.now }
     requires others { Ascends others.now }
-    ensures { Tells E.lines err.old err.new result (input_differs
-        (values_of own.now) (values_of others.now) (input_value input.now)) }
+    ensures { Tells E.lines err.old err.new result (on_input own.now others.now input.now) }
 {
     if lacks(Likeness::Report, input, own, others) {
-        write_named("input", &input.file, input_end(input, own, others), err)
+        let name = input.file.name.as_str();
+        write_named("input", name, end_of_input(input, own, others), err)
     } else {
         Ok(())
     }
 }
 
 // What an input has no file with: its octets; or its exporter, too; or its report.
-fn input_end(input: &InputReceipt, own: &[&InputReceipt], others: &[&InputReceipt]) -> &'static str
+fn end_of_input(
+    input: &InputReceipt,
+    own: &[&InputReceipt],
+    others: &[&InputReceipt],
+) -> &'static str
     requires own { Ascends own.now }
     requires others { Ascends others.now }
-    ensures { result.now ≡ end_of_input (values_of own.now) (values_of others.now) (input_value input.now) }
+    ensures { result.now ≡ input_end (values_of own.now) (values_of others.now) (input_value input.now) }
 {
     if lacks(Likeness::Octets, input, own, others) {
         ": no FILE for it\n"
@@ -108,8 +111,8 @@ fn write_files<E: WriteLines>(
 ) -> io::Result<()>
     requires own { Ascends own.now }
     requires others { Ascends others.now }
-    ensures { Tells E.lines err.old err.new result (flat_map (λ (f : Input).
-        file_differs (values_of own.now) (values_of others.now) (input_value f)) files.now) }
+    ensures { Tells E.lines err.old err.new result
+        (flat_map (on_file own.now others.now) files.now) }
 {
     for file in files {
         write_file(file, own, others, err)?;
@@ -125,21 +128,21 @@ fn write_file<E: WriteLines>(
 ) -> io::Result<()>
     requires own { Ascends own.now }
     requires others { Ascends others.now }
-    ensures { Tells E.lines err.old err.new result (file_differs
-        (values_of own.now) (values_of others.now) (input_value file.now)) }
+    ensures { Tells E.lines err.old err.new result (on_file own.now others.now file.now) }
 {
     if lacks(Likeness::Exporter, file, others, own) {
-        write_named("file", &file.file, file_end(file, own, others), err)
+        let name = file.file.name.as_str();
+        write_named("file", name, end_of_file(file, own, others), err)
     } else {
         Ok(())
     }
 }
 
 // What a file has no input with: its octets; or its exporter, too.
-fn file_end(file: &InputReceipt, own: &[&InputReceipt], others: &[&InputReceipt]) -> &'static str
+fn end_of_file(file: &InputReceipt, own: &[&InputReceipt], others: &[&InputReceipt]) -> &'static str
     requires own { Ascends own.now }
     requires others { Ascends others.now }
-    ensures { result.now ≡ end_of_file (values_of own.now) (values_of others.now) (input_value file.now) }
+    ensures { result.now ≡ file_end (values_of own.now) (values_of others.now) (input_value file.now) }
 {
     if lacks(Likeness::Octets, file, others, own) {
         ": no input for it\n"
@@ -150,16 +153,10 @@ fn file_end(file: &InputReceipt, own: &[&InputReceipt], others: &[&InputReceipt]
 
 /// Writes a line of the input or the file of this name.
 #[tactic(auto, unfolding(crate::specs::DifferenceLines::named_line))]
-pub fn write_named<E: WriteLines>(
-    what: &str,
-    file: &FileReceipt,
-    end: &str,
-    err: &mut E,
-) -> io::Result<()>
+pub fn write_named<E: WriteLines>(what: &str, name: &str, end: &str, err: &mut E) -> io::Result<()>
     ensures { Tells E.lines err.old err.new result
-        (named_line what.now (string_bytes file.now.name) end.now) }
+        (named_line what.now name.now end.now) }
 {
-    let name = file.name.as_str();
     write_start(what, err)?;
     write_origin(&Origin::File { name, size: None }, err)?;
     err.write_all(end.as_bytes())

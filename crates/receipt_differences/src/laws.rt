@@ -9,7 +9,7 @@ ghost use Rattle.receipt_differences.specs.Inputs.{HaveSameInputs, inputs_differ
 
 /// Nothing is told of a table exactly if it has the octets that its receipt tells, by their number and SHA-256.
 pub fn no_line_of_its_table()
-    ensures { (said : TableValue) (table : List ℕ) → (table_differs said table ≡ []) ↔ IsTableOf said table }
+    ensures { (t : TableValue) (text : List ℕ) → (table_differs t text ≡ []) ↔ IsTableOf t text }
 {}
 
 /// Nothing is told of a table exactly if it has the octets of the one that was made again.
@@ -20,6 +20,5 @@ pub fn no_line_of_same_text()
 /// Nothing is told of inputs and files exactly if each input has a file of its own with the same octets and exporter, whose session gave
 /// the same, and each file an input.
 pub fn no_line_of_same_inputs()
-    ensures { (inputs files : List InputValue)
-        → (inputs_differ inputs files ≡ []) ↔ HaveSameInputs inputs files }
+    ensures { (is fs : List InputValue) → (inputs_differ is fs ≡ []) ↔ HaveSameInputs is fs }
 {}

@@ -55,6 +55,7 @@ fn write_map_difference<E: WriteLines>(
     if is_same_file(found, said) {
         Ok(())
     } else {
-        write_named("map", said, ": not that of the receipt\n", err)
+        let name = said.name.as_str();
+        write_named("map", name, ": not that of the receipt\n", err)
     }
 }

@@ -1,11 +1,9 @@
 //! An order of what the sessions of inputs gave.
 
-ghost use Rattle.std.specs.Prelude.{◌≡◌, option_map, string_bytes};
+ghost use Rattle.std.specs.Prelude.{◌≡◌};
 ghost use Rattle.std.specs.Cmp.Lexicographic.{slice_cmp};
-ghost use Rattle.std.specs.Option.{option_cmp};
-ghost use Rattle.std.specs.Ordering.{nat_cmp};
-ghost use Rattle.table_receipts.specs.Values.{input_value};
-ghost use Rattle.receipt_differences.specs.Orders.{domain_cmp, report_cmp};
+ghost use Rattle.table_receipts.specs.Values.{fault_value, input_value};
+ghost use Rattle.receipt_differences.specs.Orders.{domain_cmp, fault_cmp, report_cmp};
 
 use std::cmp::Ordering;
 use table_receipts::{DomainReceipt, InputReceipt};
@@ -21,8 +19,7 @@ pub fn by_report(input: &InputReceipt, other: &InputReceipt) -> Ordering
 }
 
 fn by_fault(fault: &Option<String>, other: &Option<String>) -> Ordering
-    ensures { result ≡ option_cmp (slice_cmp nat_cmp)
-        (option_map string_bytes fault.now) (option_map string_bytes other.now) }
+    ensures { result ≡ fault_cmp (fault_value fault.now) (fault_value other.now) }
 {
     match (fault, other) {
         (None, None) => Ordering::Equal,

@@ -1,11 +1,11 @@
 //! Tables that differ from what their receipts say.
 
-ghost use Rattle.std.specs.Prelude.{◌≡◌, ◌++◌, [], bytes_eq, codes, map, string_bytes};
+ghost use Rattle.std.specs.Prelude.{◌≡◌, [], bytes_eq, map};
 ghost use Rattle.sha2.specs.Sha256.{sha256};
 ghost use Rattle.report_writing.specs.Writing.{Tells};
 ghost use Rattle.table_receipts.specs.Values.{sum_value, table_value};
 ghost use Rattle.receipt_differences.specs.DifferenceLines.{number_differs, number_line};
-ghost use Rattle.receipt_differences.specs.Differences.{rows_differ, sum_differs, sums_differ, table_differs};
+ghost use Rattle.receipt_differences.specs.Differences.{rows_differ, sum_differs, sum_name, sums_differ, table_differs};
 
 use crate::numbers::{write_other, write_other_unless, write_unless_equal, write_unless_same};
 use report_writing::WriteLines;
@@ -95,7 +95,7 @@ fn write_sum_unless_same<E: WriteLines>(
     err: &mut E,
 ) -> io::Result<()>
     ensures { Tells E.lines err.old err.new result
-        (number_differs (codes "table: sum of " ++ name.now) found said) }
+        (number_differs (sum_name name.now) found said) }
 {
     if found == said {
         Ok(())
@@ -112,7 +112,7 @@ fn write_sum_number<E: WriteLines>(
     err: &mut E,
 ) -> io::Result<()>
     ensures { Tells E.lines err.old err.new result
-        (number_line (codes "table: sum of " ++ name.now) found said) }
+        (number_line (sum_name name.now) found said) }
 {
     writeln!(
         err,

@@ -2,7 +2,7 @@
 use Rattle.std.specs.Prelude.{◌≡◌, ◌<◌, ◌⊎◌, ℕ, Bool, true, false, All, List, Option, IsNone, get_or, length, map, string_bytes, take}
 use Rattle.table_receipts.specs.Values.{input_value}
 use Rattle.receipt_merging.specs.Once.{AreFound, AreSame}
-use Rattle.receipt_merging.specs.Parts.{PartValue, counts_from, inputs_in, is_complete, left_out_in, no_counts}
+use Rattle.receipt_merging.specs.Parts.{PartValue, all_complete, counts_from, inputs_in, is_complete, left_out_in, no_counts}
 use Rattle.receipt_merging.specs.declared.merging.Judgement.{Judgement}
 use Rattle.receipt_merging.specs.declared.merging.Judgement.TheVariants.{Merged, OtherPlan, Incomplete, InputTwice, OutOfMemory}
 use Rattle.receipt_merging.specs.declared.merging.MergedParts.{MergedParts}
@@ -18,9 +18,13 @@ pub record IsFirstNot (passes : PartValue → Bool) (parts : List PartValue) (pl
 abbrev pub HavePlan : List PartValue → Type 0
 HavePlan parts = All (λ (p : PartValue). p.has_plan ≡ true) parts
 
--- and they are complete, unless they needn't be
+-- all are complete
+abbrev pub AreComplete : List PartValue → Type 0
+AreComplete parts = All (λ (p : PartValue). p.receipt.complete ≡ true) parts
+
+-- all were made under the plan, and they are complete, unless they needn't be
 abbrev pub MayBeMerged : Allowed → List PartValue → Type 0
-MayBeMerged allowed parts = HavePlan parts × ((allowed.incomplete ≡ true) ⊎ (All (λ (p : PartValue). p.receipt.complete ≡ true) parts))
+MayBeMerged allowed parts = HavePlan parts × ((allowed.incomplete ≡ true) ⊎ AreComplete parts)
 
 -- what their receipts say together
 pub record AreTogether (parts : List PartValue) (merged : MergedParts) : Type 0 where
@@ -28,7 +32,11 @@ pub record AreTogether (parts : List PartValue) (merged : MergedParts) : Type 0 
   pub records : merged.records ≡ counts_from no_counts parts
   pub left_out : map string_bytes merged.left_out.items ≡ left_out_in parts
 
--- and whether that is complete
+-- and whether all of them are complete
+abbrev pub AreGathered : List PartValue → MergedParts → Type 0
+AreGathered parts merged = AreTogether parts merged × (merged.complete ≡ all_complete parts)
+
+-- and whether they are complete together
 pub record AreMerged (parts : List PartValue) (merged : MergedParts) : Type 0 where
   pub together : AreTogether parts merged
   pub complete : merged.complete ≡ is_complete parts

@@ -2,9 +2,9 @@
 
 ghost use Rattle.std.specs.Prelude.{◌≡◌, ◌++◌, ◌&&◌, List, IfOk, map, string_bytes};
 ghost use Rattle.table_receipts.specs.Values.{input_value};
-ghost use Rattle.receipt_merging.specs.Judging.{AreTogether, IsJudgementOf, MayBeMerged};
+ghost use Rattle.receipt_merging.specs.Judging.{AreGathered, IsJudgementOf, MayBeMerged};
 ghost use Rattle.receipt_merging.specs.Once.{AreFound};
-ghost use Rattle.receipt_merging.specs.Parts.{PartValue, add_counts as sum_counts, all_complete, part_value};
+ghost use Rattle.receipt_merging.specs.Parts.{PartValue, add_counts as sum_counts, part_value};
 
 use crate::counts::{add_counts, no_records};
 use crate::once::first_twice;
@@ -65,9 +65,8 @@ pub fn judge_parts(alloc: Global, parts: Vec<Part>, allowed: Allowed) -> Judgeme
 
 // Judges whether parts may be merged of which these two inputs are the same, if there are such.
 fn judge_twice(merged: MergedParts, twice: Option<(usize, usize)>, allowed: Allowed) -> Judgement
-    ensures { (parts : List PartValue) → MayBeMerged allowed parts → AreTogether parts merged
-        → merged.complete ≡ all_complete parts → AreFound (map input_value merged.inputs.items) twice
-        → IsJudgementOf allowed parts result }
+    ensures { (parts : List PartValue) → MayBeMerged allowed parts → AreGathered parts merged
+        → AreFound (map input_value merged.inputs.items) twice → IsJudgementOf allowed parts result }
 {
     let Some((first, second)) = twice else {
         return Judgement::Merged(merged, None);
@@ -85,8 +84,7 @@ fn judge_twice(merged: MergedParts, twice: Option<(usize, usize)>, allowed: Allo
 
 // What their receipts say together.
 fn merge_parts(alloc: Global, parts: Vec<Part>) -> Result<MergedParts, AllocError>
-    ensures { IfOk result (λ merged. AreTogether (map part_value parts.items) merged
-        × (merged.complete ≡ all_complete (map part_value parts.items))) }
+    ensures { IfOk result (AreGathered (map part_value parts.items)) }
 {
     let mut waiting = VecDeque::from_vec(parts);
     let mut merged = MergedParts {

@@ -1,8 +1,8 @@
 //! The parts of a table.
 
-ghost use Rattle.std.specs.Prelude.{◌≡◌, true, All, IfNone, IfSome, map};
-ghost use Rattle.receipt_merging.specs.Judging.{HavePlan, IsFirstNot};
-ghost use Rattle.receipt_merging.specs.Parts.{PartValue, part_value};
+ghost use Rattle.std.specs.Prelude.{IfNone, IfSome, map};
+ghost use Rattle.receipt_merging.specs.Judging.{AreComplete, HavePlan, IsFirstNot};
+ghost use Rattle.receipt_merging.specs.Parts.{part_value};
 
 use table_receipts::Receipt;
 
@@ -39,8 +39,7 @@ pub fn first_of_other_plan(parts: &[Part]) -> Option<usize>
 /// The place of the first part that isn't complete, counted from 0.
 pub fn first_incomplete(parts: &[Part]) -> Option<usize>
     ensures some { IfSome result (IsFirstNot (λ p. p.receipt.complete) (map part_value parts.now)) }
-    ensures none { IfNone result
-        (All (λ (p : PartValue). p.receipt.complete ≡ true) (map part_value parts.now)) }
+    ensures none { IfNone result (AreComplete (map part_value parts.now)) }
 {
     for (place, part) in parts.iter().enumerate() {
         if !part.receipt.complete {

@@ -27,10 +27,14 @@ one_more_refused refused peer = record { count = one_more (refused_count refused
 abbrev pub MaySend : PeerFilter → SocketAddr → Type 0
 MaySend filter peer = LetsIn filter (socket_ip peer)
 
--- a session has begun: its number is one more than the last, and nothing else is counted
+-- a session's number is one more than the last
+abbrev pub IsNext : SharedCounts → SessionNumber → Type 0
+IsNext before session = session.number ≡ one_more before.sessions
+
+-- a session has begun: its number is the next one, and nothing else is counted
 abbrev pub IsAdmitted : SharedCounts → Option SessionNumber → SharedCounts → Type 0
 IsAdmitted before (Some session) after =
-    (session.number ≡ one_more before.sessions) × (after ≡ record before { sessions = one_more before.sessions })
+    IsNext before session × (after ≡ record before { sessions = one_more before.sessions })
 IsAdmitted before None after = ⊥
 
 -- a peer was refused: it has no number, is counted, and nothing else is

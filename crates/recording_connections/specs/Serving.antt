@@ -76,9 +76,13 @@ abbrev pub read_lines : Verbosity → SocketAddr → Option ErrorKind → List �
 read_lines verbosity peer (Some kind) = if_verbose verbosity (reason_line peer faults.ReadFailed (reason_of kind))
 read_lines verbosity peer None = []
 
--- before and after the lines of its session
-abbrev pub connection_lines : Verbosity → SocketAddr → Option ErrorKind → RecordedSession → FilesEnd → List ℕ
-connection_lines verbosity peer failure session end = silence_lines peer failure ++ (session_lines peer session end ++ read_lines verbosity peer failure)
+-- after the lines of its session
+abbrev pub more_lines : Verbosity → SocketAddr → Option ErrorKind → RecordedSession → FilesEnd → List ℕ
+more_lines verbosity peer failure session end = session_lines peer session end ++ read_lines verbosity peer failure
+
+-- and before them
+abbrev pub all_lines : Verbosity → SocketAddr → Option ErrorKind → RecordedSession → FilesEnd → List ℕ
+all_lines verbosity peer failure session end = silence_lines peer failure ++ more_lines verbosity peer failure session end
 
 -- how far the session of a connection goes: its templates count no more than the order says
 abbrev pub limits_of : RecordOrder → SessionLimits
@@ -108,7 +112,7 @@ pub record IsRecorded {S F C : Type 0} (sees : Views S F C) (source after : S) (
   pub is_end : sees.finishes written session.last end
   pub said : Option ErrorKind
   pub is_said : IfSome said (λ kind. sees.failure after ≡ Some kind)
-  pub told : tells (connection_lines verbosity peer (read_failure session.ended said) session end)
+  pub told : tells (all_lines verbosity peer (read_failure session.ended said) session end)
 
 -- the files and the clock that a place makes for a session of a peer with a number; or it refuses them
 abbrev pub MakesRecordings : Type 0 → Type 0 → Type 1

@@ -9,6 +9,7 @@ use Rattle.std.specs.declared.io.ErrorKind.TheVariants.{Interrupted, WouldBlock}
 use Rattle.ipfix_session.specs.MessageCounts.{CounterView, HasRead}
 use Rattle.ipfix_session.specs.Sources.{IsRead, SourceView}
 use Rattle.ipfix_session.specs.declared.source.ReadError.{ReadError}
+use Rattle.recording_connections.specs.declared.patient_reader.SilenceLimits.{SilenceLimits}
 
 -- a source was read
 abbrev pub WasRead : {S : Type 0} → (S → SourceView) → S → Result ℕ ReadError → S → List ℕ → Type 0
@@ -20,8 +21,8 @@ IsTooLong (Some idle) (Some heard) (Some now) = as_nanos idle ≤ instant_nanos 
 IsTooLong idle heard now = ⊥
 
 -- no message has come whole since the connection began, for as long as that may take or longer
-abbrev pub IsOverdue : ℕ → Duration → Option Instant → Option Instant → Type 0
-IsOverdue messages limit begun now = (messages ≡ 0) × IsTooLong (Some limit) begun now
+abbrev pub IsOverdue : ℕ → SilenceLimits → Option Instant → Option Instant → Type 0
+IsOverdue messages silence begun now = (messages ≡ 0) × IsTooLong (Some silence.first_message) begun now
 
 -- in a piece that came a message was looked for, unless one was whole before
 abbrev pub LookedFor : CounterView → List ℕ → CounterView → Type 0
@@ -40,8 +41,8 @@ IsReadersFailure idle heard now (Some kind) = (kind ≢ Interrupted) × (kind �
 
 -- a read fails as one that would block if the first message is overdue at a moment that is told; otherwise as its reader did, whose
 -- error is no tick
-abbrev pub FailsBy : (Option Instant → Type 0) → Duration → Option Duration → ℕ → Option Instant → Option Instant → Option ErrorKind → Type 0
-FailsBy tells limit idle messages begun heard failure =
+abbrev pub FailsBy : (Option Instant → Type 0) → SilenceLimits → ℕ → Option Instant → Option Instant → Option ErrorKind → Type 0
+FailsBy tells silence messages begun heard failure =
     (first : Option Instant) × tells first
-    × ((IsOverdue messages limit begun first × (failure ≡ Some WouldBlock))
-    ⊎ ((¬ IsOverdue messages limit begun first) × ((now : Option Instant) × tells now × IsReadersFailure idle heard now failure)))
+    × ((IsOverdue messages silence begun first × (failure ≡ Some WouldBlock))
+    ⊎ ((¬ IsOverdue messages silence begun first) × ((now : Option Instant) × tells now × IsReadersFailure silence.idle heard now failure)))

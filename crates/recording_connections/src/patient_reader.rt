@@ -114,8 +114,8 @@ impl<'a, R: Read, C: Moments> PatientReader<'a, R, C> {
 
     // Whether the first message should be whole at this time, and isn't.
     fn is_overdue(&self, now: Option<Instant>) -> bool
-        ensures { IsTrue result ↔ IsOverdue self.now.messages.messages
-            self.now.silence.first_message self.now.begun now }
+        ensures { IsTrue result
+            ↔ IsOverdue self.now.messages.messages self.now.silence self.now.begun now }
     {
         self.messages.count() == 0 && is_too_long(Some(self.silence.first_message), self.begun, now)
     }
@@ -143,8 +143,8 @@ impl<'a, R: Read, C: Moments> Source for PatientReader<'a, R, C> {
         ensures begun { self.new.begun ≡ self.old.begun }
         ensures silence { self.new.silence ≡ self.old.silence }
         ensures failure { result ≡ Err ReadError.Failed
-            → FailsBy (C.tells self.old.clock.now) self.old.silence.first_message self.old.silence.idle
-            self.old.messages.messages self.old.begun self.old.heard self.new.failure }
+            → FailsBy (C.tells self.old.clock.now) self.old.silence self.old.messages.messages
+            self.old.begun self.old.heard self.new.failure }
         ensures same { result ≢ Err ReadError.Failed → self.new.failure ≡ self.old.failure }
         ensures looked { IfOk result (λ count. (self.old.ended ≡ false)
             → LookedFor self.old.messages (take count buffer.new) self.new.messages) }

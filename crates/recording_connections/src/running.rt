@@ -2,8 +2,7 @@
 //! another goes on accepting. There is one more than sessions, so that a peer that comes while all are at work is turned away.
 
 ghost use Rattle.std.specs.Prelude.{◌≡◌, ◌==◌, ◌+◌, min, if◌then◌else◌, IfSome, IsSome, None};
-ghost use Rattle.ipfix_session.specs.Sources.{one_more};
-ghost use Rattle.recording_connections.specs.Refusals.{MaySend};
+ghost use Rattle.recording_connections.specs.Refusals.{IsNext, MaySend};
 ghost use Rattle.recording_connections.specs.ConnectionLines.{TellsEnds};
 ghost use Rattle.recording_connections.specs.Serving.{IsServedBy, views};
 
@@ -183,8 +182,7 @@ fn admit<L, P, R: Wait>(
     peer: SocketAddr,
 ) -> Option<SessionNumber>
     ensures may_send { IsSome result → MaySend recorder.now.order.now.filter peer }
-    ensures next { IfSome result (λ session. (counts : SharedCounts)
-        × (session.number ≡ one_more counts.sessions)) }
+    ensures next { IfSome result (λ session. (counts : SharedCounts) × IsNext counts session) }
 {
     let may_send = recorder.order.filter.lets_in(peer.ip());
     if may_send && !room.lock(rt).begin(peer) {

@@ -1,9 +1,9 @@
 //! One session: it is recorded to its end, and its lines are written.
 
-ghost use Rattle.std.specs.Prelude.{◌≡◌, ◌++◌};
+ghost use Rattle.std.specs.Prelude.{◌≡◌};
 ghost use Rattle.recording_files.specs.Files.{IsEmpty};
 ghost use Rattle.report_writing.specs.Writing.{Tells};
-ghost use Rattle.recording_connections.specs.Serving.{connection_lines, end_lines, fault_line, fault_lines, finish_lines, IsRecorded, IsServed, not_written_line, read_failure as failure_by, read_lines, reason_line, session_lines, silence_lines, views};
+ghost use Rattle.recording_connections.specs.Serving.{all_lines, end_lines, fault_line, fault_lines, finish_lines, IsRecorded, IsServed, more_lines, not_written_line, read_failure as failure_by, read_lines, reason_line, session_lines, silence_lines, views};
 
 use crate::connection::Connection;
 use crate::place::{Recording, RecordingFiles, SessionPlace};
@@ -97,7 +97,7 @@ fn write_connection<W: WriteLines>(
     out: &mut W,
 ) -> io::Result<()>
     ensures { Tells W.lines out.old out.new result
-        (connection_lines verbosity peer failure session.now end) }
+        (all_lines verbosity peer failure session.now end) }
 {
     write_silence(peer, failure, out)?;
     write_lines(verbosity, peer, failure, session, end, out)
@@ -126,7 +126,7 @@ fn write_lines<W: WriteLines>(
     out: &mut W,
 ) -> io::Result<()>
     ensures { Tells W.lines out.old out.new result
-        (session_lines peer session.now end ++ read_lines verbosity peer failure) }
+        (more_lines verbosity peer failure session.now end) }
 {
     write_session(peer, session, end, out)?;
     write_unread(verbosity, peer, failure, out)

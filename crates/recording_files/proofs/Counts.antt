@@ -80,11 +80,16 @@ up_to-none c cs none = λ before here given counted are.
     subst (λ (ms : List Message). Counted c before ms) (sym (append-nil here) ∙ ap (λ (ms : List Message). here ++ ms) (sym (no_counts cs given none are))) counted
 
 pub up_to-push : (old now new : Told) (cs : List MessageCount) (c : MessageCount) → CountsUpTo old now cs
-    → ((before here : List Message) (m : Message) → Counted now before here → IsCountOf c m → Counted new before (here ++ m ∷ [])) → CountsUpTo old new (cs ++ c ∷ [])
+    → CountsUpTo now new (c ∷ []) → CountsUpTo old new (cs ++ c ∷ [])
 up_to-push old now new cs c first next = λ before here given counted are.
     let s = split_last cs c given are in
     subst (λ (ms : List Message). Counted new before ms) (append_assoc here s.0 (s.1 ∷ []) ∙ ap (λ (ms : List Message). here ++ ms) (sym s.2))
-    (next before (here ++ s.0) s.1 (first before here s.0 counted s.3) s.4)
+    (next before (here ++ s.0) (s.1 ∷ []) (first before here s.0 counted s.3) (s.4, tt))
+
+pub up_to-one : (old new : Told) (c : MessageCount) → ((before here : List Message) (m : Message) → Counted old before here → IsCountOf c m → Counted new before (here ++ m ∷ [])) → CountsUpTo old new (c ∷ [])
+up_to-one old new c next before here [] counted are = absurd are
+up_to-one old new c next before here (m ∷ []) counted are = next before here m counted are.0
+up_to-one old new c next before here (m ∷ n ∷ ms) counted are = absurd are.1
 
 -- ---- room
 

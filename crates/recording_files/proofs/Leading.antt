@@ -21,7 +21,7 @@ use Rattle.ipfix_session.specs.TemplateLists.{AreInForce}
 use Rattle.recording_files.specs.Recordings.{has, begins_again, stamp_for, Leads}
 use Rattle.recording_files.specs.Heads.{AppendsHead, goes_on_with, head_messages, number_at, number_in, stamp_at, written}
 use Rattle.recording_files.specs.KeptOptions.{Kept, kept_after}
-use Rattle.recording_files.specs.Recorders.{Heading, KeepsWithin, Leading, State}
+use Rattle.recording_files.specs.Recorders.{ForMessages, Heading, KeepsWithin, Leading, State}
 use Rattle.recording_files.proofs.Beside.{has-append}
 use Rattle.recording_files.proofs.KeptCopied.{template_for-is}
 use Rattle.ipfix_session.proofs.Ledgers.{own-append}
@@ -33,6 +33,11 @@ use Rattle.ipfix_session.proofs.TemplateLists.{map_in_force}
 pub on_ok : {A E P Q : Type 0} (r : Result A E) → (P → Q) → OnOk r P → OnOk r Q
 on_ok (Ok x) f p = f p
 on_ok (Err e) f p = tt
+
+-- what holds on Ok of whatever a recorder stands for
+pub ok_for : {A E : Type 0} (s : State) (P : List Message → List Message → Type 0) (r : Result A E) → ForMessages s (λ before here. OnOk r (P before here)) → OnOk r (ForMessages s P)
+ok_for s P (Ok x) f = f
+ok_for s P (Err e) f = tt
 
 pub on_ok_3 : {A E P Q R S : Type 0} (r : Result A E) → (P → Q → R → S) → OnOk r P → OnOk r Q → OnOk r R → OnOk r S
 on_ok_3 (Ok x) f p q s = f p q s
@@ -47,10 +52,10 @@ is_due d e true h = (refl, cc)
 is_due d e false h = absurd cc
 
 -- where the domain doesn't begin again, nothing stands before the message
-nothing_leads : (before here : List Message) (h : Header) (old : List ℕ) → begins_again before here h.domain ≡ false → Leading before here h old old
+nothing_leads : (before here : List Message) (h : Header) (old : List ℕ) → begins_again before here h.domain ≡ false → Leading h old old before here
 nothing_leads before here h old off = record { lead = []; is = rw off refl; octets = sym (append-nil old) }
 
-pub new_domain : {limit : Option ℕ} (s : State) (before here : List Message) (h : Header) (old : List ℕ) → KeepsWithin limit s before here → lookup (eqb h.domain) s.due ≡ None → Leading before here h old old
+pub new_domain : {limit : Option ℕ} (s : State) (before here : List Message) (h : Header) (old : List ℕ) → KeepsWithin limit s before here → lookup (eqb h.domain) s.due ≡ None → Leading h old old before here
 new_domain s before here h old keeps none =
     let both = or_false (has before h.domain) (has here h.domain) (sym (has-append before here h.domain) ∙ not_due (due_of (messages_of h.domain (before ++ here))) (has (before ++ here) h.domain) (sym (keeps.due h.domain) ∙ none)) in
     let was : has before h.domain ≡ false = both.0 in
@@ -60,7 +65,7 @@ and_not_true : (a : Bool) → (a && not true) ≡ false
 and_not_true true = refl
 and_not_true false = refl
 
-pub is_here : {limit : Option ℕ} (s : State) (before here : List Message) (h : Header) (old : List ℕ) → KeepsWithin limit s before here → is_some (lookup (eqb h.domain) s.here) ≡ true → Leading before here h old old
+pub is_here : {limit : Option ℕ} (s : State) (before here : List Message) (h : Header) (old : List ℕ) → KeepsWithin limit s before here → is_some (lookup (eqb h.domain) s.here) ≡ true → Leading h old old before here
 is_here s before here h old keeps there =
     let now : has here h.domain ≡ true = sym (keeps.in_file h.domain) ∙ there in
     nothing_leads before here h old (rw now (and_not_true (has before h.domain)))
@@ -88,7 +93,7 @@ pub leads : {limit : Option ℕ} (s : State) (before here : List Message) (h : H
     → is_some (lookup (eqb h.domain) s.here) ≡ false → sequence ≡ unwrap_or due h.sequence → h.export_time < 2 ^ 32 → sequence < 2 ^ 32 → h.domain < 2 ^ 32
     → AreInForce ts (events_in (known_after [] (before ++ here)) h.domain) → All IsTemplate ts
     → new ≡ old ++ octets_of (preamble (record { export_time = h.export_time; sequence = sequence; domain = h.domain }) ts)
-    → Leading before here h old new
+    → Leading h old new before here
 leads s before here h due sequence ts old new keeps found absent is_sequence time small domain force spelled is_new =
     let again = begins s before here h due keeps found absent in
     let q : sequence ≡ unwrap_or (due_of (messages_of h.domain before)) h.sequence = is_sequence ∙ ap (λ (o : Option ℕ). unwrap_or o h.sequence) (sym again.1) in
@@ -135,13 +140,13 @@ due_is s before here d keeps = by_cases (has (before ++ here) d) refl (keeps.due
 -- ---- the head of a file
 
 -- a file that has a message has its head
-pub no_heading : (before here : List Message) (h : Header) (old : List ℕ) → here ≢ [] → Heading before here h old old
+pub no_heading : (before here : List Message) (h : Header) (old : List ℕ) → here ≢ [] → Heading h old old before here
 no_heading before [] h old some = absurd (some refl)
 no_heading before (x ∷ xs) h old some = record { head = []; is = refl; octets = sym (append-nil old) }
 
 -- the records that are written are those of the session's earlier files
 pub heading : {limit : Option ℕ} (s : State) (before here : List Message) (h : Header) (old new : List ℕ) → KeepsWithin limit s before here → here ≡ [] → h.export_time < 2 ^ 32 → h.sequence < 2 ^ 32
-    → AppendsHead (known_after [] (before ++ here)) (number_at s.due (stamp_at h)) h.export_time s.kept old new → Heading before here h old new
+    → AppendsHead (known_after [] (before ++ here)) (number_at s.due (stamp_at h)) h.export_time s.kept old new → Heading h old new before here
 heading s before here h old new keeps none time small appends =
     let all : before ++ here ≡ before = ap (λ (hs : List Message). before ++ hs) none ∙ append-nil before in
     let at : (d : ℕ) → number_at s.due (stamp_at h) d ≡ number_in before h d =
@@ -151,9 +156,9 @@ heading s before here h old new keeps none time small appends =
     let known : AppendsHead (known_after [] before) (number_at s.due (stamp_at h)) h.export_time s.kept old new = subst (λ (ms : List Message). AppendsHead (known_after [] ms) (number_at s.due (stamp_at h)) h.export_time s.kept old new) all appends in
     let numbered : AppendsHead (known_after [] before) (number_in before h) h.export_time s.kept old new = subst (λ (n : ℕ → Option ℕ). AppendsHead (known_after [] before) n h.export_time s.kept old new) numbers known in
     let whole : AppendsHead (known_after [] before) (number_in before h) h.export_time (kept_after before) old new = subst (λ (ks : List Kept). AppendsHead (known_after [] before) (number_in before h) h.export_time ks old new) kept numbered in
-    let first : Heading before [] h old new = record {
+    let first : Heading h old new before [] = record {
       head = head_messages h.export_time (number_in before h) (written before h);
       is = record { is = refl; writable = whole.writable; export_time = time; sequence = small };
       octets = whole.octets;
     } in
-    subst (λ (hs : List Message). Heading before hs h old new) (sym none) first
+    subst (λ (hs : List Message). Heading h old new before hs) (sym none) first

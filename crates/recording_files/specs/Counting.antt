@@ -7,7 +7,7 @@ use Rattle.ipfix_session.specs.Ledger.{capped, lost_at, backward_at}
 use Rattle.ipfix_session.specs.Intake.{counts_of}
 use Rattle.recording_files.specs.declared.file_report.FileReport.{FileReport}
 use Rattle.recording_files.specs.declared.message_count.MessageCount.{MessageCount}
-use Rattle.recording_files.specs.Recorders.{AreCountsOf, Told, Counted}
+use Rattle.recording_files.specs.Recorders.{AreCountsOf, CountsView, Told, Counted}
 
 -- the report after one more message of a domain that has this account
 abbrev pub file_after : FileReport → Account → MessageCount → FileReport
@@ -28,3 +28,11 @@ told_of t f = record { session = counts_of t; file = f }
 -- whatever was counted before, the messages that add these counts are counted after it
 abbrev pub CountsUpTo : Told → Told → List MessageCount → Type 0
 CountsUpTo old new counts = (before here given : List Message) → Counted old before here → AreCountsOf counts given → Counted new before (here ++ given)
+
+-- so a tally and the report of a file count messages
+abbrev pub CountsInTally : Tally → FileReport → Tally → FileReport → List MessageCount → Type 0
+CountsInTally old old_file new new_file counts = CountsUpTo (told_of old old_file) (told_of new new_file) counts
+
+-- and so the messages that waited are counted
+abbrev pub CountsWaiting : CountsView → CountsView → Type 0
+CountsWaiting old new = CountsUpTo old.told new.told old.waiting

@@ -1,5 +1,5 @@
 -- What a recording is for: its files say what the session said.
-use Rattle.std.specs.Prelude.{◌≡◌, ℕ, ◌+◌, ◌==◌, Bool, false, List, [], ◌∷◌, ◌++◌, flat_map, All, Contains, Option}
+use Rattle.std.specs.Prelude.{◌≡◌, ℕ, ◌+◌, ◌==◌, Bool, false, List, [], ◌∷◌, ◌++◌, filter, flat_map, All, Contains, Option}
 use Rattle.ipfix_message.specs.Domains.{Message}
 use Rattle.ipfix_message.specs.declared.record.DataRecord.{DataRecord}
 use Rattle.ipfix_session.specs.declared.stop.Stop.TheVariants.{Clean}
@@ -64,10 +64,13 @@ pub record IsToldAgain (rs : List DataRecord) (r : DataRecord) : Type 0 where
   pub is : r ≡ record given { export_time = r.export_time }
   pub options : is_flow r ≡ false
 
+abbrev pub AreToldAgain : List DataRecord → List DataRecord → Type 0
+AreToldAgain rs told = All (IsToldAgain rs) told
+
 -- each file tells again only what came before it
 abbrev pub TellAgain : List DataRecord → List FileRecords → Type 0
 TellAgain before [] = Unit {0}
-TellAgain before (r ∷ rs) = All (IsToldAgain before) r.told × TellAgain (before ++ r.came) rs
+TellAgain before (r ∷ rs) = AreToldAgain before r.told × TellAgain (before ++ r.came) rs
 
 -- each of these files is read by itself, with no fault, and one after another they give the records of a text, whose templates may
 -- count so much, or anything, but for what they tell again
@@ -86,6 +89,21 @@ pub record GiveFirstRecordsOf (limit : Option ℕ) (files : List (List ℕ)) (te
   pub are : IsPrefix (flat_map records_of files) (flat_map all_in parts)
   pub records : IsPrefix (flat_map (λ r. r.came) parts) (records_within limit text)
   pub again : TellAgain [] parts
+
+-- files that give the records of a text in one of these ways
+pub record FilesOf (Give : Option ℕ → List (List ℕ) → List ℕ → Type 0) : Type 0 where
+  pub limit : Option ℕ
+  pub files : List (List ℕ)
+  pub text : List ℕ
+  pub give : Give limit files text
+
+module _ {Give : Option ℕ → List (List ℕ) → List ℕ → Type 0} where
+  -- the flow records of the files one after another, and those of the text
+  abbrev pub flows_read : FilesOf Give → List DataRecord
+  flows_read f = filter is_flow (flat_map records_of f.files)
+
+  abbrev pub flows_sent : FilesOf Give → List DataRecord
+  flows_sent f = filter is_flow (records_within f.limit f.text)
 
 -- ---- a recording
 

@@ -21,16 +21,23 @@ abbrev pub is_now : Template → Option Template → Bool
 is_now t None = false
 is_now t (Some u) = same_template t u
 
+abbrev pub is_in_force : History → Kept → Bool
+is_in_force ds k = is_now k.template (template_for ds k.domain k.template.id)
+
 -- its template is in force, and the number is known that its domain goes on with
 abbrev pub is_written : History → (ℕ → Option ℕ) → Kept → Bool
-is_written ds number k = is_now k.template (template_for ds k.domain k.template.id) && is_some (number k.domain)
+is_written ds number k = is_in_force ds k && is_some (number k.domain)
 
 -- that is the number that is due, or that of the file's first message in its own domain
 abbrev pub goes_on_with : Option ℕ → ℕ → ℕ → ℕ → Option ℕ
 goes_on_with due own sequence domain = option_or due (if domain == own then Some sequence else None)
 
+-- the number that is due in a domain after these messages
+abbrev pub due_in : ℕ → List Message → Option ℕ
+due_in domain ms = due_of (messages_of domain ms)
+
 abbrev pub number_in : List Message → Header → ℕ → Option ℕ
-number_in before h domain = goes_on_with (due_of (messages_of domain before)) h.domain h.sequence domain
+number_in before h domain = goes_on_with (due_in domain before) h.domain h.sequence domain
 
 abbrev pub stamp_at : Header → Stamp
 stamp_at h = record { export_time = h.export_time; sequence = h.sequence; domain = h.domain }
@@ -105,6 +112,20 @@ AppendsIf k (Some s) old new = (new ≡ old ++ octets_of (two_messages s k)) × 
 
 abbrev pub AppendsFirst : History → (ℕ → Option ℕ) → ℕ → Kept → List Kept → List ℕ → List ℕ → Type 0
 AppendsFirst ds number export_time k others old new = AppendsIf k (stamp_if ds number export_time k others) old new
+
+-- ---- by the numbers that are due, and the stamp of the file's first message
+
+module _ (due : List (ℕ × Option ℕ)) (start : Stamp) where
+  abbrev pub is_written_at : Kept → History → Bool
+  is_written_at k ds = is_written ds (number_at due start) k
+
+  -- how many of those that are written are of a domain
+  abbrev pub count_at : ℕ → List Kept → History → ℕ
+  count_at domain ks ds = count_in domain (filter (λ k. is_written_at k ds) ks)
+
+  -- the stamp of one that is written, where these come after it
+  abbrev pub stamp_before : Kept → List Kept → History → Option Stamp
+  stamp_before k others ds = stamp_if ds (number_at due start) start.export_time k others
 
 -- ---- how they are read again
 

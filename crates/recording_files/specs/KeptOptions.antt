@@ -1,5 +1,5 @@
 -- Options records that are kept of a session, so that each of its files begins with what they told before it (RFC 7011, section 3.4.2).
-use Rattle.std.specs.Prelude.{ℕ, ◌==◌, ◌&&◌, ◌||◌, Bool, true, not, nat_eq, nat_lt, nat_le, is_some, if◌then◌else◌, List, [], ◌∷◌, ◌++◌, length, drop, filter, fold, Option, Some, None}
+use Rattle.std.specs.Prelude.{◌≡◌, ℕ, ◌==◌, ◌&&◌, ◌||◌, Bool, true, not, nat_eq, nat_lt, nat_le, is_some, if◌then◌else◌, List, [], ◌∷◌, ◌++◌, length, drop, filter, fold, Option, Some, None}
 use Rattle.std.specs.Option.{option_and_then, option_eq, option_map}
 use Rattle.ipfix_message.specs.Domains.{History, Message, template_for}
 use Rattle.ipfix_message.specs.SpelledFields.{fields_in}
@@ -66,6 +66,10 @@ keep_some ks (Some k) = keep k ks
 
 abbrev pub kept_with : History → List Kept → DataRecord → List Kept
 kept_with ds ks r = keep_some ks (kept_of ds r)
+
+-- what is kept after these records, too
+abbrev pub AllKept : List DataRecord → List Kept → List Kept → History → Type 0
+AllKept rs old new ds = new ≡ fold (kept_with ds) old rs
 
 abbrev pub kept_then : List Kept → Message → List Kept
 kept_then ks x = fold (kept_with x.domains) ks x.decoding.records

@@ -12,7 +12,9 @@ pub mod Recorders
 pub mod Files
 pub mod Periods
 pub mod Sessions
+pub mod SharedFaults
 -- What only inner functions and proofs need.
+pub mod Histories
 pub mod Counting
 pub mod Gathering
 pub mod Between

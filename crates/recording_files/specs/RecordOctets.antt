@@ -24,8 +24,8 @@ record_octets (s ∷ ss) [] = None
 record_octets (s ∷ ss) (f ∷ fs) = if same_element f.element s.element then joined (value_octets s.width f.octets) (record_octets ss fs) else None
 
 -- they were appended, or there are none
-abbrev pub AppendedAs : Option (List ℕ) → Bool → List ℕ → List ℕ → Type 0
-AppendedAs (Some w) true old new = new ≡ old ++ w
-AppendedAs None false old new = Unit {0}
-AppendedAs (Some w) false old new = ⊥
-AppendedAs None true old new = ⊥
+abbrev pub Appended : Option (List ℕ) → List ℕ → List ℕ → Bool → Type 0
+Appended (Some w) old new true = new ≡ old ++ w
+Appended None old new false = Unit {0}
+Appended (Some w) old new false = ⊥
+Appended None old new true = ⊥

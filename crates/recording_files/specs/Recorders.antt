@@ -1,15 +1,16 @@
 -- What contracts see of a recorder, and of the counts beside it.
 use Rattle.std.specs.Prelude.{◌≡◌, ℕ, ◌+◌, ◌%◌, ◌^◌, ◌==◌, Bool, false, MatchBool, is_some, nat_eq, if◌then◌else◌, List, [], ◌∷◌, ◌++◌, length, Option, Some, None, Ok}
 use Rattle.std.specs.Map.{lookup}
+use Rattle.indexmap.specs.IndexMap.{insert_entry}
 use Rattle.ipfix_wire.specs.declared.header.Header.{Header}
 use Rattle.ipfix_message.specs.Domains.{DomainsView, Message, StandsFor}
 use Rattle.ipfix_message.specs.TemplateLimits.{IsWithin, message_within}
 use Rattle.ipfix_session.specs.Given.{known_after, octets_of, records_in}
-use Rattle.ipfix_session.specs.Ledger.{count_in, messages_of, due_of}
+use Rattle.ipfix_session.specs.Ledger.{count_in}
 use Rattle.ipfix_session.specs.Feeding.{Counts, Tells}
 use Rattle.recording_files.specs.declared.file_report.FileReport.{FileReport}
 use Rattle.recording_files.specs.declared.message_count.MessageCount.{MessageCount}
-use Rattle.recording_files.specs.Heads.{BeginsWith}
+use Rattle.recording_files.specs.Heads.{BeginsWith, due_in}
 use Rattle.recording_files.specs.KeptOptions.{Kept, kept_after}
 use Rattle.recording_files.specs.Recordings.{has, begins_again, Leads, Precedes}
 use Rattle.recording_files.specs.FileReports.{file_report}
@@ -30,7 +31,7 @@ pub record KeepsWithin (limit : Option ℕ) (s : State) (before here : List Mess
   pub has_limit : s.limit ≡ limit
   -- the templates that it keeps count no more
   pub within : IsWithin limit (known_after [] (before ++ here))
-  pub due : (domain : ℕ) → lookup (nat_eq domain) s.due ≡ (if has (before ++ here) domain then Some (due_of (messages_of domain (before ++ here))) else None)
+  pub due : (domain : ℕ) → lookup (nat_eq domain) s.due ≡ (if has (before ++ here) domain then Some (due_in domain (before ++ here)) else None)
   pub in_file : (domain : ℕ) → is_some (lookup (nat_eq domain) s.here) ≡ has here domain
   pub kept : s.kept ≡ kept_after (before ++ here)
 
@@ -38,14 +39,21 @@ pub record KeepsWithin (limit : Option ℕ) (s : State) (before here : List Mess
 abbrev pub Keeps : State → List Message → List Message → Type 0
 Keeps s before here = KeepsWithin None s before here
 
+-- of whatever messages of earlier files and of this one a recorder stands for, with whatever limit
+abbrev pub ForKept : State → (Option ℕ → List Message → List Message → Type 0) → Type 0
+ForKept s P = (limit : Option ℕ) (before here : List Message) → KeepsWithin limit s before here → P limit before here
+
+abbrev pub ForMessages : State → (List Message → List Message → Type 0) → Type 0
+ForMessages s P = ForKept s (λ limit before here. P before here)
+
 -- what is written at the head of a file, if a message with this header is its first
-pub record Heading (before here : List Message) (h : Header) (old new : List ℕ) : Type 0 where
+pub record Heading (h : Header) (old new : List ℕ) (before here : List Message) : Type 0 where
   pub head : List (List ℕ)
   pub is : BeginsWith before here h head
   pub octets : new ≡ old ++ octets_of head
 
 -- and before that message of its own domain
-pub record Leading (before here : List Message) (h : Header) (old new : List ℕ) : Type 0 where
+pub record Leading (h : Header) (old new : List ℕ) (before here : List Message) : Type 0 where
   pub lead : List (List ℕ)
   pub is : MatchBool (begins_again before here h.domain) (Leads before here h lead) (lead ≡ [])
   pub octets : new ≡ old ++ octets_of lead
@@ -68,6 +76,10 @@ pub record RecordsWithin (limit : Option ℕ) (before here : List Message) (s : 
 
 abbrev pub Records : List Message → List Message → State → List ℕ → List ℕ → MessageCount → Type 0
 Records before here s m octets count = RecordsWithin None before here s m octets count
+
+-- what is kept of a domain is this now
+abbrev pub with_entry : {A : Type 0} → List (ℕ × A) → ℕ → A → List (ℕ × A)
+with_entry es domain a = insert_entry nat_eq es domain a
 
 -- the sequence number that is due after a message with this header, so many records and so many unknown sets
 abbrev pub due_for : Header → ℕ → ℕ → Option ℕ
@@ -96,3 +108,7 @@ pub record CountsView : Type 0 where
 pub record Counted (c : Told) (before here : List Message) : Type 0 where
   pub session : Tells c.session (before ++ here) (length (records_in (before ++ here)))
   pub file : c.file ≡ file_report before here
+
+-- of whatever messages of finished files and of the file that isn't finished counts are
+abbrev pub ForCounted : Told → (List Message → List Message → Type 0) → Type 0
+ForCounted c P = (before here : List Message) → Counted c before here → P before here

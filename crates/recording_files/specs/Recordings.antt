@@ -7,9 +7,8 @@ use Rattle.ipfix_wire.specs.declared.header.Header.{Header}
 use Rattle.ipfix_message.specs.Domains.{Message, events_in, message_gives}
 use Rattle.ipfix_message.specs.declared.record.Template.{Template}
 use Rattle.ipfix_session.specs.Given.{known_after}
-use Rattle.ipfix_session.specs.Ledger.{messages_of, due_of}
 use Rattle.ipfix_message.specs.declared.stamp.Stamp.{Stamp}
-use Rattle.recording_files.specs.Heads.{BeginsWith}
+use Rattle.recording_files.specs.Heads.{BeginsWith, due_in}
 use Rattle.recording_files.specs.Preambles.{IsStamp, IsTemplate, IsPreamble}
 use Rattle.ipfix_session.specs.TemplateLists.{AreInForce}
 
@@ -26,7 +25,7 @@ begins_again before here domain = has before domain && not (has here domain)
 abbrev pub stamp_for : List Message → Header → Stamp
 stamp_for before h = record {
   export_time = h.export_time;
-  sequence = unwrap_or (due_of (messages_of h.domain before)) h.sequence;
+  sequence = unwrap_or (due_in h.domain before) h.sequence;
   domain = h.domain;
 }
 

@@ -16,7 +16,7 @@ use Rattle.recording_files.specs.declared.recorded_session.RecordedSession.{Reco
 use Rattle.recording_files.specs.Recordings.{Part, Recorded, Writes}
 use Rattle.recording_files.specs.FileReports.{file_report, file_reports}
 use Rattle.recording_files.specs.Faithful.{all_messages, all_given}
-use Rattle.recording_files.specs.Files.{Contents, FilesView}
+use Rattle.recording_files.specs.Files.{AreAllSeen, Contents, FilesView}
 use Rattle.recording_files.specs.Periods.{ClockView, AskedRead, AreAskedReads, clock_behind, source_behind, octets_read, octets_before, finished_by}
 
 -- how far a recording has come
@@ -182,3 +182,23 @@ pub record RecordsAll {S F C : Type 0} (seen : S → SourceView) (view : F → F
   pub records : RecordsSession seen view asked limits before after first last start end session
   pub no_fault : session.ended ≡ Ok tt
   pub text_is : (seen before).text ≡ Some text
+
+-- ---- what is seen of the files
+
+-- a recorded session of which that holds, whose files tell what they have, and began with none
+pub record Seen (Holding : (List Message → List Message → Type 0) → Progress → FilesView → Type 0) : Type 0 where
+  pub progress : Progress
+  pub after : FilesView
+  pub now : Contents
+  pub session : RecordedSession
+  pub holds : Holding (IsTold session) progress after
+  pub seen : AreAllSeen progress.first after now
+
+-- one of a source with this text that was recorded without a fault
+pub record SeenToTheEnd {S F C : Type 0} (seen : S → SourceView) (view : F → FilesView) (asked : C → ClockView) : Type 0 where
+  pub text : List ℕ
+  pub first : F
+  pub last : F
+  pub now : Contents
+  pub records : RecordsAll seen view asked text first last
+  pub are_seen : AreAllSeen (view first) (view last) now

@@ -1,10 +1,8 @@
 //! Counting messages once they are written.
 
-ghost use Rattle.std.specs.Prelude.{◌≡◌, ◌+◌, ◌++◌, ◌∷◌, [], ℕ, List, length};
-ghost use Rattle.ipfix_message.specs.Domains.{Message};
+ghost use Rattle.std.specs.Prelude.{◌≡◌, ◌+◌, ◌∷◌, [], ℕ, length};
 ghost use Rattle.ipfix_session.specs.Rooms.{HasRoom};
-ghost use Rattle.recording_files.specs.Counting.{file_after, told_of, CountsUpTo};
-ghost use Rattle.recording_files.specs.Recorders.{Counted, IsCountOf};
+ghost use Rattle.recording_files.specs.Counting.{file_after, CountsInTally};
 
 use crate::file_report::FileReport;
 use crate::message_count::MessageCount;
@@ -35,9 +33,7 @@ fn count_one(message: &MessageCount, tally: &mut Tally, file: &mut FileReport)
     requires { HasRoom tally.old.ledger 1 }
     ensures room { (more : ℕ) → HasRoom tally.old.ledger (more + 1)
         → HasRoom tally.new.ledger more }
-    ensures counts { (before here : List Message) (m : Message)
-        → Counted (told_of tally.old file.old) before here → IsCountOf message.now m
-        → Counted (told_of tally.new file.new) before (here ++ m ∷ []) }
+    ensures counts { CountsInTally tally.old file.old tally.new file.new (message.now ∷ []) }
 {
     let account = tally.ledger.account(message.header.domain);
     *file = report_after(*file, &account, message);
@@ -49,7 +45,7 @@ fn count_one(message: &MessageCount, tally: &mut Tally, file: &mut FileReport)
 pub fn count_all(messages: &[MessageCount], tally: &mut Tally, file: &mut FileReport)
     requires { HasRoom tally.old.ledger (length messages.now) }
     ensures room { HasRoom tally.new.ledger 0 }
-    ensures counts { CountsUpTo (told_of tally.old file.old) (told_of tally.new file.new) messages.now }
+    ensures counts { CountsInTally tally.old file.old tally.new file.new messages.now }
 {
     for message in messages {
         count_one(message, tally, file);

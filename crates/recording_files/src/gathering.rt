@@ -1,8 +1,7 @@
 //! Gathering the whole messages of a read.
 
-ghost use Rattle.std.specs.Prelude.{◌≡◌, ◌++◌, [], List, OnOk, OnErr};
-ghost use Rattle.ipfix_message.specs.Domains.{Message};
-ghost use Rattle.recording_files.specs.Recorders.{Counted};
+ghost use Rattle.std.specs.Prelude.{◌≡◌, ◌++◌, [], OnOk, OnErr};
+ghost use Rattle.recording_files.specs.Recorders.{ForCounted};
 ghost use Rattle.recording_files.specs.Gathering.{IsFresh};
 ghost use Rattle.recording_files.specs.Sessions.{IsTold};
 
@@ -69,8 +68,7 @@ impl Gathering {
 
     /// What is told of the session, which ended so. This takes no memory.
     pub fn into_session(self, ended: Result<(), RecordFault>) -> RecordedSession
-        ensures told { (before here : List Message) → Counted self.counts.told before here
-            → IsTold result before here }
+        ensures told { ForCounted self.counts.told (IsTold result) }
         ensures ended { result.ended ≡ ended }
     {
         let Gathering {

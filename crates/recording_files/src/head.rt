@@ -1,8 +1,9 @@
 //! The head of a file: the options records that are kept of the session's earlier files, written again (RFC 7011, section 3.4.2).
 
-ghost use Rattle.std.specs.Prelude.{◌≡◌, ◌≤◌, ◌∷◌, [], OnOk, Some, false, filter, length};
-ghost use Rattle.ipfix_message.specs.Domains.{History, StandsFor, template_for};
+ghost use Rattle.std.specs.Prelude.{◌≡◌, ◌≤◌, ◌∷◌, [], OnOk, Some, length};
 ghost use Rattle.recording_files.specs.Heads as head;
+ghost use Rattle.recording_files.specs.Heads.{count_at, is_written_at, stamp_before};
+ghost use Rattle.recording_files.specs.Histories.{ByHistory, ForHistory};
 
 use crate::kept_options::KeptOptions;
 use indexmap::IndexMap;
@@ -27,9 +28,7 @@ fn number_at(due: &IndexMap<u32, Option<u32>>, start: Stamp, domain: u32) -> Opt
 
 // Whether the template of a record is in force.
 fn is_in_force(domains: &Domains, kept: &KeptOptions) -> bool
-    ensures { domains.now.spent ≡ false → (ds : History) → StandsFor domains.now.domains ds
-        → result ≡ head.is_now kept.now.template
-        (template_for ds kept.now.domain kept.now.template.id) }
+    ensures { ByHistory domains.now (λ ds. head.is_in_force ds kept.now) result }
 {
     let template = kept.template.template();
     match domains.lookup(kept.domain, template.id) {
@@ -45,8 +44,7 @@ fn is_written(
     start: Stamp,
     kept: &KeptOptions,
 ) -> bool
-    ensures { domains.now.spent ≡ false → (ds : History) → StandsFor domains.now.domains ds
-        → result ≡ head.is_written ds (head.number_at due.now.entries start) kept.now }
+    ensures { ByHistory domains.now (is_written_at due.now.entries start kept.now) result }
 {
     is_in_force(domains, kept) && number_at(due, start, kept.domain).is_some()
 }
@@ -60,9 +58,8 @@ fn count_one(
     kept: &KeptOptions,
 ) -> usize
     ensures few { result ≤ 1 }
-    ensures is { domains.now.spent ≡ false → (ds : History) → StandsFor domains.now.domains ds
-        → result ≡ head.count_in domain
-        (filter (head.is_written ds (head.number_at due.now.entries start)) (kept.now ∷ [])) }
+    ensures is { ByHistory domains.now
+        (count_at due.now.entries start domain (kept.now ∷ [])) result }
 {
     if kept.domain == domain && is_written(domains, due, start, kept) {
         1
@@ -80,9 +77,7 @@ fn count_in(
     kept: &[KeptOptions],
 ) -> usize
     ensures few { result ≤ length kept.now }
-    ensures is { domains.now.spent ≡ false → (ds : History) → StandsFor domains.now.domains ds
-        → result ≡ head.count_in domain
-        (filter (head.is_written ds (head.number_at due.now.entries start)) kept.now) }
+    ensures is { ByHistory domains.now (count_at due.now.entries start domain kept.now) result }
 {
     let mut count = 0;
     let mut left = kept;
@@ -101,9 +96,8 @@ fn stamp_for(
     kept: &KeptOptions,
     others: &[KeptOptions],
 ) -> Option<Stamp>
-    ensures { domains.now.spent ≡ false → (ds : History) → StandsFor domains.now.domains ds
-        → result ≡ head.stamp_if ds (head.number_at due.now.entries start)
-        start.export_time kept.now others.now }
+    ensures { ByHistory domains.now
+        (stamp_before due.now.entries start kept.now others.now) result }
 {
     if !is_in_force(domains, kept) {
         return None;
@@ -150,9 +144,9 @@ fn append_first(
     body: &mut Vec<u8>,
     out: &mut Vec<u8>,
 ) -> Result<(), AllocError>
-    ensures { domains.now.spent ≡ false → (ds : History) → StandsFor domains.now.domains ds
-        → OnOk result (head.AppendsFirst ds (head.number_at due.now.entries start)
-        start.export_time kept.now others.now out.old.items out.new.items) }
+    ensures { ForHistory domains.now (λ ds.
+        OnOk result (head.AppendsFirst ds (head.number_at due.now.entries start)
+        start.export_time kept.now others.now out.old.items out.new.items)) }
 {
     match stamp_for(domains, due, start, kept, others) {
         Some(stamp) => append_options(stamp, kept, body, out),
@@ -171,9 +165,9 @@ pub fn append_head(
     body: &mut Vec<u8>,
     out: &mut Vec<u8>,
 ) -> Result<(), AllocError>
-    ensures { domains.now.spent ≡ false → (ds : History) → StandsFor domains.now.domains ds
-        → OnOk result (head.AppendsHead ds (head.number_at due.now.entries start)
-        start.export_time kept.now out.old.items out.new.items) }
+    ensures { ForHistory domains.now (λ ds.
+        OnOk result (head.AppendsHead ds (head.number_at due.now.entries start)
+        start.export_time kept.now out.old.items out.new.items)) }
 {
     let mut left = kept;
     while let Some((first, others)) = left.split_first() {

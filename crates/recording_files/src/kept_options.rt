@@ -1,9 +1,10 @@
 //! Options records that are kept of a session (RFC 7011, section 3.4.2).
 
-ghost use Rattle.std.specs.Prelude.{◌≡◌, IfOk, OnOk, false, fold};
+ghost use Rattle.std.specs.Prelude.{◌≡◌, IfOk, OnOk};
 ghost use Rattle.std.specs.Option.{option_map};
-ghost use Rattle.ipfix_message.specs.Domains.{History, StandsFor};
+ghost use Rattle.recording_files.specs.Histories.{ForHistory};
 ghost use Rattle.recording_files.specs.KeptOptions as options;
+ghost use Rattle.recording_files.specs.KeptOptions.{AllKept, short_under};
 
 use crate::record_octets::append_record;
 use exporter_options::{Told, told_by};
@@ -76,8 +77,8 @@ fn octets_under(
     template: &TemplateInForce,
     item: &DataRecord,
 ) -> Result<Option<Vec<u8>>, AllocError>
-    ensures { IfOk result (λ octets. option_map (λ w. w.items) octets
-        ≡ options.short_under item.now template.now) }
+    ensures { IfOk result (λ text. option_map (λ w. w.items) text
+        ≡ short_under item.now template.now) }
 {
     let described_by = template.template();
     if described_by.scope != item.scope || described_by.specs.len() > MOST_FIELDS {
@@ -100,8 +101,8 @@ fn kept_telling(
     item: &DataRecord,
     told: Told,
 ) -> Result<Option<KeptOptions>, AllocError>
-    ensures { domains.now.spent ≡ false → (ds : History) → StandsFor domains.now.domains ds
-        → IfOk result (λ k. k ≡ options.kept_telling ds item.now told) }
+    ensures { ForHistory domains.now (λ ds.
+        IfOk result (λ k. k ≡ options.kept_telling ds item.now told)) }
 {
     if !tells_some(&told) {
         return Ok(None);
@@ -130,8 +131,7 @@ fn kept_of(
     domains: &Domains,
     item: &DataRecord,
 ) -> Result<Option<KeptOptions>, AllocError>
-    ensures { domains.now.spent ≡ false → (ds : History) → StandsFor domains.now.domains ds
-        → IfOk result (λ k. k ≡ options.kept_of ds item.now) }
+    ensures { ForHistory domains.now (λ ds. IfOk result (λ k. k ≡ options.kept_of ds item.now)) }
 {
     match told_by(item) {
         Some(told) => kept_telling(alloc, domains, item, told),
@@ -167,8 +167,8 @@ fn keep_one(
     item: &DataRecord,
     kept: &mut Vec<KeptOptions>,
 ) -> Result<(), AllocError>
-    ensures { domains.now.spent ≡ false → (ds : History) → StandsFor domains.now.domains ds
-        → OnOk result (kept.new.items ≡ options.kept_with ds kept.old.items item.now) }
+    ensures { ForHistory domains.now (λ ds.
+        OnOk result (kept.new.items ≡ options.kept_with ds kept.old.items item.now)) }
 {
     match kept_of(alloc, domains, item)? {
         Some(new) => keep(kept, new),
@@ -183,8 +183,8 @@ pub fn keep_options(
     records: &[DataRecord],
     kept: &mut Vec<KeptOptions>,
 ) -> Result<(), AllocError>
-    ensures { domains.now.spent ≡ false → (ds : History) → StandsFor domains.now.domains ds
-        → OnOk result (kept.new.items ≡ fold (options.kept_with ds) kept.old.items records.now) }
+    ensures { OnOk result
+        (ForHistory domains.now (AllKept records.now kept.old.items kept.new.items)) }
 {
     let mut left = records;
     while let Some((item, others)) = left.split_first() {

@@ -4,7 +4,7 @@ ghost use Rattle.std.specs.Prelude.{◌≡◌, ◌++◌, ℕ, List, OnOk, OnErr,
 ghost use Rattle.ipfix_session.specs.Buffers.{IsRest};
 ghost use Rattle.ipfix_session.specs.MessageSinks.{Reads, TookFirst};
 ghost use Rattle.recording_files.specs.Recorders.{KeepsWithin};
-ghost use Rattle.recording_files.specs.Counting.{CountsUpTo};
+ghost use Rattle.recording_files.specs.Counting.{CountsWaiting};
 ghost use Rattle.recording_files.specs.Files.{Appends};
 ghost use Rattle.recording_files.specs.Sessions.{Progress};
 ghost use Rattle.recording_files.specs.Gathering.{BeforeRead, gathering_view};
@@ -53,8 +53,7 @@ fn write_gathered<F: FileSeries>(gathering: &mut Gathering, files: &mut F) -> Re
     ensures appends { (b : BeforeRead) (text : List ℕ)
         → TookFirst gathering_view b text gathering.old tt
         → Appends result gathering.old.out.items (F.seen files.old) (F.seen files.new) }
-    ensures counted { OnOk result (CountsUpTo gathering.old.counts.told gathering.new.counts.told
-        gathering.old.counts.waiting) }
+    ensures counted { OnOk result (CountsWaiting gathering.old.counts gathering.new.counts) }
     ensures err { OnErr result (gathering.new.counts.told ≡ gathering.old.counts.told) }
 {
     if gathering.counts.is_settled() {

@@ -1,7 +1,7 @@
 //! A data record as octets again (RFC 7011, sections 3.4.3 and 7).
 
 ghost use Rattle.std.specs.Prelude.{IfOk};
-ghost use Rattle.recording_files.specs.RecordOctets.{AppendedAs, record_octets, value_octets};
+ghost use Rattle.recording_files.specs.RecordOctets.{Appended, record_octets, value_octets};
 
 use ipfix_message::Fields;
 use ipfix_wire::{Spec, VARIABLE_WIDTH, write_length};
@@ -10,7 +10,7 @@ use std::alloc::AllocError;
 // Appends the octets of a field of this width, and answers whether it has that width. Before a field of variable length
 // stands its length. If the answer is `false` nothing was appended.
 fn append_value(width: u16, octets: &[u8], out: &mut Vec<u8>) -> Result<bool, AllocError>
-    ensures { IfOk result (λ is. AppendedAs (value_octets width octets.now) is out.old.items out.new.items) }
+    ensures { IfOk result (Appended (value_octets width octets.now) out.old.items out.new.items) }
 {
     if width != VARIABLE_WIDTH {
         if octets.len() != usize::from(width) {
@@ -31,7 +31,8 @@ fn append_value(width: u16, octets: &[u8], out: &mut Vec<u8>) -> Result<bool, Al
 /// whether it is one: it has a field for each specifier, of its element and its width. If the answer is `false`, or an error,
 /// the first octets may have been appended.
 pub fn append_record(specs: &[Spec], fields: &Fields, out: &mut Vec<u8>) -> Result<bool, AllocError>
-    ensures { IfOk result (λ is. AppendedAs (record_octets specs.now fields.now) is out.old.items out.new.items) }
+    ensures { IfOk result
+        (Appended (record_octets specs.now fields.now) out.old.items out.new.items) }
 {
     let mut left = specs;
     for field in fields.iter() {

@@ -1,16 +1,16 @@
 //! What a file of a session has for each message.
 
-ghost use Rattle.std.specs.Prelude.{◌≡◌, ◌≢◌, ◌++◌, [], List, Ok, Option, ℕ, OnOk, IfOk, IfErr, MatchBool, fold, nat_eq, true, false};
-ghost use Rattle.indexmap.specs.IndexMap.{insert_entry};
-ghost use Rattle.ipfix_message.specs.Domains.{History, Message, StandsFor, message_header};
+ghost use Rattle.std.specs.Prelude.{◌≡◌, ◌≢◌, ◌++◌, [], Ok, OnOk, IfOk, IfErr, MatchBool, true};
+ghost use Rattle.ipfix_message.specs.Domains.{message_header};
 ghost use Rattle.ipfix_message.specs.Outcome.{Fails};
 ghost use Rattle.ipfix_message.specs.TemplateLimits.{message_within};
 ghost use Rattle.ipfix_session.specs.Given.{known_after};
-ghost use Rattle.ipfix_session.specs.Ledger.{messages_of, due_of};
 ghost use Rattle.recording_files.specs.Heads as head;
-ghost use Rattle.recording_files.specs.KeptOptions.{kept_with};
+ghost use Rattle.recording_files.specs.Heads.{due_in};
+ghost use Rattle.recording_files.specs.Histories.{ForHistory};
+ghost use Rattle.recording_files.specs.KeptOptions.{AllKept};
 ghost use Rattle.recording_files.specs.Preambles.{IsStamp};
-ghost use Rattle.recording_files.specs.Recorders.{Heading, Keeps, KeepsWithin, Leading, RecordsWithin, due_for};
+ghost use Rattle.recording_files.specs.Recorders.{ForKept, ForMessages, Heading, Keeps, KeepsWithin, Leading, RecordsWithin, due_for, with_entry};
 
 use crate::head::append_head;
 use crate::kept_options::{KeptOptions, keep_options};
@@ -85,18 +85,15 @@ impl Recorder {
 
     /// Begins the session's next file.
     pub fn turn(&mut self)
-        ensures { (limit : Option ℕ) (before here : List Message)
-            → KeepsWithin limit self.old before here
-            → KeepsWithin limit self.new (before ++ here) [] }
+        ensures { ForKept self.old
+            (λ limit before here. KeepsWithin limit self.new (before ++ here) []) }
     {
         self.here.clear();
     }
 
     /// Whether a message was recorded in this file.
     pub fn has_begun(&self) -> bool
-        ensures { (limit : Option ℕ) (before here : List Message)
-            → KeepsWithin limit self.now before here
-            → MatchBool result (here ≢ []) (here ≡ []) }
+        ensures { ForMessages self.now (λ before here. MatchBool result (here ≢ []) (here ≡ [])) }
     {
         !self.here.is_empty()
     }
@@ -110,9 +107,7 @@ impl Recorder {
 
     /// The sequence number that is due in a domain; `None` if none is known there.
     pub fn due(&self, domain: u32) -> Option<u32>
-        ensures { (limit : Option ℕ) (before here : List Message)
-            → KeepsWithin limit self.now before here
-            → result ≡ due_of (messages_of domain (before ++ here)) }
+        ensures { ForMessages self.now (λ before here. result ≡ due_in domain (before ++ here)) }
     {
         self.due.get(&domain).copied().flatten()
     }
@@ -120,9 +115,8 @@ impl Recorder {
     // Appends what stands at the head of a file, if the message is its first.
     fn append_head(&mut self, header: &Header, out: &mut Vec<u8>) -> Result<(), AllocError>
         ensures same { self.new ≡ self.old }
-        ensures head { (limit : Option ℕ) (before here : List Message)
-            → KeepsWithin limit self.old before here
-            → OnOk result (Heading before here header.now out.old.items out.new.items) }
+        ensures head { OnOk result
+            (ForMessages self.old (Heading header.now out.old.items out.new.items)) }
     {
         if !self.here.is_empty() {
             return Ok(());
@@ -135,9 +129,8 @@ impl Recorder {
     // Appends what stands before a message that begins its domain again.
     fn append_lead(&mut self, header: &Header, out: &mut Vec<u8>) -> Result<(), AllocError>
         ensures same { self.new ≡ self.old }
-        ensures lead { (limit : Option ℕ) (before here : List Message)
-            → KeepsWithin limit self.old before here
-            → OnOk result (Leading before here header.now out.old.items out.new.items) }
+        ensures lead { OnOk result
+            (ForMessages self.old (Leading header.now out.old.items out.new.items)) }
     {
         let Some(due) = self.due.get(&header.domain).copied() else {
             return Ok(());
@@ -161,10 +154,10 @@ impl Recorder {
         ensures domains { self.new.domains ≡ self.old.domains }
         ensures limit { self.new.limit ≡ self.old.limit }
         ensures kept { self.new.kept ≡ self.old.kept }
-        ensures due { OnOk result (self.new.due ≡ insert_entry nat_eq self.old.due
+        ensures due { OnOk result (self.new.due ≡ with_entry self.old.due
             header.now.domain (due_for header.now records unknown_sets)) }
         ensures in_file { OnOk result (self.new.here
-            ≡ insert_entry nat_eq self.old.here header.now.domain true) }
+            ≡ with_entry self.old.here header.now.domain true) }
     {
         let due = if unknown_sets == 0 {
             Some(header.sequence.wrapping_add((records % (1 << 32)) as u32))
@@ -182,9 +175,8 @@ impl Recorder {
     // Keeps the options records of a message, after which the domains are these.
     fn keep_options(&mut self, alloc: Global, records: &[DataRecord]) -> Result<(), AllocError>
         ensures others { self.new ≡ record self.old { kept = self.new.kept } }
-        ensures kept { self.old.domains.spent ≡ false → (ds : History)
-            → StandsFor self.old.domains.domains ds
-            → OnOk result (self.new.kept ≡ fold (kept_with ds) self.old.kept records.now) }
+        ensures kept { OnOk result
+            (ForHistory self.old.domains (AllKept records.now self.old.kept self.new.kept)) }
     {
         keep_options(alloc, &self.domains, records, &mut self.kept)
     }
@@ -203,12 +195,11 @@ impl Recorder {
         lead: &mut Vec<u8>,
     ) -> Result<MessageCount, MessageFault>
         requires { message_header message.now ≡ Ok header.now }
-        ensures records { (limit : Option ℕ) (before here : List Message)
-            → KeepsWithin limit self.old before here → IfOk result (λ count. RecordsWithin limit
-            before here self.new message.now (lead.new.items ++ message.now) count) }
-        ensures fails { (limit : Option ℕ) (before here : List Message)
-            → KeepsWithin limit self.old before here → IfErr result (λ fault.
-            Fails fault (message_within limit (known_after [] (before ++ here)) message.now)) }
+        ensures records { ForKept self.old (λ limit before here.
+            IfOk result (λ count. RecordsWithin limit before here
+            self.new message.now (lead.new.items ++ message.now) count)) }
+        ensures fails { ForKept self.old (λ limit before here. IfErr result (λ fault.
+            Fails fault (message_within limit (known_after [] (before ++ here)) message.now))) }
     {
         lead.clear();
         self.append_head(header, lead)?;

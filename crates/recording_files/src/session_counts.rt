@@ -1,8 +1,8 @@
 //! The counts of a session that is recorded, and of its file that isn't finished.
 
-ghost use Rattle.std.specs.Prelude.{◌≡◌, ◌↔◌, ◌++◌, ◌∷◌, [], List, OnOk, OnErr, IsTrue};
-ghost use Rattle.ipfix_message.specs.Domains.{Message};
-ghost use Rattle.recording_files.specs.Recorders.{AreCountsOf, Counted};
+ghost use Rattle.std.specs.Prelude.{◌≡◌, ◌↔◌, ◌++◌, ◌∷◌, [], OnOk, OnErr, IsTrue};
+ghost use Rattle.recording_files.specs.Counting.{CountsWaiting};
+ghost use Rattle.recording_files.specs.Recorders.{Counted, ForCounted};
 ghost use Rattle.recording_files.specs.Sessions.{IsTold};
 
 use crate::counting::count_all;
@@ -80,9 +80,7 @@ impl SessionCounts {
 
     /// Counts the messages that waited to be written.
     pub fn count_waiting(&mut self)
-        ensures { (before here given : List Message) → Counted self.old.told before here
-            → AreCountsOf self.old.waiting given
-            → Counted self.new.told before (here ++ given) }
+        ensures { CountsWaiting self.old self.new }
     {
         count_all(&self.waiting, &mut self.tally, &mut self.file);
         self.waiting.clear();
@@ -90,8 +88,8 @@ impl SessionCounts {
 
     /// Begins the next file.
     pub fn turn(&mut self)
-        ensures told { (before here : List Message) → Counted self.old.told before here
-            → Counted self.new.told (before ++ here) [] }
+        ensures told { ForCounted self.old.told
+            (λ before here. Counted self.new.told (before ++ here) []) }
         ensures waiting { self.new.waiting ≡ self.old.waiting }
     {
         self.file = FileReport::EMPTY;
@@ -106,8 +104,7 @@ impl SessionCounts {
 
     /// What is told of the session, which ended so. This takes no memory.
     pub fn into_session(self, ended: Result<(), RecordFault>) -> RecordedSession
-        ensures told { (before here : List Message) → Counted self.told before here
-            → IsTold result before here }
+        ensures told { ForCounted self.told (IsTold result) }
         ensures ended { result.ended ≡ ended }
     {
         let SessionCounts {

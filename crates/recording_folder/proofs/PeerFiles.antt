@@ -15,7 +15,7 @@ use Rattle.std.proofs.lemmas.Cmp.{nat_list_cmp_total}
 use Rattle.std.proofs.lemmas.Slice.Eq.{bytes_eq-Decides}
 use Rattle.std.proofs.lemmas.List.Elements.{All-nil, All-push, All-weaker, Contains-append_left, Contains-push}
 use Rattle.recording_folder.specs.PeerFiles.{Note, rank, IsLater, IsLastOf}
-use Rattle.recording_folder.specs.EarlierPeers.{HasNoted, IsHandedOver, IsKeptBy, IsLeftBy, IsLeftByLast, KeepsOf, is_later, is_of, kept_of, peer_of, with_domains}
+use Rattle.recording_folder.specs.EarlierPeers.{HasNoted, IsHandedOver, IsKeptBy, IsLeftBy, IsLeftByLast, KeepsOf, is_later, is_of, kept_of, peer_of, with_domains, comes_later}
 use Rattle.recording_folder.specs.declared.earlier_peers.EarlierPeer.{EarlierPeer}
 use Rattle.recording_folder.specs.declared.earlier_peers.EarlierPeers.{EarlierPeers}
 use Rattle.recording_resumption.specs.declared.earlier_domain.EarlierDomain.{EarlierDomain}
@@ -123,7 +123,7 @@ noted_first e none = record {
 }
 
 -- a file was noted that is later than what is kept of its peer
-pub noted_later : (e new : EarlierPeers) (notes : List Note) (f : Note) (p : EarlierPeer) → HasNoted e notes → is_later (kept_of e (peer_of f.file)) (rank f.file) ≡ true
+pub noted_later : (e new : EarlierPeers) (notes : List Note) (f : Note) (p : EarlierPeer) → HasNoted e notes → comes_later e f.file ≡ true
     → p.rank ≡ rank f.file → IsLeftBy f.session p.domains → ((q : List ℕ) → kept_of new q ≡ cond (bytes_eq (peer_of f.file) q) (Some p) (kept_of e q)) → HasNoted new (notes ++ f ∷ [])
 noted_later e new notes f p h later same left is = record {
   last = λ q. last_with (h.last q) f (is_of q f);
@@ -141,7 +141,7 @@ noted_later e new notes f p h later same left is = record {
         (subst (λ (o : Option EarlierPeer). IsKeptBy (Some f) o) (sym (is q ∙ ap (λ (b : Bool). cond b (Some p) (kept_of e q)) here)) (same, left))
 
 -- and one that isn't
-pub noted_no_later : (e : EarlierPeers) (notes : List Note) (f : Note) → HasNoted e notes → is_later (kept_of e (peer_of f.file)) (rank f.file) ≡ false → HasNoted e (notes ++ f ∷ [])
+pub noted_no_later : (e : EarlierPeers) (notes : List Note) (f : Note) → HasNoted e notes → comes_later e f.file ≡ false → HasNoted e (notes ++ f ∷ [])
 noted_no_later e notes f h not_later = record {
   last = λ q. last_with (h.last q) f (is_of q f);
   is_last = λ q. last_more (is_of q) notes (h.last q) f (is_of q f) refl (h.is_last q);

@@ -39,6 +39,10 @@ abbrev pub is_later : Option EarlierPeer → List ℕ → Bool
 is_later None r = true
 is_later (Some p) r = is_lt (slice_cmp nat_cmp p.rank r)
 
+-- whether a file is later than what is kept of its peer
+abbrev pub comes_later : EarlierPeers → NamedFile → Bool
+comes_later e f = is_later (kept_of e (peer_of f)) (rank f)
+
 -- of a peer's last file that is kept which it left; of a peer of which none was noted nothing is
 abbrev pub IsKeptBy : Option Note → Option EarlierPeer → Type 0
 IsKeptBy None None = Unit {0}

@@ -9,6 +9,8 @@ use Rattle.recording_files.specs.declared.file_report.FileReport.{FileReport}
 use Rattle.recording_files.specs.declared.file_series.NotWritten.{NotWritten}
 use Rattle.recording_folder.specs.declared.ended_file.EndedFile.{EndedFile}
 use Rattle.recording_folder.specs.declared.ended_file.FailedFile.{FailedFile}
+use Rattle.recording_folder.specs.declared.ended_file.FolderFinisher.{FolderFinisher}
+use Rattle.recording_folder.specs.declared.folder.Folder.{Folder}
 use Rattle.recording_folder.specs.declared.session_files.FilesEnd.{FilesEnd}
 use Rattle.recording_folder.specs.declared.filed_session.FiledSession.{FiledSession}
 use Rattle.recording_folder.specs.declared.unfinished_file.UnfinishedFile.{UnfinishedFile}
@@ -32,28 +34,28 @@ abbrev pub IsOfSession : {F : Type 0} → UnfinishedFile F → FiledSession → 
 IsOfSession file session = string_bytes (arc_value file.session).name ≡ string_bytes session.name
 
 -- it has octets, and this is a path that it can have once it is finished, in a folder of recordings: by its period and its session
-abbrev pub IsFinalPathOf : {F : Type 0} → List ℕ → UnfinishedFile F → List ℕ → Type 0
+abbrev pub IsFinalPathOf : {F : Type 0} → Folder → UnfinishedFile F → List ℕ → Type 0
 IsFinalPathOf folder file path =
-    (file.length ≢ 0) × IsFinalPath folder file.period.begins (string_bytes (arc_value file.session).name) path
+    (file.length ≢ 0) × IsFinalPath folder file.period (string_bytes (arc_value file.session).name) path
 
-module _ {F L : Type 0} (folder : List ℕ) (tells : L → FileNotice → Result (Unit {0}) Error → L → Type 0) where
+module _ {F R L : Type 0} (tells : L → FileNotice → Result (Unit {0}) Error → L → Type 0) where
   -- an empty file goes away without a word; any other is told of with its own report, by its final path in the folder
-  abbrev pub IsFinished : EndedFile F → L → L → Type 0
+  abbrev pub IsFinished : EndedFile F → FolderFinisher R L → FolderFinisher R L → Type 0
   IsFinished ended before after =
-      ((ended.unfinished.length ≡ 0) × (after ≡ before))
-      ⊎ ((path : List ℕ) × IsFinalPathOf folder ended.unfinished path × (told : Result (Unit {0}) Error)
-      × tells before (Finished path ended.report) told after)
+      ((ended.unfinished.length ≡ 0) × (after.log ≡ before.log))
+      ⊎ ((path : List ℕ) × IsFinalPathOf before.folder.now ended.unfinished path × (told : Result (Unit {0}) Error)
+      × tells before.log (Finished path ended.report) told after.log)
 
   -- or nothing is told
-  abbrev pub IsFinishedOrBack : EndedFile F → Result (Unit {0}) (FailedFile F) → L → L → Type 0
+  abbrev pub IsFinishedOrBack : EndedFile F → Result (Unit {0}) (FailedFile F) → FolderFinisher R L → FolderFinisher R L → Type 0
   IsFinishedOrBack ended (Ok x) before after = IsFinished ended before after
-  IsFinishedOrBack ended (Err back) before after = after ≡ before
+  IsFinishedOrBack ended (Err back) before after = after.log ≡ before.log
 
   -- apart from its session: where it can't be finished its path is told
-  abbrev pub IsFinishedApart : EndedFile F → L → L → Type 0
+  abbrev pub IsFinishedApart : EndedFile F → FolderFinisher R L → FolderFinisher R L → Type 0
   IsFinishedApart ended before after =
       IsFinished ended before after
-      ⊎ ((told : Result (Unit {0}) Error) × tells before (NotFinished (string_bytes ended.unfinished.path)) told after)
+      ⊎ ((told : Result (Unit {0}) Error) × tells before.log (NotFinished (string_bytes ended.unfinished.path)) told after.log)
 
 module _ {F K : Type 0} (finishes : K → EndedFile F → Result (Unit {0}) (FailedFile F) → K → Type 0) where
   -- the file that isn't finished is given to what finishes files, with this report; if there is none nothing is done. Where it comes

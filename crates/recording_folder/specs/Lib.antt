@@ -10,5 +10,6 @@ pub mod FolderFaults
 pub mod Recoveries
 -- What only inner functions and proofs need.
 pub mod Failures
+pub mod Codes
 pub mod FileReadings
 pub mod PeriodFolders

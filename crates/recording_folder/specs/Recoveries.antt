@@ -8,6 +8,7 @@ use Rattle.recording_files.specs.declared.finished_files.FileEnd.{FileEnd}
 use Rattle.recording_files.specs.declared.finished_files.FileEnd.TheVariants.{Whole, CutOff, Truncated}
 use Rattle.recording_files.specs.declared.finished_files.Recovered.{Recovered}
 use Rattle.recording_files.specs.declared.finished_files.Recovered.TheVariants.{Placed, Removed, Stayed}
+use Rattle.recording_names.specs.declared.unfinished_names.UnfinishedName.{UnfinishedName}
 use Rattle.recording_folder.specs.FileContents.{AreContents}
 use Rattle.recording_folder.specs.Paths.{IsFinalPath, IsUnfinishedPath}
 use Rattle.recording_folder.specs.declared.file_contents.FileContents.{FileContents}
@@ -27,35 +28,35 @@ EndsAfter more Whole = more ≡ 0
 EndsAfter more (CutOff octets) = (octets ≡ more) × (more ≢ 0)
 EndsAfter more (Truncated octets) = (octets ≡ more) × (more ≢ 0)
 
--- a file of a session's period that has these contents, and so many octets after its whole messages, has got its final name, and an end;
+-- a file of this name that has these contents, and so many octets after its whole messages, has got its final name, and an end;
 -- it is removed, with these octets, exactly if it has no whole message
-abbrev pub IsSettledAs : Folder → ℕ → List ℕ → FileContents → ℕ → Settled → Type 0
-IsSettledAs folder begins session contents more (settled.Placed path report end earlier) =
+abbrev pub IsSettledAs : Folder → UnfinishedName → FileContents → ℕ → Settled → Type 0
+IsSettledAs folder name contents more (settled.Placed path report end earlier) =
     (contents ≡ record { whole = contents.whole; report = report; session = earlier }) × (contents.whole ≢ 0)
-    × EndsAfter more end × IsFinalPath (string_bytes folder.path) begins session (string_bytes path)
-IsSettledAs folder begins session contents more (settled.Removed octets) = (contents.whole ≡ 0) × (octets ≡ more)
+    × EndsAfter more end × IsFinalPath folder name.period name.session.now (string_bytes path)
+IsSettledAs folder name contents more (settled.Removed octets) = (contents.whole ≡ 0) × (octets ≡ more)
 
 module _ {F : Type 0} (seen : F → Option (List ℕ)) where
   -- a file was read, and these are its contents, if its octets can be seen
   abbrev pub WereRead : FileContents → Type 0
   WereRead contents = (file : F) × ((text : List ℕ) → seen file ≡ Some text → AreContents text contents)
 
-  pub record IsSettled (folder : Folder) (begins : ℕ) (session : List ℕ) (settled : Settled) : Type 0 where
+  pub record IsSettled (folder : Folder) (name : UnfinishedName) (settled : Settled) : Type 0 where
     pub contents : FileContents
     pub read : WereRead contents
     pub more : ℕ
-    pub is : IsSettledAs folder begins session contents more settled
+    pub is : IsSettledAs folder name contents more settled
 
-  module _ (folder : Folder) (begins : ℕ) (session : List ℕ) where
-    -- what was done with the file of a session's period, and where it is now: it has its own report if it has a whole message, and otherwise
+  module _ (folder : Folder) (name : UnfinishedName) where
+    -- what was done with the file of this name, and where it is now: it has its own report if it has a whole message, and otherwise
     -- it is removed
     abbrev pub IsOwn : List ℕ → Recovered → Type 0
     IsOwn now (Placed report end) =
         (contents : FileContents) × WereRead contents × (report ≡ contents.report) × (contents.whole ≢ 0)
-        × (more : ℕ) × EndsAfter more end × IsFinalPath (string_bytes folder.path) begins session now
+        × (more : ℕ) × EndsAfter more end × IsFinalPath folder name.period name.session.now now
     IsOwn now (Removed octets) =
-        (contents : FileContents) × WereRead contents × (contents.whole ≡ 0) × IsUnfinishedPath (string_bytes folder.unfinished) begins session now
-    IsOwn now Stayed = IsUnfinishedPath (string_bytes folder.unfinished) begins session now
+        (contents : FileContents) × WereRead contents × (contents.whole ≡ 0) × IsUnfinishedPath folder name.period name.session.now now
+    IsOwn now Stayed = IsUnfinishedPath folder name.period name.session.now now
 
 module _ {F L : Type 0} (seen : F → Option (List ℕ)) (tells : L → FileNotice → Result (Unit {0}) Error → L → Type 0) (folder : Folder) where
   -- what became of a file is told once, but not that an empty one was removed
@@ -63,16 +64,16 @@ module _ {F L : Type 0} (seen : F → Option (List ℕ)) (tells : L → FileNoti
   TellsOutcome now (Removed zero) before after = after ≡ before
   TellsOutcome now outcome before after = (told : Result (Unit {0}) Error) × tells before (LookedAfter now outcome) told after
 
-  -- the file of a session's period was looked after; whether it stays
-  abbrev pub IsLookedAfter : ℕ → List ℕ → L → Bool → L → Type 0
-  IsLookedAfter begins session before stays after =
-      (now : List ℕ) × (outcome : Recovered) × IsOwn seen folder begins session now outcome × (stays ≡ is_stayed outcome)
+  -- the file of this name was looked after; whether it stays
+  abbrev pub IsLookedAfter : UnfinishedName → L → Bool → L → Type 0
+  IsLookedAfter name before stays after =
+      (now : List ℕ) × (outcome : Recovered) × IsOwn seen folder name now outcome × (stays ≡ is_stayed outcome)
       × TellsOutcome now outcome before after
 
   -- so was some file; or what has no name of such a file was left alone
   abbrev pub SomeIsLookedAfter : L → L → Bool → Type 0
   SomeIsLookedAfter before after stays =
-      ((begins : ℕ) × (session : List ℕ) × IsLookedAfter begins session before stays after)
+      ((name : UnfinishedName) × IsLookedAfter name before stays after)
       ⊎ ((stays ≡ false) × (after ≡ before))
 
 -- a file that was looked after: whether it stays, and the log after what was told of it

@@ -4,8 +4,8 @@ ghost use Rattle.std.specs.Prelude.{◌≡◌, ◌++◌, ◌∷◌, [], List, de
 ghost use Rattle.std.specs.Option.{option_map_or};
 ghost use Rattle.std.specs.String.{string_bytes};
 ghost use Rattle.recording_names.specs.SessionNames.{hyphened};
-ghost use Rattle.recording_folder.specs.PeerFiles.{Note, rank};
-ghost use Rattle.recording_folder.specs.EarlierPeers.{HasNoted, IsGone, IsHandedOver, KeepsOf, is_later, kept_of, name_of, peer_of};
+ghost use Rattle.recording_folder.specs.PeerFiles.{Note};
+ghost use Rattle.recording_folder.specs.EarlierPeers.{HasNoted, IsGone, IsHandedOver, KeepsOf, comes_later, is_later, kept_of, name_of};
 
 use crate::peer_files::NamedFile;
 use recording_names::address_name;
@@ -63,8 +63,7 @@ impl EarlierPeers {
 
     /// Whether a file is later than what was noted of its peer, if anything was. Only memory can be refused.
     pub fn is_later(&self, alloc: Global, file: &NamedFile<'_>) -> Result<bool, AllocError>
-        ensures { IfOk result
-            (λ answer. answer ≡ is_later (kept_of self.now (peer_of file.now)) (rank file.now)) }
+        ensures { IfOk result (λ answer. answer ≡ comes_later self.now file.now) }
     {
         let peer = peer_name(alloc, file.session.address, file.session.port)?;
         Ok(self.is_later_than_kept(peer.as_str(), file.rank()))
@@ -80,8 +79,7 @@ impl EarlierPeers {
     ) -> Result<(), AllocError>
         ensures noted { (notes : List Note) → HasNoted self.old notes → OnOk result (HasNoted self.new
             (notes ++ record { file = file.now; session = session.now } ∷ [])) }
-        ensures err { (notes : List Note) → HasNoted self.old notes
-            → OnErr result (HasNoted self.new notes) }
+        ensures err { (all : List Note) → HasNoted self.old all → OnErr result (HasNoted self.new all) }
     {
         let peer = peer_name(alloc, file.session.address, file.session.port)?;
         let rank = file.rank();

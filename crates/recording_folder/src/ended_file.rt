@@ -1,6 +1,6 @@
 //! Files that have ended, and who finishes them.
 
-ghost use Rattle.std.specs.Prelude.{◌≡◌, IfErr, IfOk, MatchOption, OnErr, OnOk};
+ghost use Rattle.std.specs.Prelude.{◌≡◌, IfErr, IfNone, IfOk, IfSome, OnErr, OnOk};
 ghost use Rattle.std.specs.String.{string_bytes};
 ghost use Rattle.recording_folder.specs.EndedFiles.{IsFinalPathOf, IsFinished, IsFinishedApart, IsFinishedOrBack, IsGivenBack, StaysInPlace};
 
@@ -84,8 +84,7 @@ impl<'a, R: Files, L: FinishedFiles> FolderFinisher<'a, R, L> {
 
     // Finishes a file, and tells it unless it was empty.
     fn try_to_finish(&mut self, ended: &mut EndedFile<R::File>) -> io::Result<()>
-        ensures finished { OnOk result (IsFinished (string_bytes self.old.folder.now.path) L.tells
-            ended.old self.old.log self.new.log) }
+        ensures finished { OnOk result (IsFinished L.tells ended.old self.old self.new) }
         ensures err { OnErr result (self.new.log ≡ self.old.log) }
         ensures folder { self.new.folder ≡ self.old.folder }
         ensures report { ended.new.report ≡ ended.old.report }
@@ -100,9 +99,9 @@ impl<'a, R: Files, L: FinishedFiles> FolderFinisher<'a, R, L> {
 
     // Brings a file to the disk under its final name, and answers its path; an empty one goes away.
     fn settle(&self, unfinished: &mut UnfinishedFile<R::File>) -> io::Result<Option<String>>
-        ensures path { IfOk result (λ path. MatchOption path (unfinished.old.length ≡ 0)
-            (λ path. IsFinalPathOf (string_bytes self.now.folder.now.path) unfinished.old
-            (string_bytes path))) }
+        ensures empty { IfOk result (λ placed. IfNone placed (unfinished.old.length ≡ 0)) }
+        ensures path { IfOk result (λ placed. IfSome placed (λ path.
+            IsFinalPathOf self.now.folder.now unfinished.old (string_bytes path))) }
         ensures place { StaysInPlace unfinished.old unfinished.new }
     {
         if unfinished.is_empty() {
@@ -126,8 +125,7 @@ impl<'a, R: Files + Clock, L: FinishedFiles> FolderFinisher<'a, R, L> {
     /// Finishes a file apart from its session. Where that fails the file stays among those that aren't finished,
     /// which is told, and its session fails at its next call.
     pub fn finish_apart(&mut self, ended: EndedFile<R::File>)
-        ensures { IsFinishedApart (string_bytes self.old.folder.now.path) L.tells ended
-            self.old.log self.new.log }
+        ensures { IsFinishedApart L.tells ended self.old self.new }
     {
         let mut ended = ended;
         let mut failure = Reason::Other;
@@ -149,12 +147,11 @@ impl<'a, R: Files + Clock, L: FinishedFiles> FolderFinisher<'a, R, L> {
 }
 
 impl<'a, R: Files, L: FinishedFiles> FileFinisher<R::File> for FolderFinisher<'a, R, L> {
-    ghost finishes = { λ before ended result after. IsFinishedOrBack
-        (string_bytes before.folder.now.path) L.tells ended result before.log after.log };
+    ghost finishes = { λ before ended result after.
+        IsFinishedOrBack L.tells ended result before after };
 
     fn finish(&mut self, ended: EndedFile<R::File>) -> Result<(), FailedFile<R::File>>
-        ensures finishes { IsFinishedOrBack (string_bytes self.old.folder.now.path) L.tells ended
-            result self.old.log self.new.log }
+        ensures finishes { IsFinishedOrBack L.tells ended result self.old self.new }
         ensures back { IfErr result (IsGivenBack ended) }
     {
         let mut ended = ended;
@@ -168,8 +165,7 @@ impl<'a, R: Files, L: FinishedFiles> FileFinisher<R::File> for FolderFinisher<'a
     }
 
     fn finish_or_queue(&mut self, ended: EndedFile<R::File>) -> Result<(), FailedFile<R::File>>
-        ensures finishes { IsFinishedOrBack (string_bytes self.old.folder.now.path) L.tells ended
-            result self.old.log self.new.log }
+        ensures finishes { IsFinishedOrBack L.tells ended result self.old self.new }
         ensures back { IfErr result (IsGivenBack ended) }
     {
         self.finish(ended)

@@ -1,7 +1,7 @@
 //! Errors that pass once files are closed.
 
-ghost use Rattle.std.specs.Prelude.{◌≡◌, ◌⊎◌, ◌↔◌, Some, IsTrue};
-ghost use Rattle.std.specs.IoError.{raw_os_error};
+ghost use Rattle.std.specs.Prelude.{◌⊎◌, ◌↔◌, IsTrue};
+ghost use Rattle.recording_folder.specs.Codes.{HasCode};
 
 use std::io;
 
@@ -13,8 +13,8 @@ const SYSTEM_HAS_ALL: i32 = 23;
 
 /// Whether a call failed since no descriptor is free.
 pub(crate) fn lacks_descriptors(error: &io::Error) -> bool
-    ensures { IsTrue result ↔ ((raw_os_error error.now ≡ Some PROGRAM_HAS_ALL)
-        ⊎ (raw_os_error error.now ≡ Some SYSTEM_HAS_ALL)) }
+    ensures { IsTrue result
+        ↔ (HasCode PROGRAM_HAS_ALL error.now ⊎ HasCode SYSTEM_HAS_ALL error.now) }
 {
     match error.raw_os_error() {
         Some(code) => code == PROGRAM_HAS_ALL || code == SYSTEM_HAS_ALL,

@@ -2,8 +2,7 @@
 
 ghost use Rattle.std.specs.Prelude.{◌≡◌, IfOk};
 ghost use Rattle.std.specs.String.{string_bytes};
-ghost use Rattle.recording_folder.specs.Paths.{IsFinalPath, IsPathIn, in_folder};
-ghost use Rattle.recording_names.specs.FinishedNames.{name_of_finished};
+ghost use Rattle.recording_folder.specs.Paths.{IsFinalPath, IsPathIn, finished_path};
 
 use crate::folder::{Folder, path_in};
 use recording_names::{Period, period_name};
@@ -25,8 +24,8 @@ pub(crate) fn place_file<R: Files>(
     period: Period,
     session: &str,
 ) -> io::Result<String>
-    ensures { IfOk result (λ path. IsFinalPath (string_bytes folder.now.path) period.begins
-        session.now (string_bytes path)) }
+    ensures { IfOk result (λ path.
+        IsFinalPath folder.now period session.now (string_bytes path)) }
 {
     let name = period_name(alloc, period)?;
     let period_path = path_in(alloc, folder.path(), name.as_str())?;
@@ -102,8 +101,8 @@ fn remove_first_name<R: Files>(rt: &R, unfinished: &str) -> io::Result<()> {
 
 // The path of a session's file; where it was taken before, that of the next number.
 fn final_path(alloc: Global, folder: &str, session: &str, number: u64) -> Result<String, AllocError>
-    ensures { IfOk result (λ path. string_bytes path
-        ≡ in_folder folder.now (name_of_finished session.now number)) }
+    ensures { IfOk result (λ path.
+        string_bytes path ≡ finished_path folder.now session.now number) }
 {
     if number == 1 {
         format!(in alloc; "{folder}/{session}.ipfix")

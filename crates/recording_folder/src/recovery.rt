@@ -78,10 +78,8 @@ fn recover_file<R: Files + Alloc<A = Global>, L: FinishedFiles>(
     log: &mut L,
     earlier: &mut EarlierPeers,
 ) -> bool
-    requires { IsUnfinishedPath (string_bytes folder.now.unfinished) name.now.period.begins
-        name.now.session.now path.now }
-    ensures { IsLookedAfter R.File.remaining L.tells folder.now name.now.period.begins
-        name.now.session.now log.old result log.new }
+    requires { IsUnfinishedPath folder.now name.now.period name.now.session.now path.now }
+    ensures { IsLookedAfter R.File.remaining L.tells folder.now name.now log.old result log.new }
 {
     // (a line that can't be written stops nothing)
     match settle(rt, folder, path, name) {
@@ -153,8 +151,7 @@ fn settle<R: Files + Alloc<A = Global>>(
     path: &str,
     name: &UnfinishedName<'_>,
 ) -> io::Result<Settled>
-    ensures { IfOk result (IsSettled R.File.remaining folder.now name.now.period.begins
-        name.now.session.now) }
+    ensures { IfOk result (IsSettled R.File.remaining folder.now name.now) }
 {
     if !fs::symlink_metadata(rt, path)?.is_file() {
         return Err(io::Error::from(ErrorKind::InvalidInput));
@@ -175,8 +172,7 @@ fn settle_read<R: Files + Alloc<A = Global>>(
     contents: FileContents,
     more: u64,
 ) -> io::Result<Settled>
-    ensures { IfOk result (IsSettledAs folder.now name.now.period.begins name.now.session.now
-        contents more) }
+    ensures { IfOk result (IsSettledAs folder.now name.now contents more) }
 {
     let FileContents {
         whole,

@@ -142,8 +142,7 @@ impl<'a, R: Files, K: FileFinisher<R::File>> SessionFiles<'a, R, K> {
 
     // Makes a file in the period that the clock told last, under the name of that and of its session.
     fn try_to_make_file(&self) -> io::Result<UnfinishedFile<R::File>>
-        ensures path { IfOk result (λ file. IsUnfinishedPath
-            (string_bytes self.now.folder.now.unfinished) file.period.begins
+        ensures path { IfOk result (λ file. IsUnfinishedPath self.now.folder.now file.period
             (string_bytes (arc_value self.now.session).name) (string_bytes file.path)) }
         ensures of_the_session { IfOk result (λ file. IsOfSession file (arc_value self.now.session)) }
     {

@@ -1,7 +1,6 @@
 //! The periods of the system's clock.
 
 ghost use Rattle.std.specs.Prelude.{◌≡◌, ◌↔◌, ◌<◌, ℕ, max, IsTrue};
-ghost use Rattle.recording_files.specs.Periods.{ClockView, IsAnswer};
 ghost use Rattle.recording_names.specs.PeriodNames.{period_start};
 
 use crate::told_period::ToldPeriod;
@@ -91,11 +90,14 @@ pub fn second_now<R: Clock>(rt: &R) -> u64 {
 }
 
 impl<'a, R: Clock> PeriodClock for SystemPeriods<'a, R> {
-    ghost asked = { λ c. record { asked = c.asked; over = c.over } };
+    ghost use Rattle.std.specs.Prelude.{◌≡◌};
+    ghost use Rattle.recording_files.specs.Periods.{IsAnswer};
+    ghost use Rattle.recording_folder.specs.FiledSessions.{asked_of};
+
+    ghost asked = { asked_of };
 
     fn is_over(&mut self) -> bool
-        ensures answer { IsAnswer (record { asked = self.old.asked; over = self.old.over }) result
-            (record { asked = self.new.asked; over = self.new.over }) }
+        ensures answer { IsAnswer (asked_of self.old) result (asked_of self.new) }
         ensures every { self.new.every ≡ self.old.every }
     {
         let is_over = self.latest.take(period_now(self.rt, self.every));

@@ -26,14 +26,12 @@ pub(crate) struct UnfinishedFile<F> {
 impl<F: Write + OpenFile + Drop> UnfinishedFile<F> {
     // A file that was made, and in which nothing stands.
     pub(crate) fn new(file: F, path: String, period: Period, session: Arc<FiledSession>) -> Self
-        ensures { result ≡ record {
-          file = Some file;
-          path = path;
-          period = period;
-          session = session;
-          length = 0;
-          is_torn = false;
-        } }
+        ensures file { result.file ≡ Some file }
+        ensures path { result.path ≡ path }
+        ensures period { result.period ≡ period }
+        ensures session { result.session ≡ session }
+        ensures empty { result.length ≡ 0 }
+        ensures whole { result.is_torn ≡ false }
     {
         UnfinishedFile {
             file: Some(file),
@@ -56,11 +54,9 @@ impl<F: Write + OpenFile + Drop> UnfinishedFile<F> {
     pub(crate) fn append(&mut self, octets: &[u8]) -> io::Result<()>
         ensures ok { OnOk result (self.new.length ≡ capped (self.old.length + length octets.now)) }
         ensures err { OnErr result (self.new.length ≡ self.old.length) }
-        ensures others { self.new ≡ record self.old {
-          file = self.new.file;
-          length = self.new.length;
-          is_torn = self.new.is_torn;
-        } }
+        ensures path { self.new.path ≡ self.old.path }
+        ensures period { self.new.period ≡ self.old.period }
+        ensures session { self.new.session ≡ self.old.session }
     {
         self.mend()?;
         let Some(file) = &mut self.file else {

@@ -1,7 +1,7 @@
 -- Texts with hyphens between them, and the decimal numbers in them.
 use Rattle.std.proofs.Common.{◌≡◌, ℕ, ◌<◌, ◌^◌, List, [], ◌∷◌, ◌++◌, length, get_or, take, drop, zero, suc, eqb, refl, take-append-drop, ◌+◌, ◌≤◌, Option, Some, None, Result, sym, ap, subst, ◌∙◌, append_assoc, length-append, arith}
 use denote.Bor.{Bor}
-use Rattle.std.specs.Prelude.{◌≢◌}
+use Rattle.std.specs.Prelude.{◌≢◌, IfNone, IfSome}
 use Rattle.std.specs.Option.{MatchOption}
 use Rattle.std.specs.Fmt.{decimal}
 use Rattle.std.specs.Result.{result_ok}
@@ -46,13 +46,17 @@ IsSplitLast c bs r = MatchOption r (RFindsChar c bs None)
     (λ x. (i : ℕ) × (j : ℕ) × RFindsChar c bs (Some (i, j)) × (x.0.now ≡ take i bs) × (x.1.now ≡ drop j bs) × (i ≤ j) × (length x.0.now ≡ i) × (length x.1.now + j ≡ length bs))
 
 -- what it finds
-pub last_parts : (text : List ℕ) (r : Option (Bor (List ℕ) × Bor (List ℕ))) → IsSplitLast 45 text r
-    → MatchOption r ((front back : List ℕ) → text ≢ hyphened front back) (λ x. (text ≡ hyphened x.0.now x.1.now) × HasNoHyphen x.1.now)
-last_parts text None h = λ front back. no_seam text front back (λ i. NoCharPasses-char 45 text i h (omega arith))
-last_parts text (Some x) h = (
-  sym (take-append-drop h.0 text) ∙ (λ k. sym h.3 k ++ (drop_at_char 45 text h.0 h.1 h.2.1 (omega arith) ∙ ap (λ l. 45 ∷ l) (sym h.4)) k),
-  λ i. NoCharPasses-char 45 x.1.now i (subst (NoCharPasses (λ d. eqb d 45)) (sym h.4) h.2.0) (omega arith),
-)
+pub none_apart : (text : List ℕ) (r : Option (Bor (List ℕ) × Bor (List ℕ))) → IsSplitLast 45 text r → IfNone r ((front back : List ℕ) → text ≢ hyphened front back)
+none_apart text None h = λ front back. no_seam text front back (λ i. NoCharPasses-char 45 text i h (omega arith))
+none_apart text (Some x) h = tt
+
+pub last_parts : (text : List ℕ) (r : Option (Bor (List ℕ) × Bor (List ℕ))) → IsSplitLast 45 text r → IfSome r (λ x. text ≡ hyphened x.0.now x.1.now)
+last_parts text None h = tt
+last_parts text (Some x) h = sym (take-append-drop h.0 text) ∙ (λ k. sym h.3 k ++ (drop_at_char 45 text h.0 h.1 h.2.1 (omega arith) ∙ ap (λ l. 45 ∷ l) (sym h.4)) k)
+
+pub last_has_none : (text : List ℕ) (r : Option (Bor (List ℕ) × Bor (List ℕ))) → IsSplitLast 45 text r → IfSome r (λ x. HasNoHyphen x.1.now)
+last_has_none text None h = tt
+last_has_none text (Some x) h = λ i. NoCharPasses-char 45 x.1.now i (subst (NoCharPasses (λ d. eqb d 45)) (sym h.4) h.2.0) (omega arith)
 
 -- there is one
 pub one_split : (front other back rest : List ℕ) → HasNoHyphen back → HasNoHyphen rest → hyphened front back ≡ hyphened other rest → (front ≡ other) × (back ≡ rest)
@@ -108,14 +112,15 @@ pub port_is : (peer front digits address : List ℕ) (port : ℕ) → (peer ≡ 
 port_is peer front digits address port split small is = (one_split front address digits (decimal port) split.1 (no_hyphen port (omega (arith, small))) (sym split.0 ∙ is)).1
 
 -- what is read of both parts is read of the name
-abbrev IsReadOf : List ℕ → List ℕ → Option SessionName → Type 0
-IsReadOf peer rest r = MatchOption r ((s : SessionParts) → AreInRange s → ¬ AreParts peer rest s) (λ told. AreParts peer rest (parts_of told))
+module _ (name peer rest : List ℕ) (split : (name ≡ hyphened peer rest) × HasNoHyphen rest) where
+  pub session_read : (r : Option SessionName) → IfSome r (λ told. AreParts peer rest (parts_of told)) → IfSome r (λ told. name ≡ text_of (parts_of told))
+  session_read None is = tt
+  session_read (Some told) is =
+      split.0 ∙ ap (λ (front : List ℕ). hyphened front rest) is.0 ∙ ap (hyphened (hyphened told.address.now (decimal told.port))) is.1 ∙ sym (before_number told.address.now told.port told.transport told.number)
 
-pub session_read : (name peer rest : List ℕ) (r : Option SessionName) → (name ≡ hyphened peer rest) × HasNoHyphen rest → IsReadOf peer rest r
-    → MatchOption r ((s : SessionParts) → AreInRange s → name ≢ text_of s) (λ told. name ≡ text_of (parts_of told))
-session_read name peer rest None split none = λ s range is. none s range (name_parts name peer rest s.address s.port s.transport s.number split range.1 is)
-session_read name peer rest (Some told) split is =
-    split.0 ∙ ap (λ (front : List ℕ). hyphened front rest) is.0 ∙ ap (hyphened (hyphened told.address.now (decimal told.port))) is.1 ∙ sym (before_number told.address.now told.port told.transport told.number)
+  pub none_read : (r : Option SessionName) → IfNone r ((s : SessionParts) → AreInRange s → ¬ AreParts peer rest s) → IfNone r ((s : SessionParts) → AreInRange s → name ≢ text_of s)
+  none_read None none = λ s range is. none s range (name_parts name peer rest s.address s.port s.transport s.number split range.1 is)
+  none_read (Some told) none = tt
 
 -- what a name says
 pub one_session : (one other : SessionParts) → AreInRange one → AreInRange other → text_of one ≡ text_of other → one ≡ other

@@ -1,6 +1,6 @@
 -- The names of finished files.
-use Rattle.std.specs.Prelude.{ℕ, ◌<◌, ◌^◌, ◌==◌, if◌then◌else◌, List, ◌++◌, codes, decimal}
-use Rattle.recording_names.specs.SessionNames.{SessionParts, text_of}
+use Rattle.std.specs.Prelude.{ℕ, ◌≡◌, ◌<◌, ◌^◌, ◌==◌, if◌then◌else◌, List, ◌++◌, codes, decimal}
+use Rattle.recording_names.specs.SessionNames.{AreInRange, SessionParts, text_of}
 
 -- what follows the first dot after a session's name: a number, where others were there already, and the ending
 abbrev pub copy_text : ℕ → List ℕ
@@ -17,3 +17,11 @@ IsCopy copy = (0 < copy) × (copy < 2 ^ 64)
 -- the name of a finished file of that session
 abbrev pub finished_text : SessionParts → ℕ → List ℕ
 finished_text s copy = name_of_finished (text_of s) copy
+
+-- the name of a finished file of some session
+pub record IsFinishedName (name : List ℕ) : Type 0 where
+  pub session : SessionParts
+  pub copy : ℕ
+  pub in_range : AreInRange session
+  pub is_copy : IsCopy copy
+  pub named : name ≡ finished_text session copy

@@ -38,6 +38,10 @@ abbrev pub number_text : Transport → ℕ → List ℕ
 number_text Connection number = decimal number
 number_text Datagrams number = codes "u" ++ decimal number
 
+-- the text is that of such a number
+abbrev pub IsNumberText : List ℕ → Transport → ℕ → Type 0
+IsNumberText text transport number = (number < 2 ^ 64) × (text ≡ number_text transport number)
+
 -- an address, a port and a session's number
 abbrev pub session_text : List ℕ → ℕ → Transport → ℕ → List ℕ
 session_text address port transport number = hyphened address (hyphened (decimal port) (number_text transport number))

@@ -1,8 +1,8 @@
 //! The names of finished files.
 
-ghost use Rattle.std.specs.Prelude.{◌≡◌, ◌≢◌, ◌<◌, ◌^◌, ℕ, List, MatchOption};
-ghost use Rattle.recording_names.specs.FinishedNames.{IsCopy, copy_text, finished_text};
-ghost use Rattle.recording_names.specs.SessionNames.{AreInRange, SessionParts, parts_of};
+ghost use Rattle.std.specs.Prelude.{◌≡◌, ◌≢◌, ℕ, IfNone, IfSome};
+ghost use Rattle.recording_names.specs.FinishedNames.{IsCopy, IsFinishedName, copy_text, finished_text};
+ghost use Rattle.recording_names.specs.SessionNames.{parts_of};
 
 use crate::decimals::decimal_number;
 use crate::session_names::{SessionName, read_parts, split_last};
@@ -18,11 +18,10 @@ pub struct FinishedName<'a> {
 
 /// What a name says, if it is the name of a finished file.
 pub fn read_finished_name(name: &str) -> Option<FinishedName<'_>>
-    ensures { MatchOption result
-        ((s : SessionParts) (copy : ℕ) → AreInRange s → IsCopy copy
-        → name.now ≢ finished_text s copy)
-        (λ told. IsCopy told.copy
-        × (name.now ≡ finished_text (parts_of told.session) told.copy)) }
+    ensures copy { IfSome result (λ told. IsCopy told.copy) }
+    ensures named { IfSome result (λ told.
+        name.now ≡ finished_text (parts_of told.session) told.copy) }
+    ensures none { IfNone result (¬ IsFinishedName name.now) }
 {
     let (peer, rest) = split_last(name)?;
     let (number, ending) = rest.split_once('.')?;
@@ -33,9 +32,9 @@ pub fn read_finished_name(name: &str) -> Option<FinishedName<'_>>
 
 // The number that stands before the ending of a name, or 1.
 fn read_copy(ending: &str) -> Option<u64>
-    ensures { MatchOption result
-        ((copy : ℕ) → IsCopy copy → ending.now ≢ copy_text copy)
-        (λ copy. IsCopy copy × (ending.now ≡ copy_text copy)) }
+    ensures copy { IfSome result IsCopy }
+    ensures said { IfSome result (λ copy. ending.now ≡ copy_text copy) }
+    ensures none { IfNone result ((copy : ℕ) → IsCopy copy → ending.now ≢ copy_text copy) }
 {
     if ending == "ipfix" {
         return Some(1);

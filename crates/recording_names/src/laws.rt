@@ -15,6 +15,5 @@ pub fn sessions_differ_in_name()
 /// What is read of a session's name is what it was made of: the address as it is written, the port, what the
 /// session comes over, and its number.
 pub fn names_say_one_session()
-    ensures { (one other : SessionParts) → AreInRange one → AreInRange other
-        → text_of one ≡ text_of other → one ≡ other }
+    ensures { (s t : SessionParts) → AreInRange s → AreInRange t → text_of s ≡ text_of t → s ≡ t }
 {}

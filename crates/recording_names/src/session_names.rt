@@ -1,9 +1,9 @@
 //! The names of sessions.
 
-ghost use Rattle.std.specs.Prelude.{◌≡◌, ◌≢◌, ◌++◌, ◌<◌, ◌^◌, ℕ, List, decimal, IfOk, OnOk, MatchOption};
+ghost use Rattle.std.specs.Prelude.{◌≡◌, ◌≢◌, ◌++◌, ◌<◌, ◌^◌, ℕ, List, decimal, IfNone, IfOk, IfSome, OnOk};
 ghost use Rattle.std.specs.String.{string_bytes};
 ghost use Rattle.std.specs.Net.Addr.{ipv6_segments};
-ghost use Rattle.recording_names.specs.SessionNames.{AreInRange, AreParts, HasNoHyphen, SessionParts, address_name, groups, hyphened, name_of_session, next_group, number_text, parts_of, text_of};
+ghost use Rattle.recording_names.specs.SessionNames.{AreInRange, AreParts, HasNoHyphen, IsNumberText, SessionParts, address_name, groups, hyphened, name_of_session, next_group, parts_of, text_of};
 ghost use Rattle.recording_names.specs.declared.transport.Transport.{Transport};
 
 use crate::decimals::decimal_number;
@@ -48,20 +48,20 @@ pub fn session_name(
 
 /// What a name says, if it is the name of a session. (Any text stands for an address here.)
 pub fn read_session_name(name: &str) -> Option<SessionName<'_>>
-    ensures { MatchOption result ((s : SessionParts) → AreInRange s → name.now ≢ text_of s)
-        (λ told. name.now ≡ text_of (parts_of told)) }
+    ensures some { IfSome result (λ told. name.now ≡ text_of (parts_of told)) }
+    ensures none { IfNone result ((s : SessionParts) → AreInRange s → name.now ≢ text_of s) }
 {
     let (peer, rest) = split_last(name)?;
     read_parts(peer, rest)
 }
 
 /// What the two parts of a name say, before and after its last hyphen.
-pub(crate) fn read_parts<'a>(peer: &'a str, number: &str) -> Option<SessionName<'a>>
-    ensures { MatchOption result
-        ((s : SessionParts) → AreInRange s → ¬ AreParts peer.now number.now s)
-        (λ told. AreParts peer.now number.now (parts_of told)) }
+pub(crate) fn read_parts<'a>(peer: &'a str, rest: &str) -> Option<SessionName<'a>>
+    ensures some { IfSome result (λ told. AreParts peer.now rest.now (parts_of told)) }
+    ensures none { IfNone result ((s : SessionParts) → AreInRange s
+        → ¬ AreParts peer.now rest.now s) }
 {
-    let (transport, number) = read_number(number)?;
+    let (transport, number) = read_number(rest)?;
     let (address, digits) = split_last(peer)?;
     let port = port_number(digits)?;
     Some(SessionName {
@@ -74,19 +74,17 @@ pub(crate) fn read_parts<'a>(peer: &'a str, number: &str) -> Option<SessionName<
 
 /// What stands before and after the last hyphen.
 pub(crate) fn split_last(text: &str) -> Option<(&str, &str)>
-    ensures { MatchOption result
-        ((front back : List ℕ) → text.now ≢ hyphened front back)
-        (λ parts. (text.now ≡ hyphened parts.0.now parts.1.now) × HasNoHyphen parts.1.now) }
+    ensures parts { IfSome result (λ parts. text.now ≡ hyphened parts.0.now parts.1.now) }
+    ensures last { IfSome result (λ parts. HasNoHyphen parts.1.now) }
+    ensures none { IfNone result ((front back : List ℕ) → text.now ≢ hyphened front back) }
 {
     text.rsplit_once('-')
 }
 
 // The number of a session, and what its messages come over.
 fn read_number(text: &str) -> Option<(Transport, u64)>
-    ensures { MatchOption result
-        ((transport : Transport) (number : ℕ) → number < 2 ^ 64
-        → text.now ≢ number_text transport number)
-        (λ told. text.now ≡ number_text told.0 told.1) }
+    ensures some { IfSome result (λ told. IsNumberText text.now told.0 told.1) }
+    ensures none { IfNone result ((over : Transport) (n : ℕ) → ¬ IsNumberText text.now over n) }
 {
     match text.strip_prefix('u') {
         Some(digits) => {
@@ -102,9 +100,8 @@ fn read_number(text: &str) -> Option<(Transport, u64)>
 
 // A decimal number of 16 bits, without a sign or leading zeros.
 fn port_number(text: &str) -> Option<u16>
-    ensures { MatchOption result
-        ((port : ℕ) → port < 2 ^ 16 → text.now ≢ decimal port)
-        (λ port. text.now ≡ decimal port) }
+    ensures some { IfSome result (λ port. text.now ≡ decimal port) }
+    ensures none { IfNone result ((port : ℕ) → port < 2 ^ 16 → text.now ≢ decimal port) }
 {
     let number = decimal_number(text)?;
     if number >= PORTS {

@@ -1,9 +1,8 @@
 //! The names of files that aren't finished.
 
-ghost use Rattle.std.specs.Prelude.{◌≡◌, ◌≢◌, ◌<◌, ℕ, List, IfOk, MatchOption};
+ghost use Rattle.std.specs.Prelude.{◌≡◌, IfNone, IfOk, IfSome};
 ghost use Rattle.std.specs.String.{string_bytes};
-ghost use Rattle.recording_names.specs.PeriodNames.{calendar_end};
-ghost use Rattle.recording_names.specs.UnfinishedNames.{name_of_unfinished};
+ghost use Rattle.recording_names.specs.UnfinishedNames.{IsUnfinishedName, name_of_unfinished};
 
 use crate::decimals::decimal_number;
 use crate::period::{CALENDAR_END, Period};
@@ -30,10 +29,9 @@ pub fn unfinished_name(alloc: Global, period: Period, session: &str) -> Result<S
 
 /// The period and the session that a name tells, if it is the name of an unfinished file.
 pub fn read_unfinished_name(name: &str) -> Option<UnfinishedName<'_>>
-    ensures { MatchOption result
-        ((begins : ℕ) (session : List ℕ) → begins < calendar_end
-        → name.now ≢ name_of_unfinished begins session)
-        (λ told. name.now ≡ name_of_unfinished told.period.begins told.session.now) }
+    ensures some { IfSome result (λ u.
+        name.now ≡ name_of_unfinished u.period.begins u.session.now) }
+    ensures none { IfNone result (¬ IsUnfinishedName name.now) }
 {
     let (digits, session) = name.split_once('-')?;
     let begins = decimal_number(digits)?;

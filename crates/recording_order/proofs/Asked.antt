@@ -5,28 +5,24 @@ use Rattle.recording_order.specs.Arrivals.{Arrival}
 use Rattle.recording_order.specs.declared.offer.Offer.{Offer}
 use Rattle.recording_order.specs.declared.offer.Offer.TheVariants.{Write, Waits, Doubled, First, Anew}
 use Rattle.recording_order.specs.Windows.{WindowView, offered, next_of, late_domain, least_in, last_of}
-use Rattle.recording_order.specs.Releases.{Event, Came, Tick, Run, Says, Agree, hand_on, answered, go_on, empty_with, empty, begin_anew, take_offered, take_with, take_run, settle_with, settle, settle_late, tick_with, finish_with, finish, step, run_from, start, run}
+use Rattle.recording_order.specs.Releases.{Event, Came, Tick, Run, Says, StaysHandedOn, Agree, hand_on, answered, go_on, empty_with, empty, begin_anew, take_offered, take_with, take_run, settle_with, settle, settle_late, tick_with, finish_with, finish, step, run_from, start, run}
 use Rattle.recording_order.specs.declared.datagram_counts.DatagramCounts.{DatagramCounts}
-
--- what was handed on stays
-abbrev pub GoesOn : Run → Run → Type 0
-GoesOn r s = (more : List Arrival) × (s.handed_on ≡ r.handed_on ++ more)
 
 -- what a part of a run does: it only hands on, and asks only of those
 abbrev pub Part : Type 0
 Part = Says → Run → Run
 
 pub record AsksOf (f : Part) : Type 0 where
-  pub goes_on : (says : Says) (r : Run) → GoesOn r (f says r)
+  pub goes_on : (says : Says) (r : Run) → StaysHandedOn r (f says r)
   pub same : (says tells : Says) (r : Run) → Agree says tells (length r.handed_on) (length (f says r).handed_on) → f says r ≡ f tells r
 
-longer : (r s : Run) → GoesOn r s → length r.handed_on ≤ length s.handed_on
+longer : (r s : Run) → StaysHandedOn r s → length r.handed_on ≤ length s.handed_on
 longer r s goes = omega (arith, ap length goes.1, length-append r.handed_on goes.0)
 
-goes-both : (r s t : Run) → GoesOn r s → GoesOn s t → GoesOn r t
+goes-both : (r s t : Run) → StaysHandedOn r s → StaysHandedOn s t → StaysHandedOn r t
 goes-both r s t p q = (p.0 ++ q.0, q.1 ∙ ap (λ (xs : List Arrival). xs ++ q.0) p.1 ∙ append_assoc r.handed_on p.0 q.0)
 
-goes-none : (r : Run) → GoesOn r r
+goes-none : (r : Run) → StaysHandedOn r r
 goes-none r = ([], sym (append-nil r.handed_on))
 
 asks-none : AsksOf (λ says r. r)
@@ -59,7 +55,7 @@ asks-hand_on a w =
 
 -- what a part does with one run
 pub record AsksAt (f : Says → Run) (r : Run) : Type 0 where
-  pub goes_on : (says : Says) → GoesOn r (f says)
+  pub goes_on : (says : Says) → StaysHandedOn r (f says)
   pub same : (says tells : Says) → Agree says tells (length r.handed_on) (length (f says).handed_on) → f says ≡ f tells
 
 at-run : (f : Part) (r : Run) → AsksOf f → AsksAt (λ says. f says r) r

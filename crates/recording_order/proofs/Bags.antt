@@ -1,5 +1,5 @@
 -- Every datagram that came was handed on, waits or was doubled, once.
-use Rattle.std.proofs.Common.{◌≡◌, ℕ, zero, suc, ◌+◌, ◌<◌, Bool, true, false, eqb, leb, cond, Option, Some, None, List, [], ◌∷◌, length, take, get_or, ◌≤◌, refl, ap, ◌∙◌, arith, inl, inr}
+use Rattle.std.proofs.Common.{◌≡◌, ℕ, zero, suc, ◌+◌, ◌<◌, Bool, true, false, eqb, leb, cond, Option, Some, None, List, [], ◌∷◌, ◌++◌, length, take, get_or, ◌≤◌, refl, ap, ◌∙◌, arith, inl, inr}
 use Rattle.std.specs.Prelude.{◌⊎◌, ◌&&◌, sum_by, slice_get, remove, option_map}
 use Rattle.std.specs.List.{list_any}
 use Rattle.std.proofs.lemmas.List.Sums.{sum_by_push, sum_by-remove, sum_by-append}
@@ -15,7 +15,7 @@ use Rattle.recording_order.specs.declared.numbering.Standing.TheVariants.{AtOnce
 use Rattle.recording_order.specs.declared.offer.Offer.{Offer}
 use Rattle.recording_order.specs.declared.offer.Offer.TheVariants.{Write, Waits, Doubled, First, Anew}
 use Rattle.recording_order.specs.Windows.{WindowView, Offered, counted, renumbered, passing, with_reordered, with_doubled, one_reordered, one_doubled, numbering, due_number, after_writing, noted, with_last, least, leaving, ripe, next_of, late_domain, least_in, last_of, now, first_or, held, has_room, is_doubled, offered_full, offered_as, offered}
-use Rattle.recording_order.specs.Releases.{Event, Came, Tick, came_in, came, Run, Says, answered, hand_on, take_offered, take_with, take_run, go_on, empty_with, empty, begin_anew, settle_with, settle, settle_late, tick_with, finish_with, finish, step, run_from, start, run}
+use Rattle.recording_order.specs.Releases.{Event, Came, Tick, all_of, came_in, came, Run, Says, answered, hand_on, take_offered, take_with, take_run, go_on, empty_with, empty, begin_anew, settle_with, settle, settle_late, tick_with, finish_with, finish, step, run_from, start, run}
 
 -- ---- what waits
 
@@ -205,3 +205,8 @@ run_from-bag weight says r (e ∷ es) =
 -- every datagram that came
 pub all_that_came : (weight : Weight) (says : Says) (seconds : ℕ) (es : List Event) → bag weight (run says seconds es) ≡ sum_by weight (came es)
 all_that_came weight says seconds es = let whole = run_from-bag weight says (start seconds) es in omega arith
+
+pub all-bag : (weight : Weight) (r : Run) → sum_by weight (all_of r) ≡ bag weight r
+all-bag weight r =
+    let first : sum_by weight (all_of r) ≡ sum_by weight r.handed_on + sum_by weight (r.window.waiting ++ r.doubled) = sum_by-append weight r.handed_on (r.window.waiting ++ r.doubled) in
+    omega (arith, first, sum_by-append weight r.window.waiting r.doubled)

@@ -1,11 +1,11 @@
 -- Datagrams that are doubled came already.
 use Rattle.std.proofs.Common.{◌≡◌, ℕ, zero, suc, Bool, true, false, eqb, leb, cond, Option, Some, None, List, [], ◌∷◌, ◌++◌, length, take, drop, refl, subst, inl, inr}
-use Rattle.std.specs.Prelude.{◌&&◌, ◌||◌, remove, option_map, Contains}
+use Rattle.std.specs.Prelude.{◌&&◌, ◌||◌, remove, option_map, All, Contains}
 use Rattle.std.specs.List.{position_from}
 use Rattle.std.specs.Str.{bytes_eq}
 use Rattle.std.proofs.lemmas.Bool.{eqb-true}
 use Rattle.std.proofs.lemmas.List.{take-append-drop}
-use Rattle.std.proofs.lemmas.List.Elements.{Contains-append_left, Contains-append_right, Contains-append_cases}
+use Rattle.std.proofs.lemmas.List.Elements.{All-contains_itself, All-weaker, Contains-append_left, Contains-append_right, Contains-append_cases}
 use Rattle.std.proofs.lemmas.List.Folds.{Any-from_list_any}
 use Rattle.std.proofs.lemmas.Slice.Eq.{bytes_eq-Decides}
 use Rattle.recording_order.specs.Arrivals.{Arrival, is_in, has_octets, is_among, count_in, octets_of, room_beside}
@@ -24,7 +24,7 @@ use Rattle.recording_order.proofs.Bounds.{LastSame, leaving-last, counted-last, 
 
 -- ---- what is doubled
 
-same-among : (domain : ℕ) (octets : List ℕ) (xs : List Arrival) → is_among domain octets xs ≡ true → IsSameAsOne domain octets xs
+same-among : (domain : ℕ) (octets : List ℕ) (xs : List Arrival) → is_among domain octets xs ≡ true → IsSameAsOne xs domain octets
 same-among domain octets xs h =
     let any = Any-from_list_any (has_octets domain octets) xs h in
     record {
@@ -34,11 +34,11 @@ same-among domain octets xs h =
       octets = (bytes_eq-Decides any.1.octets octets).0 (and_second (is_in domain any.1) (bytes_eq any.1.octets octets) any.4);
     }
 
-pub doubled-same : (w : WindowView) (domain : ℕ) (octets : List ℕ) → is_doubled w domain octets ≡ true → IsSameAsOne domain octets (w.waiting ++ w.last)
+pub doubled-same : (w : WindowView) (domain : ℕ) (octets : List ℕ) → is_doubled w domain octets ≡ true → IsSameAsOne (w.waiting ++ w.last) domain octets
 doubled-same w domain octets h =
     by_test (is_among domain octets w.waiting) refl (and_second (has_data octets) (is_among domain octets w.waiting || is_among domain octets w.last) h)
   where
-    by_test : (b : Bool) → is_among domain octets w.waiting ≡ b → (b || is_among domain octets w.last) ≡ true → IsSameAsOne domain octets (w.waiting ++ w.last)
+    by_test : (b : Bool) → is_among domain octets w.waiting ≡ b → (b || is_among domain octets w.last) ≡ true → IsSameAsOne (w.waiting ++ w.last) domain octets
     by_test true waits either =
         let s = same-among domain octets w.waiting waits in
         record { one = s.one; among = Contains-append_left w.waiting w.last s.one s.among; domain = s.domain; octets = s.octets }
@@ -223,3 +223,7 @@ run_from-known says (e ∷ es) r known = run_from-known says es (step says r e) 
 
 pub run-known : (says : Says) (seconds : ℕ) (es : List Event) → Known (run says seconds es)
 run-known says seconds es = run_from-known says es (start seconds) (λ b h. h)
+
+-- each of these is among those
+pub all-known : (xs ys : List Arrival) → ((a : Arrival) → Contains xs a → Contains ys a) → All (Contains ys) xs
+all-known xs ys known = All-weaker (Contains xs) (Contains ys) known xs (All-contains_itself xs)

@@ -97,7 +97,7 @@ tick_with-done : (says : Says) (second fuel : ℕ) (r : Run) → late_domain r.w
 tick_with-done says second zero r is = refl
 tick_with-done says second (suc fuel) r is = ap (settle_late (tick_with says second fuel) says second r) is
 
-pub tick-done : (says : Says) (second : ℕ) (r : Run) → late_domain r.window second ≡ None → tick says second r ≡ r
+tick-done : (says : Says) (second : ℕ) (r : Run) → late_domain r.window second ≡ None → tick says second r ≡ r
 tick-done says second r is = tick_with-done says second (length r.window.waiting) r is
 
 -- any number of rounds is enough that is as great as the number of those that wait
@@ -117,7 +117,7 @@ enough says second (suc n) (suc m) r few fewer =
     by_domain again None is = refl
     by_domain again (Some domain) is = again domain is
 
-pub tick-late : (says : Says) (second domain : ℕ) (r : Run) → late_domain r.window second ≡ Some domain → tick says second r ≡ tick says second (settle says domain second r)
+tick-late : (says : Says) (second domain : ℕ) (r : Run) → late_domain r.window second ≡ Some domain → tick says second r ≡ tick says second (settle says domain second r)
 tick-late says second domain r is =
     let n = length r.window.waiting in
     let s = settle says domain second r in
@@ -125,3 +125,11 @@ tick-late says second domain r is =
     enough says second n (suc n) r (omega arith) (omega arith)
     ∙ ap (settle_late (tick_with says second n) says second r) is
     ∙ enough says second n (length s.window.waiting) s (omega (arith, less)) (omega arith)
+
+-- where a domain is late it is settled, and where none is all is done
+pub tick-on : (says : Says) (second : ℕ) (r : Run) → tick says second r ≡ settle_late (tick says second) says second r (late_domain r.window second)
+tick-on says second r = by_domain (late_domain r.window second) refl
+  where
+    by_domain : (o : Option ℕ) → late_domain r.window second ≡ o → tick says second r ≡ settle_late (tick says second) says second r o
+    by_domain None is = tick-done says second r is
+    by_domain (Some domain) is = tick-late says second domain r is

@@ -11,3 +11,7 @@ SameButCounts w v = with_counts_begun w ≡ with_counts_begun v
 pub record RunsAlike (r s : Run) : Type 0 where
   pub handed_on : r.handed_on ≡ s.handed_on
   pub window : SameButCounts r.window s.window
+
+-- they go on alike
+abbrev pub StayAlike : (Run → Run) → Type 0
+StayAlike f = (r s : Run) → RunsAlike r s → RunsAlike (f r) (f s)

@@ -1,5 +1,6 @@
 -- In which order a peer's datagrams are handed on to the recorder, over a whole run.
 use Rattle.std.specs.Prelude.{◌≡◌, ◌<◌, ◌≤◌, ℕ, zero, suc, ◌+◌, Option, Some, None, List, [], ◌∷◌, ◌++◌, length, sum_by, flat_map}
+use Rattle.ipfix_session.specs.Given.{IsPrefix}
 use Rattle.recording_order.specs.Arrivals.{Arrival}
 use Rattle.recording_order.specs.Windows.{WindowView, Offered, offered, after_writing, next_of, late_domain, least_in, last_of}
 use Rattle.recording_order.specs.declared.datagram_counts.DatagramCounts.{DatagramCounts}
@@ -129,6 +130,33 @@ run says seconds es = run_from says (start seconds) es
 abbrev pub released : Says → ℕ → List Event → List Arrival
 released says seconds es = (finish says (run says seconds es)).handed_on
 
--- the weights of all that were handed on, wait or were doubled
-abbrev pub weight_of : (Arrival → ℕ) → Run → ℕ
-weight_of weight r = sum_by weight r.handed_on + sum_by weight r.window.waiting + sum_by weight r.doubled
+-- all that were handed on, wait or were doubled
+abbrev pub all_of : Run → List Arrival
+all_of r = r.handed_on ++ (r.window.waiting ++ r.doubled)
+
+-- what comes to a peer whose datagrams wait for so many seconds, and what the recorder says of it
+pub record Course : Type 0 where
+  pub says : Says
+  pub seconds : ℕ
+  pub events : List Event
+
+abbrev pub run_of : Course → Run
+run_of c = run c.says c.seconds c.events
+
+abbrev pub released_of : Course → List Arrival
+released_of c = released c.says c.seconds c.events
+
+-- ---- what runs do
+
+-- what was handed on stays
+abbrev pub StaysHandedOn : Run → Run → Type 0
+StaysHandedOn r s = IsPrefix r.handed_on s.handed_on
+
+-- of what the recorder says, this asks only from one datagram's number on, and up to the last that it hands on
+abbrev pub AsksOnlyFrom : ℕ → (Says → Run) → Type 0
+AsksOnlyFrom from f = (says tells : Says) → Agree says tells from (length (f says).handed_on) → f says ≡ f tells
+
+-- those that leave a window are handed on one by one: where one leaves, the rest is as from the run after that, and where none
+-- does, all is done
+abbrev pub HandsOnEach : (Says → Run → Run) → (WindowView → Option (Arrival × WindowView)) → Type 0
+HandsOnEach f out = (says : Says) (r : Run) → f says r ≡ go_on (f says) says r (out r.window)

@@ -1,8 +1,8 @@
 -- What is kept of a peer's datagrams, and what is done with one that comes.
-use Rattle.std.specs.Prelude.{◌≡◌, ℕ, ◌+◌, ◌-◌, ◌^◌, ◌==◌, ◌&&◌, ◌||◌, Bool, false, not, nat_eq, nat_lt, nat_le, if◌then◌else◌, List, [], ◌∷◌, ◌++◌, length, take, remove, slice_get, find, Option, Some, None, is_some, option_map}
+use Rattle.std.specs.Prelude.{◌≡◌, ℕ, ◌+◌, ◌-◌, ◌^◌, ◌==◌, ◌&&◌, ◌||◌, Bool, true, false, not, nat_eq, nat_lt, nat_le, if◌then◌else◌, List, [], ◌∷◌, ◌++◌, length, take, remove, slice_get, find, Option, Some, None, Result, IfOk, is_some, option_map}
 use Rattle.std.specs.List.{list_any, position_from}
 use Rattle.std.specs.Map.{lookup}
-use Rattle.std.specs.Option.{option_map_or}
+use Rattle.std.specs.Option.{ForSome, option_map_or}
 use Rattle.indexmap.specs.IndexMap.{insert_entry}
 use Rattle.ipfix_session.specs.Ledger.{capped}
 use Rattle.ipfix_wire.specs.declared.header.Header.{Header}
@@ -108,6 +108,17 @@ abbrev pub last_of : WindowView → List Arrival → Option (Arrival × WindowVi
 last_of w [] = None
 last_of w (a ∷ xs) = least_in w a.header.domain
 
+abbrev pub NoneWaits : WindowView → Type 0
+NoneWaits w = w.waiting ≡ []
+
+-- one fewer waits then
+abbrev pub OneHasLeft : WindowView → WindowView → Type 0
+OneHasLeft before after = length after.waiting + 1 ≡ length before.waiting
+
+-- so it is with the one that leaves, if one does
+abbrev pub LeavesOneFewer : WindowView → Option (Arrival × WindowView) → Type 0
+LeavesOneFewer w o = ForSome o (λ x. OneHasLeft w x.1)
+
 -- what a call answers that lets a datagram leave, and what is left then
 abbrev pub Leaves : Option (Arrival × WindowView) → WindowView → Option Arrival → WindowView → Type 0
 Leaves None before result after = (result ≡ None) × (after ≡ before)
@@ -137,6 +148,10 @@ with_last w a = record w { last = fitting (room_beside ROOM w.waiting) (at_most 
 -- it is doubled: it has a data set, and is the same as one that waits or one of the last
 abbrev pub is_doubled : WindowView → ℕ → List ℕ → Bool
 is_doubled w domain octets = has_data octets && (is_among domain octets w.waiting || is_among domain octets w.last)
+
+-- of each that is doubled: of a domain, with these octets
+abbrev pub ForDoubled : WindowView → (ℕ → List ℕ → Type 0) → Type 0
+ForDoubled w P = (domain : ℕ) (octets : List ℕ) → is_doubled w domain octets ≡ true → P domain octets
 
 -- there is room for one more of a domain, with so many octets
 abbrev pub has_room : WindowView → ℕ → ℕ → Bool
@@ -179,6 +194,10 @@ offered w a =
     if w.seconds == 0 then (Write, w)
     else if is_doubled w a.header.domain a.octets then (Doubled, with_doubled w a.header.domain)
     else offered_as w a (standing_of (numbering w a.header.domain) a.header.sequence)
+
+-- this is what a call answered that was to offer one, and what it left
+abbrev pub IsOffer : {E : Type 0} → Result Offer E → WindowView → Offered → Type 0
+IsOffer result after o = IfOk result (λ offer. (offer, after) ≡ o)
 
 -- ---- after it was written
 

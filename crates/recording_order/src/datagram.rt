@@ -1,7 +1,7 @@
 //! A datagram that is kept.
 
 ghost use Rattle.std.specs.Prelude.{◌≡◌, IfOk};
-ghost use Rattle.recording_order.specs.Arrivals.{Arrival};
+ghost use Rattle.recording_order.specs.Arrivals.{Arrival, arrival};
 
 use ipfix_wire::Header;
 use std::alloc::{AllocError, Global};
@@ -29,8 +29,7 @@ impl Datagram {
         second: u64,
         octets: &[u8],
     ) -> Result<Self, AllocError>
-        ensures { IfOk result (λ d. d ≡
-            record { header = header.now; second = second; octets = octets.now }) }
+        ensures { IfOk result (λ d. d ≡ arrival header.now second octets.now) }
     {
         Ok(Datagram {
             header: *header,

@@ -1,7 +1,9 @@
 //! What is to be done with a datagram that comes.
 
-ghost use Rattle.std.specs.Prelude.{◌≡◌, IfOk, OnOk, OnErr};
+ghost use Rattle.std.specs.Prelude.{◌≡◌, OnOk, OnErr};
+ghost use Rattle.recording_order.specs.Arrivals.{arrival};
 ghost use Rattle.recording_order.specs.Windows as specs;
+ghost use Rattle.recording_order.specs.Windows.{IsOffer, least, offered, offered_ahead, offered_full};
 
 use crate::data_sets::has_data;
 use crate::datagram::Datagram;
@@ -43,7 +45,7 @@ impl Window {
     // Writes the least of those that wait and one for which there is no room.
     fn offer_full(&mut self, header: &Header) -> Offer
         ensures { (result, self.new)
-            ≡ specs.offered_full self.old header.now (specs.least self.old header.now.domain) }
+            ≡ offered_full self.old header.now (least self.old header.now.domain) }
     {
         let own_place = place(self.due_number(header.domain), header.sequence);
         match self.least(header.domain) {
@@ -63,8 +65,8 @@ impl Window {
         datagram: &[u8],
         second: u64,
     ) -> Result<Offer, AllocError>
-        ensures ok { IfOk result (λ offer. (offer, self.new) ≡ specs.offered_ahead self.old
-            (record { header = header.now; second = second; octets = datagram.now })) }
+        ensures ok { IsOffer result self.new
+            (offered_ahead self.old (arrival header.now second datagram.now)) }
         ensures err { OnErr result (self.new ≡ self.old) }
     {
         if !self.has_room(header.domain, datagram.len()) {
@@ -83,8 +85,8 @@ impl Window {
         datagram: &[u8],
         second: u64,
     ) -> Result<Offer, AllocError>
-        ensures ok { IfOk result (λ offer. (offer, self.new) ≡ specs.offered self.old
-            (record { header = header.now; second = second; octets = datagram.now })) }
+        ensures ok { IsOffer result self.new
+            (offered self.old (arrival header.now second datagram.now)) }
         ensures err { OnErr result (self.new ≡ self.old) }
     {
         if self.seconds == 0 {

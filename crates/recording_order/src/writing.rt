@@ -1,6 +1,7 @@
 //! What is known after a datagram was written.
 
 ghost use Rattle.std.specs.Prelude.{◌≡◌, None, OnOk, OnErr};
+ghost use Rattle.recording_order.specs.Arrivals.{arrival};
 ghost use Rattle.recording_order.specs.Windows as specs;
 
 use crate::data_sets::has_data;
@@ -47,8 +48,8 @@ impl Window {
         second: u64,
         counts: DatagramCounts,
     ) -> Result<(), AllocError>
-        ensures ok { OnOk result (self.new ≡ specs.after_writing self.old
-            (record { header = header.now; second = second; octets = datagram.now }) counts) }
+        ensures ok { OnOk result (self.new
+            ≡ specs.after_writing self.old (arrival header.now second datagram.now) counts) }
         ensures err { OnErr result (self.new ≡ self.old) }
     {
         if self.seconds == 0 {

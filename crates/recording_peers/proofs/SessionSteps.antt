@@ -8,11 +8,11 @@ use Rattle.ipfix_message.specs.declared.fault.MessageFault.{MessageFault}
 use Rattle.ipfix_session.specs.Given.{IsPrefix}
 use Rattle.recording_files.specs.declared.record_fault.RecordFault.{RecordFault}
 use Rattle.recording_files.specs.Files.{FilesView}
-use Rattle.recording_order.specs.Alike.{SameButCounts, RunsAlike}
+use Rattle.recording_order.specs.Alike.{SameButCounts, RunsAlike, StayAlike}
 use Rattle.recording_order.specs.Arrivals.{Arrival}
 use Rattle.recording_order.specs.Counts.{with_counts_begun}
 use Rattle.recording_order.specs.Windows.{WindowView}
-use Rattle.recording_order.specs.Releases.{Run, Says, Event, Came, Tick, Agree, step, tick, run_from, run, finish}
+use Rattle.recording_order.specs.Releases.{Run, Says, Event, Came, Tick, AsksOnlyFrom, step, tick, run_from, run, finish}
 use Rattle.recording_peer.specs.Recording.{IsPeer, PeerView, barred_shown, taken_in}
 use Rattle.recording_peers.specs.declared.peer_limits.PeerLimits.{PeerLimits}
 use Rattle.recording_peers.specs.declared.peer_state.PeerState.{PeerState}
@@ -38,15 +38,11 @@ run-more : (says : Says) (seconds : ℕ) (hs : List Happening) (h : Happening) (
 run-more says seconds hs h es is =
     ap (run says seconds) (events-more hs h ∙ ap (λ fs. events_of hs ++ fs) is) ∙ run_from-append says _ (events_of hs) es
 
--- a part of a run goes on alike from runs that are alike
-abbrev Keeps : (Run → Run) → Type 0
-Keeps f = (r s : Run) → RunsAlike r s → RunsAlike (f r) (f s)
-
 -- laws of runs: only what was said of those that were handed on is asked, and the counts change nothing
 pub record Laws : Type 0 where
-  pub asked : (says tells : Says) (seconds : ℕ) (es : List Event) → Agree says tells 0 (length (run says seconds es).handed_on) → run says seconds es ≡ run tells seconds es
-  pub step_alike : (says : Says) (r s : Run) (e : Event) → RunsAlike r s → RunsAlike (step says r e) (step says s e)
-  pub finish_alike : (says : Says) (r s : Run) → RunsAlike r s → RunsAlike (finish says r) (finish says s)
+  pub asked : (seconds : ℕ) (es : List Event) → AsksOnlyFrom 0 (λ says. run says seconds es)
+  pub step_alike : (says : Says) (e : Event) → StayAlike (λ r. step says r e)
+  pub finish_alike : (says : Says) → StayAlike (finish says)
   pub told : (w : WindowView) → SameButCounts (with_counts_begun w) w
 
 module _ {F : Type 0} (seen : F → FilesView) (laws : Laws) (limits : PeerLimits) where
@@ -55,14 +51,14 @@ module _ {F : Type 0} (seen : F → FilesView) (laws : Laws) (limits : PeerLimit
   same-run k hs s more says so =
       let r = run (says_of s.recording.said) limits.reorder (events_of hs) in
       let many = settles-length s.recording.limits s.recording.filed.earlier [] none_barred (datagrams_of r.handed_on) s.recording.said (taken_in s.recording.filed) (barred_shown k.recorder.known) s.recorded.settles.taken ∙ length-map r.handed_on (λ (a : Arrival). a.octets) in
-      sym (laws.asked (says_of s.recording.said) says limits.reorder (events_of hs) (λ n from below. said-before s.recording.said more says so n from (omega (arith, below, many))))
+      sym (laws.asked limits.reorder (events_of hs) (says_of s.recording.said) says (λ n from below. said-before s.recording.said more says so n from (omega (arith, below, many))))
 
   -- by the answer
   abbrev pub StandsBy : Result (Unit {0}) RecordFault → PeerState F → List Happening → Type 0
   StandsBy (Ok x) k hs = IsSession seen k limits hs
   StandsBy (Err fault) k hs = HasEnded seen k limits hs
 
-  lead-stands : (part : Part) (finishes : Bool) (old new : PeerState F) (answer : Result (Unit {0}) RecordFault) (hs then : List Happening) (said : List Said) → ((says : Says) → Keeps (part says))
+  lead-stands : (part : Part) (finishes : Bool) (old new : PeerState F) (answer : Result (Unit {0}) RecordFault) (hs then : List Happening) (said : List Said) → ((says : Says) → StayAlike (part says))
       → ((says : Says) → run says limits.reorder (events_of then) ≡ part says (run says limits.reorder (events_of hs))) → (s : IsSession seen old limits hs)
       → Lead seen part finishes new answer said s.recording (record (run (says_of s.recording.said) limits.reorder (events_of hs)) { window = old.window }) → StandsBy answer new then
   lead-stands part finishes old new (Ok x) hs then said keeps goes s lead =
@@ -99,7 +95,7 @@ module _ {F : Type 0} (seen : F → FilesView) (laws : Laws) (limits : PeerLimit
             failed;
       }
 
-  follows-stands : (part : Part) (finishes : Bool) (old new : PeerState F) (answer : Result (Unit {0}) RecordFault) (hs then : List Happening) → ((says : Says) → Keeps (part says))
+  follows-stands : (part : Part) (finishes : Bool) (old new : PeerState F) (answer : Result (Unit {0}) RecordFault) (hs then : List Happening) → ((says : Says) → StayAlike (part says))
       → ((says : Says) → run says limits.reorder (events_of then) ≡ part says (run says limits.reorder (events_of hs))) → IsSession seen old limits hs → Follows seen part finishes old new answer → StandsBy answer new then
   follows-stands part finishes old new answer hs then keeps goes s a =
       lead-stands part finishes old new answer hs then a.said keeps goes s
@@ -136,7 +132,7 @@ module _ {F : Type 0} (seen : F → FilesView) (laws : Laws) (limits : PeerLimit
       → IsSession seen old limits hs → TakesBy seen h (record old { heard = second }) new m second answer → StandsBy answer new (hs ++ DatagramCame m second ∷ [])
   takes-by old new hs m second answer (Ok h) is s takes =
       let a : Arrival = record { header = h; second = second; octets = m } in
-      follows-stands (arriving a) false (record old { heard = second }) new answer hs (hs ++ DatagramCame m second ∷ []) (λ says r s. laws.step_alike says r s (Came a))
+      follows-stands (arriving a) false (record old { heard = second }) new answer hs (hs ++ DatagramCame m second ∷ []) (λ says. laws.step_alike says (Came a))
       (λ says. run-more says limits.reorder hs (DatagramCame m second) (Came a ∷ []) (ap (arrived m second) is))
       (session-of old (record old { heard = second }) hs refl refl refl s) takes
   takes-by old new hs m second (Ok x) (Err fault) is s takes =
@@ -169,7 +165,7 @@ module _ {F : Type 0} (seen : F → FilesView) (laws : Laws) (limits : PeerLimit
   pub turn-stands : (old new : PeerState F) (hs : List Happening) (second : ℕ) (is_over : Bool) (t : Turn) → IsSession seen old limits hs → TakesTurn seen old new second is_over t → StandsBy t.answer new (hs ++ SecondBegan second ∷ [])
   turn-stands old new hs second is_over t s takes =
       turn-ended t.answer new takes.window old.resumptions_told (hs ++ SecondBegan second ∷ []) (counts-alike is_over takes.window new.window t.orders.items takes.counts)
-      (follows-stands (λ says r. tick says second r) is_over (record old { refused = None }) (record new { window = takes.window; resumptions_told = old.resumptions_told }) t.answer hs (hs ++ SecondBegan second ∷ []) (λ says r s. laws.step_alike says r s (Tick second))
+      (follows-stands (λ says r. tick says second r) is_over (record old { refused = None }) (record new { window = takes.window; resumptions_told = old.resumptions_told }) t.answer hs (hs ++ SecondBegan second ∷ []) (λ says. laws.step_alike says (Tick second))
       (λ says. run-more says limits.reorder hs (SecondBegan second) (Tick second ∷ []) refl) (session-of old (record old { refused = None }) hs refl refl refl s) takes.follows)
 
   -- ---- the end

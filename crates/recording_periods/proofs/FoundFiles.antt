@@ -2,7 +2,8 @@
 use Rattle.std.proofs.Common.{◌≡◌, List, [], ◌∷◌, ◌++◌, refl, sym, subst, ap, ◌∙◌, append_assoc, append-nil, inr, string_bytes}
 use Rattle.std.specs.declared.alloc.Global.{Global}
 use Rattle.std.specs.declared.string.String.{String}
-use Rattle.recording_periods.specs.PeriodFiles.{AreFinishedOf, IsFinishedName}
+use Rattle.recording_names.specs.FinishedNames.{IsFinishedName}
+use Rattle.recording_periods.specs.PeriodFiles.{AreFinishedOf}
 
 -- what is found of those that are left makes that of all
 abbrev pub SoFar : List (String Global) → List (String Global) → List (String Global) → Type 0

@@ -3,16 +3,7 @@ use Rattle.std.specs.Prelude.{◌≡◌, ◌⊎◌, ℕ, List, [], ◌∷◌, Is
 use Rattle.std.specs.String.{string_cmp}
 use Rattle.std.specs.declared.alloc.Global.{Global}
 use Rattle.std.specs.declared.string.String.{String}
-use Rattle.recording_names.specs.FinishedNames.{IsCopy, finished_text}
-use Rattle.recording_names.specs.SessionNames.{AreInRange, SessionParts}
-
--- the name of a finished file of some session
-pub record IsFinishedName (name : List ℕ) : Type 0 where
-  pub session : SessionParts
-  pub copy : ℕ
-  pub in_range : AreInRange session
-  pub is_copy : IsCopy copy
-  pub named : name ≡ finished_text session copy
+use Rattle.recording_names.specs.FinishedNames.{IsFinishedName}
 
 -- of these names exactly those of finished files, in the same order
 abbrev pub AreFinishedOf : List (String Global) → List (String Global) → Type 0

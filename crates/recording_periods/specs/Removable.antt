@@ -5,7 +5,7 @@ use Rattle.std.specs.declared.string.String.{String}
 use Rattle.std.specs.declared.vec.Vec.{Vec}
 use Rattle.recording_names.specs.declared.period.Period.{Period}
 use Rattle.recording_periods.specs.FinishedPeriods.{IsFinished}
-use Rattle.recording_periods.specs.PeriodFiles.{IsFinishedName}
+use Rattle.recording_names.specs.FinishedNames.{IsFinishedName}
 use Rattle.recording_periods.specs.TableStates.{IsTableState}
 use Rattle.recording_periods.specs.declared.due_tables.TableState.TheVariants.{UpToDate}
 use Rattle.recording_periods.specs.declared.finished_period.PeriodRule.{PeriodRule}

@@ -1,7 +1,8 @@
 //! The finished files of a period.
 
 ghost use Rattle.std.specs.Prelude.{IfOk};
-ghost use Rattle.recording_periods.specs.PeriodFiles.{AreFilesOf, AreFinishedOf, IsFinishedName};
+ghost use Rattle.recording_names.specs.FinishedNames.{IsFinishedName};
+ghost use Rattle.recording_periods.specs.PeriodFiles.{AreFilesOf, AreFinishedOf};
 ghost use Rattle.recording_periods.specs.Whether.{Whether};
 
 use recording_names::{SessionName, read_finished_name};

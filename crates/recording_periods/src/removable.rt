@@ -2,7 +2,7 @@
 
 ghost use Rattle.std.specs.Prelude.{◌≤◌, ◌+◌, All, Some, string_bytes};
 ghost use Rattle.recording_periods.specs.FinishedPeriods.{IsFinished};
-ghost use Rattle.recording_periods.specs.PeriodFiles.{IsFinishedName};
+ghost use Rattle.recording_names.specs.FinishedNames.{IsFinishedName};
 ghost use Rattle.recording_periods.specs.Removable.{HasTableOf, IsRemovable};
 ghost use Rattle.recording_periods.specs.TableStates.{IsTableState};
 ghost use Rattle.recording_periods.specs.Whether.{Whether};

@@ -2,8 +2,9 @@
 use Rattle.std.specs.Prelude.{◌≡◌, ℕ, false, List, length, nat_eq, Option, Some, IfSome, IsSome}
 use Rattle.std.specs.Ordering.{nat_cmp}
 use Rattle.std.specs.BTreeMap.{BTreeMap, get as get_at}
-use Rattle.indexmap.specs.IndexMap.{get}
+use Rattle.indexmap.specs.IndexMap.{IndexMap, get}
 use Rattle.ipfix_message.specs.Domains.{DomainsView, History, StandsFor, template_for}
+use Rattle.ipfix_message.specs.declared.record.Template.{Template}
 use Rattle.ipfix_session.specs.Faults.{end_of}
 use Rattle.ipfix_session.specs.Given.{gives, records_of}
 use Rattle.ipfix_session.specs.Ledger.{messages_of}
@@ -25,17 +26,27 @@ pub record IsEarlierSession (text : List ℕ) (s : EarlierSession) : Type 0 wher
 
 -- ---- what it leaves
 
+-- these are the templates of a domain, by what is kept of the domains of a session
+abbrev pub HasTemplates : DomainsView → ℕ → BTreeMap ℕ Template → Type 0
+HasTemplates d domain templates = d.spent ≡ false → (ds : History) → StandsFor d.domains ds → (id : ℕ) → get_at nat_cmp templates id ≡ template_for ds domain id
+
 -- a domain that is left waits after its last message, with the templates that are in force in it at the end
 pub record IsLeft (d : DomainsView) (domain : ℕ) (last : Option LastMessage) (e : EarlierDomain) : Type 0 where
   pub message : LastMessage
   pub is_last : last ≡ Some message
   pub waits : e.state ≡ Waiting message false
-  pub templates : d.spent ≡ false → (ds : History) → StandsFor d.domains ds → (id : ℕ) → get_at nat_cmp e.templates id ≡ template_for ds domain id
+  pub templates : HasTemplates d domain e.templates
 
 -- and so each that is left
 pub record LeavesOnly (last : ℕ → Option LastMessage) (d : DomainsView) (left : BTreeMap ℕ EarlierDomain) : Type 0 where
   pub at : (domain : ℕ) → IfSome (get_at nat_cmp left domain) (IsLeft d domain (last domain))
 
+abbrev pub LeftBy : {S : Type 0} → IndexMap ℕ LastMessage S → DomainsView → BTreeMap ℕ EarlierDomain → Type 0
+LeftBy last d left = LeavesOnly (get nat_eq last) d left
+
 -- and each is left that has a last message
+abbrev pub HasDomain : BTreeMap ℕ EarlierDomain → ℕ → Type 0
+HasDomain left domain = IsSome (get_at nat_cmp left domain)
+
 abbrev pub LeavesEach : (ℕ → Option LastMessage) → BTreeMap ℕ EarlierDomain → Type 0
-LeavesEach last left = (domain : ℕ) → IsSome (last domain) → IsSome (get_at nat_cmp left domain)
+LeavesEach last left = (domain : ℕ) → IsSome (last domain) → HasDomain left domain

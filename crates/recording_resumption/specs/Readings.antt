@@ -40,3 +40,7 @@ session_of r = record { counts = counts_of r.messages.tally; domains = r.message
 pub record HasReadSession (r : EarlierReading) (text : List ℕ) : Type 0 where
   pub session : StandsForText None (session_of r) text
   pub counted : HasCounted r.messages (gives text).messages
+
+-- of whatever text was read
+abbrev pub ForTextRead : EarlierReading → (List ℕ → Type 0) → Type 0
+ForTextRead r P = (text : List ℕ) → HasReadSession r text → P text

@@ -1,12 +1,12 @@
 //! Reading a file of an earlier run in pieces.
 
-ghost use Rattle.std.specs.Prelude.{◌≡◌, ◌↔◌, ◌++◌, [], ℕ, List, Some, None, Err, IsTrue, OnOk, if◌then◌else◌};
+ghost use Rattle.std.specs.Prelude.{◌≡◌, ◌↔◌, ◌++◌, [], Some, None, Err, IsTrue, OnOk, if◌then◌else◌};
 ghost use Rattle.ipfix_message.specs.declared.fault.MessageFault.TheVariants.{OutOfMemory};
 ghost use Rattle.ipfix_session.specs.declared.fault.SessionFault.TheVariants.{Message};
 ghost use Rattle.ipfix_session.specs.Faults.{ends_open};
 ghost use Rattle.ipfix_session.specs.Reports.{ended_by};
 ghost use Rattle.recording_resumption.specs.EarlierFiles.{IsEarlierSession};
-ghost use Rattle.recording_resumption.specs.Readings.{HasReadSession};
+ghost use Rattle.recording_resumption.specs.Readings.{ForTextRead, HasReadSession};
 
 use crate::earlier_session::EarlierSession;
 use crate::file_messages::FileMessages;
@@ -38,8 +38,8 @@ impl EarlierReading {
     /// Reads on. After a message that has a fault nothing more is taken. An `Err` is memory that couldn't be had:
     /// after it the reading is of no use.
     pub fn read(&mut self, alloc: Global, piece: &[u8]) -> Result<(), AllocError>
-        ensures { (text : List ℕ) → HasReadSession self.old text
-            → OnOk result (HasReadSession self.new (text ++ piece.now)) }
+        ensures { ForTextRead self.old
+            (λ text. OnOk result (HasReadSession self.new (text ++ piece.now))) }
     {
         if self.fault.is_some() {
             return Ok(());
@@ -54,7 +54,7 @@ impl EarlierReading {
 
     /// What the file has that ends here. This takes no memory.
     pub fn finish(self) -> EarlierSession
-        ensures { (text : List ℕ) → HasReadSession self text → IsEarlierSession text result }
+        ensures { ForTextRead self (λ text. IsEarlierSession text result) }
     {
         let EarlierReading {
             messages,

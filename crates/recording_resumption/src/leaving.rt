@@ -1,11 +1,11 @@
 //! What an earlier run left of a peer, by its last file.
 
-ghost use Rattle.std.specs.Prelude.{◌≡◌, ℕ, false, nat_eq, None, Some, OnOk, IfOk, IsSome};
+ghost use Rattle.std.specs.Prelude.{◌≡◌, ℕ, nat_eq, None, OnOk, IfOk, IsSome};
+ghost use Rattle.std.specs.Option.{ForSome};
 ghost use Rattle.std.specs.BTreeMap.{get};
 ghost use Rattle.std.specs.Ordering.{nat_cmp};
 ghost use Rattle.indexmap.specs.IndexMap.{get as index_get};
-ghost use Rattle.ipfix_message.specs.Domains.{DomainsView, History, StandsFor, template_for};
-ghost use Rattle.recording_resumption.specs.EarlierFiles.{LeavesEach, LeavesOnly};
+ghost use Rattle.recording_resumption.specs.EarlierFiles.{HasDomain, HasTemplates, LeavesEach, LeftBy};
 
 use crate::earlier::Earlier;
 use crate::earlier_domain::{EarlierDomain, EarlierDomains};
@@ -18,9 +18,7 @@ use std::collections::BTreeMap;
 
 // The templates that are in force in a domain at the end.
 fn templates_left(alloc: Global, domains: &Domains, domain: u32) -> Result<Templates, AllocError>
-    ensures { IfOk result (λ left. domains.now.spent ≡ false → (ds : History)
-        → StandsFor domains.now.domains ds
-        → (id : ℕ) → get nat_cmp left id ≡ template_for ds domain id) }
+    ensures { IfOk result (HasTemplates domains.now domain) }
 {
     match domains.templates(domain) {
         Some(templates) => templates.clone(),
@@ -36,12 +34,11 @@ fn put_domain(
     domain: u32,
     left: &mut EarlierDomains,
 ) -> Result<(), AllocError>
-    ensures only { LeavesOnly (index_get nat_eq last.now) domains.now left.old
-        → OnOk result (LeavesOnly (index_get nat_eq last.now) domains.now left.new) }
+    ensures only { LeftBy last.now domains.now left.old
+        → OnOk result (LeftBy last.now domains.now left.new) }
     ensures put { IsSome (index_get nat_eq last.now domain)
-        → OnOk result (IsSome (get nat_cmp left.new domain)) }
-    ensures others { OnOk result ((q : ℕ)
-        → IsSome (get nat_cmp left.old q) → IsSome (get nat_cmp left.new q)) }
+        → OnOk result (HasDomain left.new domain) }
+    ensures others { OnOk result ((q : ℕ) → HasDomain left.old q → HasDomain left.new q) }
 {
     let Some(message) = last.get(&domain) else {
         return Ok(());
@@ -57,10 +54,10 @@ fn put_domain(
 pub fn domains_left(alloc: Global, session: &EarlierSession) -> Result<EarlierDomains, AllocError>
     ensures none { session.now.full.domains ≡ None
         → IfOk result (λ left. (domain : ℕ) → get nat_cmp left domain ≡ None) }
-    ensures only { (d : DomainsView) → session.now.full.domains ≡ Some d
-        → IfOk result (LeavesOnly (index_get nat_eq session.now.last) d) }
-    ensures each { (d : DomainsView) → session.now.full.domains ≡ Some d
-        → IfOk result (LeavesEach (index_get nat_eq session.now.last)) }
+    ensures only { ForSome session.now.full.domains
+        (λ d. IfOk result (LeftBy session.now.last d)) }
+    ensures each { ForSome session.now.full.domains
+        (λ _. IfOk result (LeavesEach (index_get nat_eq session.now.last))) }
 {
     let mut left = BTreeMap::new(alloc);
     let Some(domains) = &session.full.domains else {

@@ -22,16 +22,28 @@ abbrev pub count_text : ℕ → Option Rate → ℕ → List ℕ
 count_text domain None records = unrated_text domain records
 count_text domain (Some rate) records = sampled_text domain rate records
 
+-- with the rate and the domain of what was counted
+abbrev pub rate_text : RateCount → List ℕ
+rate_text c = count_text c.domain c.rate c.records
+
 abbrev pub rate_line : ℕ → Origin → RateCount → List ℕ
-rate_line session origin c = session_start session origin ++ count_text c.domain c.rate c.records
+rate_line session origin c = session_start session origin ++ rate_text c
 
--- a line a rate, in the order of the report: the rate that was counted last first
+-- a line a rate, in their order
+abbrev pub rate_lines : ℕ → Origin → List RateCount → List ℕ
+rate_lines session origin rates = flat_map (rate_line session origin) rates
+
+-- in the order of the report: the rate that was counted last first
 abbrev pub session_sampling : ℕ → Origin → SamplingReport → List ℕ
-session_sampling session origin report = flat_map (rate_line session origin) report.rates.items
+session_sampling session origin report = rate_lines session origin report.rates.items
 
--- the sessions in order, counted from 1, each with the origin that has its place
+-- with the origin that has its place
+abbrev pub sampling_at : List Origin → ℕ → SamplingReport → List ℕ
+sampling_at origins session report = session_sampling session (origin_of origins session) report
+
+-- the sessions in order, counted from 1
 abbrev pub sampling_lines : List Origin → List SamplingReport → List ℕ
-sampling_lines origins reports = flat_map (λ x. session_sampling x.0 (origin_of origins x.0) x.1) (enumerate_from 1 reports)
+sampling_lines origins reports = flat_map (λ x. sampling_at origins x.0 x.1) (enumerate_from 1 reports)
 
 -- the same, if either option asks for it
 abbrev pub sampling_told : Verbosity → List Origin → List SamplingReport → List ℕ

@@ -1,9 +1,7 @@
 //! The lines of how many records have which rate.
 
 ghost use Rattle.std.specs.Prelude.{◌≡◌, false};
-ghost use Rattle.std.specs.List.{flat_map};
-ghost use Rattle.report_sampling.specs.SamplingLines.{count_text, rate_line, sampled_text, sampling_lines, sampling_told, session_sampling, unrated_text};
-ghost use Rattle.report_sessions.specs.ToldLines.{origin_of};
+ghost use Rattle.report_sampling.specs.SamplingLines.{rate_line, rate_lines, rate_text, sampled_text, sampling_at, sampling_lines, sampling_told, unrated_text};
 ghost use Rattle.report_writing.specs.Writing.{Tells};
 
 use exporter_options::Rate;
@@ -56,7 +54,7 @@ fn write_numbered<W: WriteLines>(
     out: &mut W,
 ) -> io::Result<()>
     ensures { Tells W.lines out.old out.new result
-        (session_sampling session (origin_of origins.now session) report.now) }
+        (sampling_at origins.now session report.now) }
 {
     match origins.get(session.saturating_sub(1)) {
         Some(origin) => write_rates(session, origin, &report.rates, out),
@@ -71,7 +69,7 @@ fn write_rates<W: WriteLines>(
     out: &mut W,
 ) -> io::Result<()>
     ensures { Tells W.lines out.old out.new result
-        (flat_map (rate_line session origin.now) counts.now.items) }
+        (rate_lines session origin.now counts.now.items) }
 {
     for index in 0..counts.len() {
         write_rate(session, origin, &counts[index], out)?;
@@ -93,8 +91,7 @@ fn write_rate<W: WriteLines>(
 }
 
 fn write_count<W: WriteLines>(count: &RateCount, out: &mut W) -> io::Result<()>
-    ensures { Tells W.lines out.old out.new result
-        (count_text count.now.domain count.now.rate count.now.records) }
+    ensures { Tells W.lines out.old out.new result (rate_text count.now) }
 {
     match count.rate {
         Some(rate) => write_sampled(count.domain, rate, count.records, out),

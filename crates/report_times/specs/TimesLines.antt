@@ -15,9 +15,13 @@ session_times Nothing session origin report = []
 session_times Untimed session origin report = session_untimed session origin report.untimed
 session_times Starts session origin report = session_starts session origin report.starts
 
--- the sessions in order, counted from 1, each with the origin that has its place
+-- with the origin that has its place
+abbrev pub times_at : TimeNoting → List Origin → ℕ → TimesReport → List ℕ
+times_at noting origins session report = session_times noting session (origin_of origins session) report
+
+-- the sessions in order, counted from 1
 abbrev pub times_lines : TimeNoting → List Origin → List TimesReport → List ℕ
-times_lines noting origins sessions = flat_map (λ x. session_times noting x.0 (origin_of origins x.0) x.1) (enumerate_from 1 sessions)
+times_lines noting origins sessions = flat_map (λ x. times_at noting origins x.0 x.1) (enumerate_from 1 sessions)
 
 -- if anything was noted
 abbrev pub times_told : TimeNoting → List Origin → List TimesReport → List ℕ

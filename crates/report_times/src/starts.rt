@@ -10,18 +10,18 @@ use std::io;
 
 /// Writes how many flows of a session have which element of a start, if any has one.
 pub fn write_starts<W: WriteLines>(
-    session: usize,
+    number: usize,
     origin: &Origin,
     starts: &StartCounts,
     out: &mut W,
 ) -> io::Result<()>
     ensures { Tells W.lines out.old out.new result
-        (lines.session_starts session origin.now starts.now) }
+        (lines.session_starts number origin.now starts.now) }
 {
     if has_none(starts) {
         Ok(())
     } else {
-        write_line(session, origin, starts, out)
+        write_line(number, origin, starts, out)
     }
 }
 

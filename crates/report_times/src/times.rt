@@ -1,7 +1,6 @@
 //! The lines of sessions.
 
-ghost use Rattle.report_sessions.specs.ToldLines.{origin_of};
-ghost use Rattle.report_times.specs.TimesLines.{session_times, times_lines, times_told};
+ghost use Rattle.report_times.specs.TimesLines.{session_times, times_at, times_lines, times_told};
 ghost use Rattle.report_writing.specs.Writing.{Tells};
 
 use crate::starts::write_starts;
@@ -52,7 +51,7 @@ fn write_numbered<W: WriteLines>(
     out: &mut W,
 ) -> io::Result<()>
     ensures { Tells W.lines out.old out.new result
-        (session_times noting session (origin_of origins.now session) report.now) }
+        (times_at noting origins.now session report.now) }
 {
     match origins.get(session.saturating_sub(1)) {
         Some(origin) => write_session(noting, session, origin, report, out),
@@ -62,17 +61,17 @@ fn write_numbered<W: WriteLines>(
 
 fn write_session<W: WriteLines>(
     noting: TimeNoting,
-    session: usize,
+    number: usize,
     origin: &Origin,
     report: &TimesReport,
     out: &mut W,
 ) -> io::Result<()>
     ensures { Tells W.lines out.old out.new result
-        (session_times noting session origin.now report.now) }
+        (session_times noting number origin.now report.now) }
 {
     match noting {
         TimeNoting::Nothing => Ok(()),
-        TimeNoting::Untimed => write_untimed(session, origin, report.untimed, out),
-        TimeNoting::Starts => write_starts(session, origin, &report.starts, out),
+        TimeNoting::Untimed => write_untimed(number, origin, report.untimed, out),
+        TimeNoting::Starts => write_starts(number, origin, &report.starts, out),
     }
 }

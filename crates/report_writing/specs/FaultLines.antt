@@ -8,3 +8,7 @@ fault_text number name = codes ": fault " ++ (decimal number ++ (codes " " ++ (n
 -- a file that can't be opened, or an address that can't be listened on
 unfoldable pub not_had_line : List ℕ → List ℕ → List ℕ
 not_had_line what name = codes "collectd: " ++ (what ++ (codes ": " ++ (name ++ codes "\n")))
+
+-- with words at its end that say why
+abbrev pub not_had_with : List ℕ → List ℕ → List ℕ → List ℕ
+not_had_with what name words = not_had_line what (name ++ (codes ": " ++ words))

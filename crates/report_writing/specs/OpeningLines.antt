@@ -2,7 +2,7 @@
 use Rattle.std.specs.Prelude.{ℕ, List, [], ◌++◌, codes, decimal, if◌then◌else◌}
 use Rattle.report_writing.specs.Origins.{session_start}
 use Rattle.report_writing.specs.Reasons.{words_of}
-use Rattle.report_writing.specs.FaultLines.{not_had_line}
+use Rattle.report_writing.specs.FaultLines.{not_had_line, not_had_with}
 use Rattle.report_writing.specs.declared.origin.Origin.{Origin}
 use Rattle.report_writing.specs.declared.origin.Origin.TheVariants.{File, Peer, Unknown}
 use Rattle.report_writing.specs.declared.reason.Reason.{Reason}
@@ -23,7 +23,7 @@ listening_line address connections = codes "collectd: listening: " ++ (address +
 
 -- the line of what was not had, and the reason at its end
 abbrev pub because_line : List ℕ → List ℕ → Reason → List ℕ
-because_line what name reason = not_had_line what (name ++ (codes ": " ++ words_of reason))
+because_line what name reason = not_had_with what name (words_of reason)
 
 -- what is told only if it is asked for
 abbrev pub if_verbose : Verbosity → List ℕ → List ℕ

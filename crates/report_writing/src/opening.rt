@@ -1,8 +1,8 @@
 //! The lines that tell what was opened and what is waited for, and why something was not had.
 
-ghost use Rattle.std.specs.Prelude.{◌≡◌, ◌++◌, codes};
+ghost use Rattle.std.specs.Prelude.{◌≡◌};
 ghost use Rattle.report_writing.specs.OpeningLines.{if_verbose, listening_line, not_had_lines, opened_line, opened_text as text_of_opened};
-ghost use Rattle.report_writing.specs.FaultLines.{not_had_line};
+ghost use Rattle.report_writing.specs.FaultLines.{not_had_with};
 ghost use Rattle.report_writing.specs.Writing.{Tells};
 
 use crate::faults::write_not_had;
@@ -101,7 +101,7 @@ pub fn write_not_had_because<W: WriteLines>(
 #[tactic(auto, unfolding(crate::specs::FaultLines::not_had_line))]
 fn write_because<W: WriteLines>(what: &str, name: &str, words: &str, out: &mut W) -> io::Result<()>
     ensures { Tells W.lines out.old out.new result
-        (not_had_line what.now (name.now ++ (codes ": " ++ words.now))) }
+        (not_had_with what.now name.now words.now) }
 {
     writeln!(out, "collectd: {what}: {name}: {words}")
 }

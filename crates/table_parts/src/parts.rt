@@ -1,10 +1,10 @@
 //! Reading the receipts of parts.
 
-ghost use Rattle.std.specs.Prelude.{◌≡◌, ◌↔◌, map, IfErr, IfOk, IsTrue};
+ghost use Rattle.std.specs.Prelude.{◌≡◌, ◌↔◌, IfErr, IfOk, IsTrue};
 ghost use Rattle.table_receipts.specs.Texts.{receipt_text};
 ghost use Rattle.table_receipts.specs.Values.{receipt_value};
 ghost use Rattle.receipt_merging.specs.Parts.{part_value};
-ghost use Rattle.table_parts.specs.Parts.{AreParts, HasPlan, IsFaultOf, IsNotRead, IsPart, LacksPart};
+ghost use Rattle.table_parts.specs.Parts.{AreParts, HasPlan, IsFaultOf, IsNotRead, IsPart, LacksPart, part_values};
 
 use crate::files::PartFiles;
 use crate::plan::{PlanAtHand, has_plan};
@@ -29,9 +29,9 @@ pub fn read_parts<'a, T: ReadText>(
     all: &[PartFiles<'a>],
     plan: &PlanAtHand,
 ) -> Result<Vec<Part>, NotRead<'a>>
-    ensures read { IfOk result (λ parts. AreParts (T.has texts.now) plan.now all.now
-        (map part_value parts.items)) }
-    ensures not_read { IfErr result (IsNotRead (T.has texts.now) (T.refuses texts.now) plan.now all.now) }
+    ensures read { IfOk result
+        (λ had. AreParts (T.has texts.now) plan.now all.now (part_values had)) }
+    ensures unread { IfErr result (IsNotRead (T.has texts.now) (T.refuses texts.now) plan.now all.now) }
 {
     let Ok(mut parts) = Vec::with_capacity(alloc, all.len()) else {
         return Err(NotRead::OutOfMemory);
@@ -64,8 +64,7 @@ fn read_part<T: ReadText>(
     plan: &PlanAtHand,
 ) -> Result<Part, Lack>
     ensures read { IfOk result (λ part. IsPart (T.has texts.now) plan.now files.now (part_value part)) }
-    ensures lacks { IfErr result (LacksPart (T.has texts.now files.now.receipt.now)
-        (T.refuses texts.now files.now.receipt.now)) }
+    ensures lacks { IfErr result (LacksPart (T.has texts.now) (T.refuses texts.now) files.now) }
 {
     let octets = match texts.read_text(alloc, files.receipt) {
         Ok(octets) => octets,

@@ -1,9 +1,10 @@
 //! The answer of a run.
 
-ghost use Rattle.std.specs.Prelude.{◌≡◌, All, IfOk, MatchResult, map};
+ghost use Rattle.std.specs.Prelude.{All, map};
 ghost use Rattle.flow_table.specs.Plans.{PlanValue};
 ghost use Rattle.flow_collect.specs.Dealt.{IsPaired};
-ghost use Rattle.flow_collect.specs.Finished.{HasTaken, ended_link, link_ends_of, FinishedAs, IsOverfull};
+ghost use Rattle.flow_collect.specs.Finished.{ForPlanOf, HasTaken, ended_link, link_ends_of, FinishedAs, IsOverfull};
+ghost use Rattle.flow_collect.specs.Shortages.{IfAnswered, IfFailed};
 
 use super::Parts;
 use super::gathering::gather;
@@ -27,9 +28,10 @@ pub fn finish_all<S: Drop, R: Threads + Sync>(
 ) -> Result<Result<Collected<S, FilteredReport, FlatTable>, CollectFailure>, Shortage>
     requires taken { (plan : PlanValue) × All (HasTaken plan) worked.items }
     requires paired { All (IsPaired (map ended_link ended.items)) (link_ends_of worked.items) }
-    ensures { (plan : PlanValue) → All (HasTaken plan) worked.items
-        → IfOk result (λ answer. MatchResult answer
-        (λ c. FinishedAs plan ended.items c) (IsOverfull plan ended.items)) }
+    ensures ok { ForPlanOf worked.items (λ plan.
+        IfAnswered result (FinishedAs plan ended.items)) }
+    ensures large { ForPlanOf worked.items (λ plan.
+        IfFailed result (IsOverfull plan ended.items)) }
 {
     let all = gather(rt, worked)?;
     let WorkerShare {

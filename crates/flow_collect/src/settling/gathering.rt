@@ -1,12 +1,11 @@
 //! The tables of all workers, merged.
 
-ghost use Rattle.std.specs.Prelude.{◌≡◌, ◌++◌, List, All, IfOk, OnOk, IsPermutation};
+ghost use Rattle.std.specs.Prelude.{◌≡◌, ◌++◌, All, IfOk, OnOk, IsPermutation};
 ghost use Rattle.std.specs.Thread.{IsSync};
-ghost use Rattle.ipfix_message.specs.declared.record.DataRecord.{DataRecord};
-ghost use Rattle.flow_table.specs.Partials.{StandsFor, plan_of};
+ghost use Rattle.flow_table.specs.Partials.{ForBoth, StandsFor, plan_of};
 ghost use Rattle.flow_table.specs.Plans.{PlanValue};
-ghost use Rattle.flow_collect.specs.Finished.{HasTaken, IsMerged, link_ends_of};
-ghost use Rattle.flow_collect.specs.LinkEnds.{AreInOrder, StandsForLinkEnds};
+ghost use Rattle.flow_collect.specs.Finished.{ForPlanOf, HasTaken, IsMerged, link_ends_of};
+ghost use Rattle.flow_collect.specs.LinkEnds.{AreInOrder, StandsForLinkEnds, link_ends_in};
 
 use crate::shortage::Shortage;
 use crate::worker::{LinkEnd, WorkerShare};
@@ -22,11 +21,12 @@ pub fn gather<R: Threads + Sync>(
     worked: VecDeque<WorkerShare>,
 ) -> Result<WorkerShare, Shortage>
     requires { (plan : PlanValue) × All (HasTaken plan) worked.items }
-    ensures link_ends { IfOk result (λ all. IsPermutation (link_ends_of worked.items) all.link_ends.items) }
+    ensures ends { IfOk result (λ all.
+        IsPermutation (link_ends_of worked.items) (link_ends_in all)) }
     ensures order { IfOk result (λ all. AreInOrder all.link_ends.items) }
     ensures table { IfOk result (λ all. StandsForLinkEnds all.partial all.link_ends.items) }
-    ensures plan { (plan : PlanValue) → All (HasTaken plan) worked.items
-        → IfOk result (λ all. plan_of all.partial ≡ plan) }
+    ensures plan { ForPlanOf worked.items (λ plan.
+        IfOk result (λ all. plan_of all.partial ≡ plan)) }
 {
     let mut all = merge_all(rt, worked)?;
     sort_link_ends(&mut all.link_ends);
@@ -81,11 +81,11 @@ fn merge_in_turn(worked: VecDeque<WorkerShare>) -> Result<WorkerShare, Shortage>
 // if the other's is want of memory, it is answered, so that no sum that is too large hides it.
 fn merge_one(all: &mut WorkerShare, other: WorkerShare) -> Result<(), Shortage>
     requires { plan_of other.partial ≡ plan_of all.old.partial }
-    ensures link_ends { OnOk result (all.new.link_ends.items ≡ all.old.link_ends.items ++ other.link_ends.items) }
+    ensures ends { OnOk result
+        (link_ends_in all.new ≡ link_ends_in all.old ++ link_ends_in other) }
     ensures plan { OnOk result (plan_of all.new.partial ≡ plan_of all.old.partial) }
-    ensures merges { OnOk result ((rs qs : List DataRecord)
-        → StandsFor all.old.partial rs → StandsFor other.partial qs
-        → StandsFor all.new.partial (rs ++ qs)) }
+    ensures merges { OnOk result
+        (ForBoth all.old.partial other.partial (StandsFor all.new.partial)) }
 {
     let WorkerShare {
         mut link_ends,

@@ -82,7 +82,7 @@ fn push_all<S: Drop>(
     link: Settled,
     source: S,
 ) -> Result<(), AllocError>
-    ensures sessions { OnOk result (parts.new.sessions.items
+    ensures reports { OnOk result (parts.new.sessions.items
         ≡ parts.old.sessions.items ++ report ∷ []) }
     ensures links { OnOk result (parts.new.links.items ≡ parts.old.links.items ++ link ∷ []) }
     ensures sources { OnOk result (parts.new.sources.items

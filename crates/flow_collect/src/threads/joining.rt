@@ -1,8 +1,9 @@
 //! Joining threads.
 
-ghost use Rattle.std.specs.Prelude.{◌≡◌, ◌≤◌, [], None, Ok};
+ghost use Rattle.std.specs.Prelude.{◌≡◌, ◌≤◌, [], None};
 ghost use Rattle.std.specs.List.{AllZip};
 ghost use Rattle.std.specs.VecDeque.{deque_len, deque_capacity};
+ghost use Rattle.flow_collect.specs.Started.{KeepsPromise};
 
 use crate::shortage::Shortage;
 use std::collections::VecDeque;
@@ -18,7 +19,7 @@ pub fn join_all<T: Drop, P: Promise<Result<T, Shortage>>, R: Threads>(
     requires empty { (room.items ≡ []) × (deque_len room ≡ 0) }
     requires room { deque_len handles ≤ deque_capacity room }
     ensures { result.1 ≡ None
-        → AllZip (λ h back. P.kept_by h.promise (Ok back)) handles.items result.0.items }
+        → AllZip (KeepsPromise P.kept_by) handles.items result.0.items }
 {
     let mut handles = handles;
     let mut all = room;

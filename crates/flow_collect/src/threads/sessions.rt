@@ -4,6 +4,7 @@ ghost use Rattle.std.specs.Prelude.{◌≡◌, ◌≤◌, [], All, IsTrue, IfOk}
 ghost use Rattle.std.specs.List.{AllZip};
 ghost use Rattle.std.specs.VecDeque.{deque_len, deque_capacity};
 ghost use Rattle.flow_collect.specs.Sessions.{SessionRan};
+ghost use Rattle.flow_collect.specs.Started.{IsGivenTo, start_of};
 
 use crate::gate::Gate;
 use crate::session_thread::{EndedSession, Start, run_session};
@@ -46,11 +47,11 @@ pub fn start_sessions<
     bool,
 )
     requires unused { All (λ start. start.sender.sent ≡ []) starts.items }
-    requires room { (room.items ≡ []) × (deque_len room ≡ 0)
-        × (deque_len starts ≤ deque_capacity room) }
+    requires empty { (room.items ≡ []) × (deque_len room ≡ 0) }
+    requires room { deque_len starts ≤ deque_capacity room }
     ensures count { deque_len result.0 ≤ deque_len starts.entry }
     ensures started { IsTrue result.1
-        → AllZip (λ start h. h.promise.start.value ≡ start) starts.entry.items result.0.items }
+        → AllZip (IsGivenTo start_of) starts.entry.items result.0.items }
 {
     let mut starts = starts;
     let mut handles = room;

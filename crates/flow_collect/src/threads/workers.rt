@@ -4,6 +4,7 @@ ghost use Rattle.std.specs.Prelude.{◌≡◌, ◌≤◌, [], All, IsTrue, IfOk}
 ghost use Rattle.std.specs.List.{AllZip};
 ghost use Rattle.std.specs.VecDeque.{deque_len, deque_capacity};
 ghost use Rattle.flow_collect.specs.LinkEnds.{WorkerRan, IsUnused};
+ghost use Rattle.flow_collect.specs.Started.{IsGivenTo, share_of};
 
 use crate::gate::Gate;
 use crate::shortage::Shortage;
@@ -36,11 +37,11 @@ pub fn start_workers<'s, 'e, G: Gate + Sync, R: Threads + Wait + Sync>(
     bool,
 )
     requires unused { All IsUnused shares.items }
-    requires room { (room.items ≡ []) × (deque_len room ≡ 0)
-        × (deque_len shares ≤ deque_capacity room) }
+    requires empty { (room.items ≡ []) × (deque_len room ≡ 0) }
+    requires room { deque_len shares ≤ deque_capacity room }
     ensures count { deque_len result.0 ≤ deque_len shares }
     ensures started { IsTrue result.1
-        → AllZip (λ share h. h.promise.share.value ≡ share) shares.items result.0.items }
+        → AllZip (IsGivenTo share_of) shares.items result.0.items }
 {
     let mut shares = shares;
     let mut handles = room;

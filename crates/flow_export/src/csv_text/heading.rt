@@ -37,7 +37,7 @@ fn push_keys(
     line: &mut ByteRecord,
 ) -> Result<(), AllocError>
     requires { partial_of line.old ≡ [] }
-    ensures fields { OnOk result (AddsFields line.old line.new (key_texts elements.now keys.now)) }
+    ensures ok { OnOk result (AddsFields line.old line.new (key_texts elements.now keys.now)) }
     ensures partial { OnOk result (partial_of line.new ≡ []) }
 {
     for key in keys {
@@ -56,7 +56,7 @@ fn push_names(
     line: &mut ByteRecord,
 ) -> Result<(), AllocError>
     requires { partial_of line.old ≡ [] }
-    ensures fields { OnOk result (AddsFields line.old line.new (counter_texts elements.now counters.now)) }
+    ensures ok { OnOk result (AddsFields line.old line.new (counter_texts elements.now counters.now)) }
     ensures partial { OnOk result (partial_of line.new ≡ []) }
 {
     for counter in counters {

@@ -4,8 +4,7 @@
 ghost use Rattle.std.specs.Prelude.{◌≡◌, ◌++◌, OnOk, flat_map, length};
 ghost use Rattle.std.specs.Fmt.{decimal};
 ghost use Rattle.flow_export.specs.CsvText.{row_line_in};
-ghost use Rattle.flow_export.specs.Shown.{shown_cells};
-ghost use Rattle.flow_export.specs.Written.{interval_texts, next_cell, next_number};
+ghost use Rattle.flow_export.specs.Written.{interval_texts, next_cell, next_cells, next_number};
 
 use crate::address_text::append_ipv4;
 use crate::intervals::Intervals;
@@ -53,8 +52,7 @@ impl RowLines for CsvLines<'_> {
 // Appends a comma and a cell for each, as it is shown.
 fn append_cells(keys: &[Key], cells: &[Cell], out: &mut Vec<u8>) -> Result<(), AllocError>
     requires { length keys.now ≡ length cells.now }
-    ensures { OnOk result (out.new.items
-        ≡ out.old.items ++ flat_map next_cell (shown_cells keys.now cells.now)) }
+    ensures { OnOk result (out.new.items ≡ out.old.items ++ next_cells keys.now cells.now) }
 {
     for index in 0..cells.len() {
         let cell = shown_cell(&keys[index], cells[index]);

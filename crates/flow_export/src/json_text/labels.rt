@@ -55,8 +55,7 @@ fn key_labels(
     elements: &Elements,
     keys: &[Key],
 ) -> Result<Vec<MemberLabel>, AllocError>
-    ensures { IfOk result (λ labels.
-        AreLabelsOf (key_texts elements.now keys.now) labels.items) }
+    ensures { IfOk result (AreLabelsOf (key_texts elements.now keys.now)) }
 {
     let mut labels = Vec::new(alloc);
     for key in keys {
@@ -70,8 +69,7 @@ fn counter_labels(
     elements: &Elements,
     counters: &[ElementId],
 ) -> Result<Vec<MemberLabel>, AllocError>
-    ensures { IfOk result (λ labels.
-        AreLabelsOf (counter_texts elements.now counters.now) labels.items) }
+    ensures { IfOk result (AreLabelsOf (counter_texts elements.now counters.now)) }
 {
     let mut labels = Vec::new(alloc);
     for counter in counters {

@@ -2,9 +2,8 @@
 //! `laws_json`), so what an object has is appended as it is.
 
 ghost use Rattle.std.specs.Prelude.{◌≡◌, ◌++◌, OnOk, length};
-ghost use Rattle.flow_export.specs.JsonParts.{AreLabels, interval_members, labelled_cell, labelled_cells, labelled_numbers};
+ghost use Rattle.flow_export.specs.JsonParts.{AreLabels, interval_members, key_members, labelled_cell, labelled_numbers};
 ghost use Rattle.flow_export.specs.JsonText.{row_object_in};
-ghost use Rattle.flow_export.specs.Shown.{shown_cells};
 ghost use Rattle.ipfix_elements.specs.JsonValues.{in_quotes, json_number};
 ghost use Rattle.ipfix_elements.specs.Texts.{ipv4_text};
 
@@ -62,8 +61,8 @@ fn append_cells(
 ) -> Result<(), AllocError>
     requires labels { length labels.now ≡ length cells.now }
     requires keys { length keys.now ≡ length cells.now }
-    ensures { OnOk result (out.new.items
-        ≡ out.old.items ++ labelled_cells labels.now (shown_cells keys.now cells.now)) }
+    ensures { OnOk result
+        (out.new.items ≡ out.old.items ++ key_members labels.now keys.now cells.now) }
 {
     for index in 0..cells.len() {
         let cell = shown_cell(&keys[index], cells[index]);

@@ -1,5 +1,5 @@
 ghost use Rattle.std.specs.Prelude.{◌≡◌, ◌≤◌, ◌++◌, length, vec_capacity, vec_len, IfOk, IfErr};
-ghost use Rattle.rtrb.specs.Ring as ring;
+ghost use Rattle.rtrb.specs.Ring.{known_items, received};
 ghost use Rattle.flow_link.specs.Ends.{IsPair};
 ghost use Rattle.flow_link.specs.Settling.{Settles, HandsBack};
 
@@ -33,11 +33,10 @@ pub fn settle(alloc: Global, sender: Sender, receiver: Receiver) -> Result<Settl
 }
 
 fn drain(consumer: &mut Consumer<Parcel>, left: &mut Vec<Parcel>, count: usize)
-    requires count { length (ring.known_items consumer.old) ≡ count }
+    requires count { length (known_items consumer.old) ≡ count }
     requires room { (vec_len left.old ≡ 0) × (count ≤ vec_capacity left.old) }
-    ensures left { left.new.items ≡ ring.known_items consumer.old }
-    ensures taken { ring.received consumer.new
-        ≡ ring.received consumer.old ++ ring.known_items consumer.old }
+    ensures left { left.new.items ≡ known_items consumer.old }
+    ensures taken { received consumer.new ≡ received consumer.old ++ known_items consumer.old }
 {
     for _ in 0..count {
         left.push_reserved(consumer.pop_known());

@@ -11,8 +11,7 @@ pub returns-in-Some-sampling_fault-clause-faults : goal.returns-in-Some-sampling
 returns-in-Some-sampling_fault-clause-faults g c =
     let sources = c.args.sources.items in
     let collected = c.in-Ok-Ok.collected in
-    let both = rw c.in-Ok-Ok.field-0-is at c.in-Ok-Ok.ensures in
-    let h = both.0 in
+    let h = rw c.in-Ok-Ok.field-0-is at c.in-Ok-Ok.ensures.headline in
     let fault = c.in-Some-sampling_fault.fault in
     let none : fault_of_arguments c.args.pool (vec_len c.args.sources) ≡ None = ap (fault_of_arguments c.args.pool) (sym c.len.ensures) ∙ sym c.judge.ensures.fault ∙ c.in_default.is in
     let refuses = c.refuse_sampled-refuses.ensures ∙ ap (λ (l : List (InContext g.row.S.Denot)). refuse_sampled l) c.deref.ensures.value in

@@ -6,7 +6,7 @@ use Rattle.flow_collect.specs.Dealt.{IsPaired, IsNewShare, IsNewStart, start_lin
 use Rattle.flow_collect.specs.Finished.{link_ends_of}
 use Rattle.flow_collect.specs.LinkEnds.{IsUnused}
 use Rattle.flow_collect.specs.declared.session_thread.Start.{Start}
-use Rattle.flow_collect.proofs.CollectLists.{all_taken, all_paired, links_same, answered}
+use Rattle.flow_collect.proofs.CollectLists.{all_taken, all_paired, links_same, answered, failed, fitting}
 use Rattle.flow_collect.proofs.collecting.collect_judged.Goals as goal
 
 pub in_threads-requires-clause-unused : goal.in_threads-requires-clause-unused
@@ -26,7 +26,16 @@ finish_all-requires-clause-paired g c κs within =
     (sym (links_same g.S.Source.seen _ _ c.in_ok-ended.ensures.sessions))
     (all_paired _ _ _ _ c.in_ok-ended.ensures.workers c.in_ok-starts.ensures.dealt.new_shares)
 
-pub returns : goal.returns
-returns g c =
+pub returns-clause-headline : goal.returns-clause-headline
+returns-clause-headline g c =
     answered g.S.Source.seen _ _ _ _ _ _ _ c.in_ok-starts.ensures.dealt c.in_ok-ended.ensures.sessions
-    (c.in_ok-answer.ensures c.args.plan.now (all_taken _ _ _ _ c.in_ok-ended.ensures.workers c.in_ok-starts.ensures.dealt.new_shares))
+    (c.in_ok-answer.ensures.ok c.args.plan.now (all_taken _ _ _ _ c.in_ok-ended.ensures.workers c.in_ok-starts.ensures.dealt.new_shares))
+
+pub returns-clause-fits : goal.returns-clause-fits
+returns-clause-fits g c =
+    fitting _ _ _ (c.in_ok-answer.ensures.ok c.args.plan.now (all_taken _ _ _ _ c.in_ok-ended.ensures.workers c.in_ok-starts.ensures.dealt.new_shares))
+
+pub returns-clause-large : goal.returns-clause-large
+returns-clause-large g c =
+    failed g.S.Source.seen _ _ _ _ _ _ _ c.in_ok-starts.ensures.dealt c.in_ok-ended.ensures.sessions
+    (c.in_ok-answer.ensures.large c.args.plan.now (all_taken _ _ _ _ c.in_ok-ended.ensures.workers c.in_ok-starts.ensures.dealt.new_shares))

@@ -13,7 +13,7 @@ loop-source-preserved g c =
     let inv = c.loop-source.invariant in (
       inv.0 ++ c.in-Some.source ∷ [],
       split_on _ inv.0 _ _ _ inv.1 c.in-Some.ensures.items,
-      deal_on _ _ inv.0 c.in-Some.source _ _ _ _ inv.2 c.in_ok-deal_one.ensures,
+      deal_on _ _ inv.0 c.in-Some.source c.loop-source.starts c.loop-source.shares c.deal_one.new.starts c.deal_one.new.shares inv.2 c.in_ok-deal_one.ensures,
       as_many _ _ _ _ _ _ c.in_ok-deal_one.ensures ∙ inv.3,
     )
 
@@ -22,7 +22,7 @@ returns-clause-dealt g c =
     let inv = c.loop-source.invariant in
     let none : length c.loop-source.sources.items ≡ 0 = omega (arith, c.loop-source.sources.ok.0, c.in_default.ensures.cases) in
     let used : c.args.sources.items ≡ inv.0 = sym c.from_vec-sources.ensures.items ∙ all_used _ inv.0 _ inv.1 none in
-    subst (λ (ss : List (InContext g.row.S.Denot)). IsDealt c.args.plan.now c.args.pool.capacity ss c.loop-source.starts.items c.loop-source.shares.items) (sym used) inv.2
+    subst (λ (ss : List (InContext g.row.S.Denot)). IsDealt c.args.plan.now c.args.pool ss c.loop-source.starts.items c.loop-source.shares.items) (sym used) inv.2
 
 pub returns-clause-workers : goal.returns-clause-workers
 returns-clause-workers g c = c.loop-source.invariant.3

@@ -7,7 +7,7 @@ use Rattle.flow_collect.proofs.dealing.deal.Given as goal
 abbrev pub invariant-loop-source : goal.invariant-loop-source
 invariant-loop-source g l =
     (used : List (InContext g.row.S.Denot)) × (l.initial.sources.items ≡ used ++ l.sources.items)
-    × IsDealt l.plan l.pool.capacity used l.starts.items l.shares.items
+    × IsDealt l.plan l.pool used l.starts.items l.shares.items
     × (length l.shares.items ≡ l.pool.workers)
 
 abbrev pub decreases-loop-source : goal.decreases-loop-source

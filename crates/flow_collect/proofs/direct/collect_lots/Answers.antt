@@ -10,8 +10,8 @@ use Rattle.flow_collect.proofs.Failures.{named}
 use Rattle.flow_collect.proofs.LotLists.{lot_added_up, lot_too_large}
 use Rattle.flow_collect.proofs.direct.collect_lots.Goals as goal
 
-pub returns-in-Err-SumTooLarge : goal.returns-in-Err-SumTooLarge
-returns-in-Err-SumTooLarge g c =
+pub returns-in-Err-SumTooLarge-clause-large : goal.returns-in-Err-SumTooLarge-clause-large
+returns-in-Err-SumTooLarge-clause-large g c =
     let lot = c.in_ok-lot.ensures in
     let failure = c.large.ensures ∙ ap (λ (reports : List FilteredReport). large_failure c.in_ok-row.row reports) c.deref.ensures.value in
     record {
@@ -28,14 +28,17 @@ returns-in-Err-SumTooLarge g c =
       };
     }
 
-pub returns : goal.returns
-returns g c =
+pub returns-clause-headline : goal.returns-clause-headline
+returns-clause-headline g c =
     let lot = c.in_ok-lot.ensures in
-    let table = c.in-Ok.ensures in (
-      record {
-        records = lot.records;
-        given = lot.given;
-        added_up = lot_added_up g.S.Source.seen _ _ _ lot c.in-Ok.table (table.table (all_of lot.records) lot.stands) (table.small (all_of lot.records) lot.stands);
-      },
-      subst (λ (p : PlanValue). FitsPlan p c.in-Ok.table) lot.plan_is (table.fits (all_of lot.records) lot.stands),
-    )
+    let table = c.in-Ok.ensures in
+    record {
+      records = lot.records;
+      given = lot.given;
+      added_up = lot_added_up g.S.Source.seen _ _ _ lot c.in-Ok.table (table.table (all_of lot.records) lot.stands) (table.small (all_of lot.records) lot.stands);
+    }
+
+pub returns-clause-fits : goal.returns-clause-fits
+returns-clause-fits g c =
+    let lot = c.in_ok-lot.ensures in
+    subst (λ (p : PlanValue). FitsPlan p c.in-Ok.table) lot.plan_is (c.in-Ok.ensures.fits (all_of lot.records) lot.stands)

@@ -44,6 +44,6 @@ returns g c =
       records = records;
       given = record { own = put.records; given = put.given; records_are = refl; filtered_is = kept.1; sampling_is = told; times_is = times; great_is = great };
       sent_is = ap (λ k. k.sink.sender.sent) link ∙ last ∙ ap (λ x. x ++ Last ∷ []) sent;
-      link_is = ap (λ k. k.sink.sender.link) link ∙ c.send_last-sent.ensures.link.0 ∙ (chain.1 ∙ ap (λ s. s.link) sender);
-      capacity_is = ap (λ k. k.sink.sender.capacity) link ∙ c.send_last-sent.ensures.link.1 ∙ (chain.2 ∙ ap (λ s. s.capacity) sender);
+      link_is = ap (λ k. k.sink.sender.link) link ∙ c.send_last-sent.ensures.link ∙ (chain.1 ∙ ap (λ s. s.link) sender);
+      capacity_is = ap (λ k. k.sink.sender.capacity) link ∙ c.send_last-sent.ensures.capacity ∙ (chain.2 ∙ ap (λ s. s.capacity) sender);
     }

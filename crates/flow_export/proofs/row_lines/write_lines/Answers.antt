@@ -19,7 +19,7 @@ loop-row-preserved g c =
     let block = c.in_ok-write_block.ensures.ok in (
       subst (λ (rows : List RowValue). All (IsExportable plan) rows) (sym c.in_ok-pass.ensures) (All-drop (IsExportable plan) 1 left c.loop-row.invariant.0),
       line_more (g.L.RowLines.line_of c.args.lines.now plan) c.args.rows.now left _ _ c.loop-row.text.items _ _ (g.W.Write.contents c.args.out.now) (g.W.Write.contents c.loop-row.out) _
-          c.in-Some.ensures c.in_ok-pass.ensures (c.in_ok-append_rest.ensures c.loop-row.text.items c.in_ok-append_front.ensures.text) c.loop-row.invariant.1 block.0 block.1 block.2,
+          c.in-Some.ensures c.in_ok-pass.ensures (c.in_ok-append_rest.ensures c.loop-row.text.items c.in_ok-append_front.ensures.ok) c.loop-row.invariant.1 block.0 block.1 block.2,
       c.in_ok-append_front.ensures.kept,
     )
 

@@ -1,7 +1,6 @@
 use Rattle.std.proofs.Common.{◌≡◌, List, [], sym, subst, rules}
 use Rattle.ipfix_message.specs.Fields.{Field}
 use Rattle.ipfix_wire.specs.declared.specifier.ElementId.{ElementId}
-use Rattle.flow_table.specs.Plans.{keys_and_kinds}
 use Rattle.ipfix_elements.specs.Elements.{iana}
 use Rattle.flow_merge.specs.InnerReading.{Refuses, TellsCells, TellsNumber, TellsNumbers}
 use Rattle.flow_merge.specs.RowFaults.{FieldValues, Tell}
@@ -25,7 +24,7 @@ returns-in_err-key-clause-fault c =
 pub returns-in_err-sums-clause-fault : goal.returns-in_err-sums-clause-fault
 returns-in_err-sums-clause-fault c =
     let plan = c.args.plan.now in
-    let keys : TellsCells (keys_and_kinds plan) c.read_number-2.new.fields c.in_ok-key.key.items c.next_cells.new.fields =
+    let keys : TellsCells plan.keys plan.kinds c.read_number-2.new.fields c.in_ok-key.key.items c.next_cells.new.fields =
     rw (c.keys.ensures.value, c.kinds.ensures.value) at c.in_ok-key.ensures.ok in
     let moved : Refuses ((v : FieldValues) × Tell plan c.args.fields v) c.in_err-sums.field-0.0 =
     refuse
@@ -41,7 +40,7 @@ returns-in_err-sums-clause-fault c =
 pub returns-in_err-flows-clause-fault : goal.returns-in_err-flows-clause-fault
 returns-in_err-flows-clause-fault c =
     let plan = c.args.plan.now in
-    let keys : TellsCells (keys_and_kinds plan) c.read_number-2.new.fields c.in_ok-key.key.items c.next_cells.new.fields =
+    let keys : TellsCells plan.keys plan.kinds c.read_number-2.new.fields c.in_ok-key.key.items c.next_cells.new.fields =
     rw (c.keys.ensures.value, c.kinds.ensures.value) at c.in_ok-key.ensures.ok in
     let counters : TellsNumbers plan.counters c.next_cells.new.fields c.in_ok-sums.sums.items c.next_numbers.new.fields =
     subst (λ (es : List ElementId). TellsNumbers es c.next_cells.new.fields c.in_ok-sums.sums.items c.next_numbers.new.fields) c.counters.ensures.value c.in_ok-sums.ensures.ok in
@@ -59,7 +58,7 @@ returns-in_err-flows-clause-fault c =
 pub returns-then-is_some-clause-fault : goal.returns-then-is_some-clause-fault
 returns-then-is_some-clause-fault c t =
     let plan = c.args.plan.now in
-    let keys : TellsCells (keys_and_kinds plan) c.read_number-2.new.fields c.in_ok-key.key.items c.next_cells.new.fields =
+    let keys : TellsCells plan.keys plan.kinds c.read_number-2.new.fields c.in_ok-key.key.items c.next_cells.new.fields =
     rw (c.keys.ensures.value, c.kinds.ensures.value) at c.in_ok-key.ensures.ok in
     let counters : TellsNumbers plan.counters c.next_cells.new.fields c.in_ok-sums.sums.items c.next_numbers.new.fields =
     subst (λ (es : List ElementId). TellsNumbers es c.next_cells.new.fields c.in_ok-sums.sums.items c.next_numbers.new.fields) c.counters.ensures.value c.in_ok-sums.ensures.ok in
@@ -72,7 +71,7 @@ returns-then-is_some-clause-fault c t =
 pub returns-clause-ok : goal.returns-clause-ok
 returns-clause-ok c =
     let plan = c.args.plan.now in
-    let keys : TellsCells (keys_and_kinds plan) c.read_number-2.new.fields c.in_ok-key.key.items c.next_cells.new.fields =
+    let keys : TellsCells plan.keys plan.kinds c.read_number-2.new.fields c.in_ok-key.key.items c.next_cells.new.fields =
     rw (c.keys.ensures.value, c.kinds.ensures.value) at c.in_ok-key.ensures.ok in
     let counters : TellsNumbers plan.counters c.next_cells.new.fields c.in_ok-sums.sums.items c.next_numbers.new.fields =
     subst (λ (es : List ElementId). TellsNumbers es c.next_cells.new.fields c.in_ok-sums.sums.items c.next_numbers.new.fields) c.counters.ensures.value c.in_ok-sums.ensures.ok in

@@ -2,7 +2,7 @@ use Rattle.std.proofs.Common.{ℕ, ◌+◌, List, Some, refl, sym, ap, ◌∙◌
 use Rattle.std.proofs.lemmas.Result.{err_from_is_err_and}
 use Rattle.flow_table.specs.Flows.{flow_total}
 use Rattle.flow_table.specs.Rows.{kept_at}
-use Rattle.flow_table.proofs.Runs.{step_words, large_words, run_step, run_none, run_large, run_whole, run_done}
+use Rattle.flow_table.proofs.Runs.{last_large, step_words, large_words, run_step, run_none, run_large, run_whole, run_done}
 use Rattle.flow_table.proofs.adding.add_flow.Goals as goal
 
 pub loop-interval-init : goal.loop-interval-init
@@ -45,7 +45,11 @@ returns-in_err-add_at-clause-large c = λ key are of.
           (run_large (kept_at c.args.plan.now c.args.rows.now) (kept_at c.args.plan.now c.loop-interval.rows) f c.args.flow.first (c.args.flow.first + c.args.flow.count) c.loop-interval.interval key (omega arith) (omega arith)
           (c.loop-interval.invariant.totals key are of)
           (large_words (kept_at c.args.plan.now c.loop-interval.rows) c.args.plan.now c.args.flow.span.start c.args.flow.span.end c.loop-interval.interval key c.loop-interval.room.counters.items c.args.room.now.counters.items
-          c.loop-interval.invariant.counters (c.in_err-add_at.ensures.large key (are ∙ kept) (c.loop-interval.invariant.of_plan key are of) same))),
+          c.loop-interval.invariant.counters
+          (last_large (kept_at c.args.plan.now c.loop-interval.rows)
+          (flow_total c.args.plan.now c.args.flow.span.start c.args.flow.span.end c.loop-interval.room.counters.items c.loop-interval.interval)
+          key c.loop-interval.interval _ c.add_at.ensures.at
+          (c.in_err-add_at.ensures.large key (are ∙ kept) (c.loop-interval.invariant.of_plan key are of) same)))),
     ))
 
 pub returns-clause-ok : goal.returns-clause-ok

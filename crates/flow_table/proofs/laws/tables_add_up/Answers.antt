@@ -5,4 +5,4 @@ pub returns-clause-table : goal.returns-clause-table
 returns-clause-table c = λ plan lists all rows. tables_are_added plan lists rows.tables all rows.each rows.sums
 
 pub returns-clause-too_large : goal.returns-clause-too_large
-returns-clause-too_large c = too_large_both
+returns-clause-too_large c = λ plan tables lists each. too_large_both plan lists tables each

@@ -26,9 +26,11 @@ returns-in_err-tally-clause-names c =
 named : (c : After-take_interval) (rs qs : List DataRecord) → HoldsTable c.args.plan.now c.args.rows.now c.args.tally.now rs → HoldsTable c.args.plan.now c.args.others c.args.more.now qs → c.in-Err.fault ≡ SumTooLarge
     → HoldsTable c.args.plan.now c.replace-own.result c.args.tally.now rs × LargeWith c.args.plan.now c.replace-own.result (totals_at c.args.plan.now qs) c.take_interval.new.self
 named c rs qs a b same =
-    let own = subst (λ (x : Rows). HoldsTable c.args.plan.now x c.args.tally.now rs) (sym c.replace-own.ensures.value) a in
-    let large = c.in-Err.ensures.large same in
-    (own, merged_large c.args.plan.now c.replace-own.result c.args.others c.args.tally.now c.args.more.now rs qs c.take_interval.new.self own b large.0 c.merge.new.words.items c.take_interval.ensures large.1)
+    let own = subst (λ (x : Rows). HoldsTable c.args.plan.now x c.args.tally.now rs) (sym c.replace-own.ensures.value) a in (
+      own,
+      merged_large c.args.plan.now c.replace-own.result c.args.others c.args.tally.now c.args.more.now rs qs c.take_interval.new.self own b (c.in-Err.ensures.wide same) c.merge.new.words.items
+          (λ w ws is. (c.take_interval.ensures.last w ws is, c.take_interval.ensures.words w ws is)) (c.in-Err.ensures.large same),
+    )
 
 pub returns-in-Err-clause-stands : goal.returns-in-Err-clause-stands
 returns-in-Err-clause-stands c = λ rs qs a b. stands_fault c.args.plan.now c.replace-own.new.dest c.in_ok-tally.field-0 (rs ++ qs) c.in-Err.fault (λ same.

@@ -2,7 +2,7 @@ use Rattle.std.proofs.Common.{◌≡◌, ◌&&◌, Bool, false, [], List, Ok, le
 use Rattle.ipfix_message.specs.declared.template_record.Event.{Event}
 use Rattle.ipfix_message.specs.Sets.{Set, next_set}
 use Rattle.ipfix_message.proofs.MessageSets.{next_set-less}
-use Rattle.ipfix_datagrams.specs.Datagrams.{are_sets_of_withdrawals, events_of_set, is_set_of_withdrawals}
+use Rattle.ipfix_datagrams.specs.Datagrams.{are_sets_of_withdrawals, events_of_set, is_withdrawing}
 use Rattle.ipfix_datagrams.proofs.FirstAndLast.{Taking, taking_first, taking_more, taken_all, defines_as, defines_nothing, events_in_sets, next_set_events, no_set_events, end_events}
 use Rattle.ipfix_datagrams.proofs.WithdrawalsAlone.{and_moves, and_true, next_set_withdrawals, no_set_withdrawals, end_withdrawals}
 use Rattle.ipfix_datagrams.proofs.definitions.definitions_of.Goals as goal
@@ -48,7 +48,7 @@ loop-rest-preserved c =
       takes = taking_more c.loop-rest.definitions c.take_set.new.all [] all (events_of_set s) (events_in_sets r)
           (subst (λ (rest : List Event). Taking c.loop-rest.definitions [] all rest) (next_set_events w s r is) c.loop-rest.invariant.takes) c.in_ok-take_set.ensures.defines;
       only = c.loop-rest.invariant.only ∙ ap (λ (b : Bool). b && c.loop-rest.definitions.withdraws_only) (next_set_withdrawals w s r is)
-          ∙ and_moves (is_set_of_withdrawals s) (are_sets_of_withdrawals r) c.loop-rest.definitions.withdraws_only ∙ ap (λ (b : Bool). are_sets_of_withdrawals r && b) (sym c.in_ok-take_set.ensures.only);
+          ∙ and_moves (is_withdrawing s) (are_sets_of_withdrawals r) c.loop-rest.definitions.withdraws_only ∙ ap (λ (b : Bool). are_sets_of_withdrawals r && b) (sym c.in_ok-take_set.ensures.only);
       room = omega (arith, less, c.loop-rest.invariant.room);
     }
 

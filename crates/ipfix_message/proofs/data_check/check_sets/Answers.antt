@@ -29,7 +29,7 @@ returns-in_err-check_set-clause-sets c = λ h d agrees.
     let p = err_from_is_err_and c.from_residual-in_err-check_set.result c.from_residual-in_err-check_set.ensures.1 in
     let set : Set = record { id = c.in_ok-id.id; body = c.in_ok-id.body.now } in
     rw (p.1, p.2) (faults_in c.in_err-check_set.field-0.0 h c.args.templates.now.entries d c.loop-rest.rest.now set c.in_ok-id.after.now (sets_from h d c.args.octets.now)
-    c.in_ok-id.ensures.exact (λ e at. c.in_err-check_set.ensures h e at) agrees (c.loop-rest.invariant.checking h d agrees))
+    c.in_ok-id.ensures.exact c.in_err-check_set.ensures agrees (c.loop-rest.invariant.checking h d agrees))
 
 pub loop-rest-preserved : goal.loop-rest-preserved
 loop-rest-preserved c =
@@ -38,7 +38,7 @@ loop-rest-preserved c =
     let is_none : is_template_set set ≡ false = sym (c.is_template_set.ensures c.in_ok-id.body.now) ∙ was in
     record {
       checking = λ h d agrees. goes_on h c.args.templates.now.entries d c.loop-rest.rest.now set c.in_ok-id.after.now (sets_from h d c.args.octets.now)
-          c.in_ok-id.ensures.exact (λ e at. c.in_ok-check_set.ensures h e at) agrees (c.loop-rest.invariant.checking h d agrees);
+          c.in_ok-id.ensures.exact c.in_ok-check_set.ensures agrees (c.loop-rest.invariant.checking h d agrees);
       template_sets = sym (template_set_next c.loop-rest.rest.now set c.in_ok-id.after.now c.in_ok-id.ensures.exact ∙ rw is_none refl) ∙ c.loop-rest.invariant.template_sets;
     }
 

@@ -27,7 +27,7 @@ returns-in-None-left_beside c = λ ds stands.
     let next : c.loop-templates.templates-iterator ≡ (c.in-Some.field-0-0.now, c.in-Some.templates.now) ∷ c.next.new.self = search rules in
     let so_far = subst (λ (rest : List (ℕ × BTreeMap ℕ Template)). Counting c.args.known.now.entries rest c.args.limit c.loop-templates.left) next c.loop-templates.invariant.counting in
     counting_above c.args.known.now.entries c.next.new.self c.in-Some.field-0-0.now c.in-Some.templates.now c.args.limit c.loop-templates.left ds
-    c.loop-templates.invariant.distinct c.left_beside.ensures.ordered c.in-None-left_beside.ensures.left so_far stands
+    c.loop-templates.invariant.distinct c.left_beside.ensures.ordered c.in-None-left_beside.ensures.above so_far stands
 
 pub returns : goal.returns
 returns c = λ ds stands.

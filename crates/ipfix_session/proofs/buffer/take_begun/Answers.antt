@@ -28,7 +28,7 @@ returns-in_err-check_open-in-Err-clause-stops g c = λ x text is_rest first.
     let whole = c.fill.new.buffer.items ++ c.in_ok-left.left.now in
     let b = between_at g.M.MessageSink.seen x text c.args.messages.now c.args.to.now _ whole (refilled _ _ _ _ fills.moves) first in
     let e = c.in_err-check_open-in-Err.field-0.0 in
-    let stops = stops_whole c.fill.new.buffer.items c.in_ok-left.left.now e (ap next_message (sym c.deref.ensures.value) ∙ c.in-Err.ensures.found ∙ ap none_at c.in_err-check_open-in-Err.ensures) in
+    let stops = stops_whole c.fill.new.buffer.items c.in_ok-left.left.now e (ap next_message (sym c.deref.ensures.value) ∙ c.in-Err.ensures.stopped ∙ ap none_at c.in_err-check_open-in-Err.ensures) in
     let p = err_from_is_err_and c.from_residual-in_err-check_open-in-Err.result c.from_residual-in_err-check_open-in-Err.ensures.1 in
     rw (p.1, p.2) (stops_at g.M.MessageSink.seen x text c.args.messages.now c.args.to.now whole e b stops)
 
@@ -38,7 +38,7 @@ returns-in-Err-clause-keeps g c = λ x text is_rest first.
     let buffer = c.fill.new.buffer.items in
     let left = c.in_ok-left.left.now in
     let b = between_at g.M.MessageSink.seen x text c.args.messages.now c.args.to.now _ (buffer ++ left) (refilled _ _ _ _ fills.moves) first in
-    kept_begun g.M.MessageSink.seen x text c.args.messages.now c.args.to.now buffer left c.in-Err.stop (ap next_message (sym c.deref.ensures.value) ∙ c.in-Err.ensures.found) c.in_ok-check_open-in-Err.ensures fills.filled b
+    kept_begun g.M.MessageSink.seen x text c.args.messages.now c.args.to.now buffer left c.in-Err.stop (ap next_message (sym c.deref.ensures.value) ∙ c.in-Err.ensures.stopped) c.in_ok-check_open-in-Err.ensures fills.filled b
 
 pub returns-clause-takes : goal.returns-clause-takes
 returns-clause-takes g c = λ x text is_rest first.

@@ -8,13 +8,13 @@ pub returns-in_err-check_open-in-Err-clause-stops : goal.returns-in_err-check_op
 returns-in_err-check_open-in-Err-clause-stops g c = λ x text first.
     let b = c.loop-first.invariant x text first in
     let p = err_from_is_err_and c.from_residual.result c.from_residual.ensures.1 in
-    rw (p.1, p.2) (stops_at g.M.MessageSink.seen x text c.loop-first.messages c.loop-first.to c.loop-first.rest.now c.in_err-check_open-in-Err.field-0.0 b (c.in-Err.ensures.found ∙ ap none_at c.in_err-check_open-in-Err.ensures))
+    rw (p.1, p.2) (stops_at g.M.MessageSink.seen x text c.loop-first.messages c.loop-first.to c.loop-first.rest.now c.in_err-check_open-in-Err.field-0.0 b (c.in-Err.ensures.stopped ∙ ap none_at c.in_err-check_open-in-Err.ensures))
 
 pub returns-in-Err-clause-takes : goal.returns-in-Err-clause-takes
 returns-in-Err-clause-takes g c = λ x text first.
     record {
       between = c.loop-first.invariant x text first;
-      is_rest = record { stop = c.in-Err.stop; none = c.in-Err.ensures.found; is_open = c.in_ok-check_open-in-Err.ensures };
+      is_rest = record { stop = c.in-Err.stop; none = c.in-Err.ensures.stopped; is_open = c.in_ok-check_open-in-Err.ensures };
     }
 
 pub returns-in_err-take-clause-stops : goal.returns-in_err-take-clause-stops

@@ -7,4 +7,4 @@ pub returns-clause-found : goal.returns-clause-found
 returns-clause-found c = λ text fits. longest_from SpellsMessage next_message messages_read messages_shrink text fits
 
 pub returns-clause-only : goal.returns-clause-only
-returns-clause-only c = λ text rest messages fits longest. longest_only SpellsMessage next_message messages_read messages_shrink messages rest text fits longest
+returns-clause-only c = λ text parts fits longest. longest_only SpellsMessage next_message messages_read messages_shrink parts.items parts.rest text fits longest

@@ -7,4 +7,4 @@ pub returns-clause-own : goal.returns-clause-own
 returns-clause-own c = export_is_export
 
 pub returns-clause-only : goal.returns-clause-only
-returns-clause-only c = λ plan text rows others is_plan h i. same_rows plan is_plan (records_of text) rows others h.records i.records
+returns-clause-only c = λ plan text is_plan rows others h i. same_rows plan is_plan (records_of text) rows others h.records i.records

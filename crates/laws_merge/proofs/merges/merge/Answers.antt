@@ -32,9 +32,9 @@ err_due (Ok table) fault P is due = tt
 err_due (Err e) fault P is due = subst P (sym is) due
 
 pub returns-in_err-merging-2-clause-fault : goal.returns-in_err-merging-2-clause-fault
-returns-in_err-merging-2-clause-fault g c = λ lists h.
+returns-in_err-merging-2-clause-fault g c =
     err_due c.from_residual-in_err-merging-2.result c.in_err-merging-2.field-0.0 _ c.from_residual-in_err-merging-2.ensures.1
-    (refused_on g.S.Source.seen c.args.plan.now c.args.limit c.from_vec-waiting.result.items c.loop-source.waiting.items c.in-Some.source c.pop_front.new.self.items c.loop-source.merging c.in_err-merging-2.field-0.0
+    (λ lists h. refused_on g.S.Source.seen c.args.plan.now c.args.limit c.from_vec-waiting.result.items c.loop-source.waiting.items c.in-Some.source c.pop_front.new.self.items c.loop-source.merging c.in_err-merging-2.field-0.0
     c.in-Some.ensures.items c.loop-source.invariant
     (λ of_plan rows rs holds stands. own_fault g.S.Source.seen c.args.limit c.in-Some.source c.read.new.source (g.met.S.Source.ended_is_end c.read.new.source) (merging_plan c.loop-source.merging) rs holds rows c.in_err-merging-2.field-0.0
     (subst (λ (i : Intervals). IsDueIn g.S.Source.seen c.args.limit i (merging_plan c.loop-source.merging) rows c.in-Some.source c.read.new.source c.in_err-merging-2.field-0.0) of_plan (c.in_err-merging-2.ensures.fault rows stands)))
@@ -70,12 +70,18 @@ returns-clause-read g c =
     all_up g.S.Source.seen c.args.limit c.args.plan.now c.args.sources.items on.read.exports c.finish.result
     (subst (λ (l : List g.row.S.Denot). GiveExports g.S.Source.seen c.args.limit c.args.plan.now l on.read.exports) c.from_vec-waiting.ensures.items given) (c.finish.ensures.rows (flat_map (λ rows. rows) on.read.exports) on.read.stands)
 
+-- what holds for each list, if there is a table, holds of the table for each list
+of_table : {L : Type 0} (answer : Result Table MergeFault) (P : L → Type 0) (Q : L → Table → Type 0) → ((l : L) → P l → IfOk answer (Q l)) → IfOk answer (λ table. (l : L) → P l → Q l table)
+of_table (Ok table) P Q all = all
+of_table (Err e) P Q all = tt
+
 pub returns-clause-rows : goal.returns-clause-rows
-returns-clause-rows g c = λ lists h.
+returns-clause-rows g c =
+    of_table c.finish.result (AreExportsOf g.S.Source.seen c.args.plan.now c.args.sources.items) (λ lists. HasRowsOf c.args.plan.now (all_of lists)) (λ lists h.
     let none = empty c.loop-source.waiting.items (omega (arith, c.loop-source.waiting.ok.0, c.in_default.ensures.cases)) in
     let held = subst (λ (l : List g.row.S.Denot). AreExportsOf g.S.Source.seen c.args.plan.now l lists) (sym c.from_vec-waiting.ensures.items) h in
     let all = merged_all g.S.Source.seen c.args.plan.now c.args.limit c.from_vec-waiting.result.items c.loop-source.waiting.items c.loop-source.merging none c.loop-source.invariant lists held in
-    subst (λ (p : PlanValue). AllZip (IsTable p) lists all.0 → IfOk c.finish.result (HasRowsOf p (all_of lists))) c.loop-source.invariant.same_plan (λ are. c.finish.ensures.tables lists all.0 all.2 are) all.1
+    subst (λ (p : PlanValue). AllZip (IsTable p) lists all.0 → IfOk c.finish.result (HasRowsOf p (all_of lists))) c.loop-source.invariant.same_plan (λ are. c.finish.ensures.tables lists all.0 all.2 are) all.1)
 
 pub returns-clause-small : goal.returns-clause-small
 returns-clause-small g c = λ lists h.

@@ -5,4 +5,4 @@ pub returns-clause-found : goal.returns-clause-found
 returns-clause-found c = decode-found
 
 pub returns-clause-only : goal.returns-clause-only
-returns-clause-only c = decode-only
+returns-clause-only c = λ ds m x fits r kept. decode-only ds m x r kept fits

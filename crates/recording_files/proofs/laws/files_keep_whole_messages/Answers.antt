@@ -3,4 +3,4 @@ use Rattle.recording_files.proofs.FilesGive.{files_keep}
 use Rattle.recording_files.proofs.laws.files_keep_whole_messages.Goals as goal
 
 pub returns : goal.returns
-returns c = λ p after now r holds all. files_keep (IsTold r) p after all.start now holds all.seen all.none
+returns c = λ s. files_keep (IsTold s.session) s.progress s.after s.seen.start s.now s.holds s.seen.seen s.seen.none

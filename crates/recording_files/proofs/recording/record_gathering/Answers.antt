@@ -1,4 +1,3 @@
-use Rattle.std.proofs.Common.{arith}
 use Rattle.recording_files.proofs.ReadOn.{records_nowhere}
 use Rattle.recording_files.proofs.recording.record_gathering.Goals as goal
 

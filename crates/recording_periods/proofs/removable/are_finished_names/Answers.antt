@@ -1,6 +1,6 @@
 use Rattle.std.proofs.Common.{◌≡◌, ◌∷◌, length, arith, rules}
 use Rattle.std.specs.Prelude.{string_bytes}
-use Rattle.recording_periods.specs.PeriodFiles.{IsFinishedName}
+use Rattle.recording_names.specs.FinishedNames.{IsFinishedName}
 use Rattle.recording_periods.proofs.Loops.{all_at_end, more_all, not_later, not_this}
 use Rattle.recording_periods.proofs.removable.are_finished_names.Goals as goal
 

@@ -1,6 +1,6 @@
 use Rattle.std.proofs.Common.{length}
 use Rattle.std.specs.Prelude.{All, string_bytes}
-use Rattle.recording_periods.specs.PeriodFiles.{IsFinishedName}
+use Rattle.recording_names.specs.FinishedNames.{IsFinishedName}
 use Rattle.recording_periods.proofs.removable.are_finished_names.Given as goal
 
 -- what is left says it of all

@@ -1,8 +1,7 @@
-use Rattle.std.proofs.Common.{map, take}
-use Rattle.receipt_merging.specs.Parts.{part_value}
-use Rattle.table_parts.specs.Parts.{AreParts}
+use Rattle.std.proofs.Common.{take}
+use Rattle.table_parts.specs.Parts.{AreParts, part_values}
 use Rattle.table_parts.proofs.parts.read_parts.Given as goal
 
 -- those so far were read
 abbrev pub invariant-loop-place : goal.invariant-loop-place
-invariant-loop-place g l = AreParts (g.T.ReadText.has l.texts) l.plan (take l.place l.all) (map part_value l.parts.items)
+invariant-loop-place g l = AreParts (g.T.ReadText.has l.texts) l.plan (take l.place l.all) (part_values l.parts)

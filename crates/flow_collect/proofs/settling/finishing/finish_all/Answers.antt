@@ -18,12 +18,12 @@ use Rattle.flow_collect.proofs.settling.finishing.finish_all.Goals as goal
 pub settle_all-requires : goal.settle_all-requires
 settle_all-requires g c =
     let P = IsPaired (map ended_link c.args.ended.items) in
-    subst (All P) (sym c.from_vec.ensures.items) (All-permutation P _ _ c.in_ok-all.ensures.link_ends c.requires.paired)
+    subst (All P) (sym c.from_vec.ensures.items) (All-permutation P _ _ c.in_ok-all.ensures.ends c.requires.paired)
 
-pub returns-in-Err-SumTooLarge : goal.returns-in-Err-SumTooLarge
-returns-in-Err-SumTooLarge g c = λ plan taken.
+pub returns-in-Err-SumTooLarge-clause-large : goal.returns-in-Err-SumTooLarge-clause-large
+returns-in-Err-SumTooLarge-clause-large g c = λ plan taken.
     let failure = c.large.ensures ∙ ap (λ (reports : List FilteredReport). large_failure c.in_ok-row.row reports) c.deref.ensures.value in
-    let ended = subst (All IsEnded) (sym c.from_vec.ensures.items) (All-permutation IsEnded _ _ c.in_ok-all.ensures.link_ends (link_ends_ended plan _ taken)) in
+    let ended = subst (All IsEnded) (sym c.from_vec.ensures.items) (All-permutation IsEnded _ _ c.in_ok-all.ensures.ends (link_ends_ended plan _ taken)) in
     let table = subst (StandsForLinkEnds c.in_ok-all.all.partial) (sym c.from_vec.ensures.items) c.in_ok-all.ensures.table in
     let is = c.in_ok-all.ensures.plan plan taken in
     record {
@@ -36,9 +36,9 @@ returns-in-Err-SumTooLarge g c = λ plan taken.
       failure_is = failure ∙ ap (λ (row : Option RowPlace). large_failure row c.in_ok-parts.parts.sessions.items) (sym (ap (λ (x : CollectFailure). x.row) failure));
     }
 
-pub returns : goal.returns
-returns g c = λ plan taken.
-    let ended = subst (All IsEnded) (sym c.from_vec.ensures.items) (All-permutation IsEnded _ _ c.in_ok-all.ensures.link_ends (link_ends_ended plan _ taken)) in
+pub returns-clause-ok : goal.returns-clause-ok
+returns-clause-ok g c = λ plan taken.
+    let ended = subst (All IsEnded) (sym c.from_vec.ensures.items) (All-permutation IsEnded _ _ c.in_ok-all.ensures.ends (link_ends_ended plan _ taken)) in
     let table = subst (StandsForLinkEnds c.in_ok-all.all.partial) (sym c.from_vec.ensures.items) c.in_ok-all.ensures.table in
     let is = c.in_ok-all.ensures.plan plan taken in
     record {

@@ -23,4 +23,4 @@ returns g t c =
     merged_halves _ _ _ _ _ _ _ cut.items cut.tail
     (IfOk-at_ok (IsMerged _) c.in_ok-all.was c.join-first.ensures.first)
     (IfOk-at_ok (IsMerged _) c.in_ok-second.was c.join-first.ensures.second)
-    one.link_ends one.plan one.merges
+    one.ends one.plan one.merges

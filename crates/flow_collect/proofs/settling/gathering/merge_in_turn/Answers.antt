@@ -38,10 +38,10 @@ loop-other-preserved c =
     let one = c.in_ok-merge_one.ensures in (
       inv.0 ++ c.in-Some-pop_front.other ∷ [],
       split_on _ inv.0 _ _ _ inv.1 c.in-Some-pop_front.ensures.items,
-      one.link_ends ∙ (ap (λ x. x ++ c.in-Some-pop_front.other.link_ends.items) inv.2 ∙ flat_map_more (λ (w : WorkerShare). w.link_ends.items) [] inv.0 c.in-Some-pop_front.other),
+      one.ends ∙ (ap (λ x. x ++ c.in-Some-pop_front.other.link_ends.items) inv.2 ∙ flat_map_more (λ (w : WorkerShare). w.link_ends.items) [] inv.0 c.in-Some-pop_front.other),
       subst (λ (plan : PlanValue). All (HasTaken plan) c.pop_front-in-loop-other.new.self.items) (sym one.plan) (All-tail P _ _ taken),
       one.plan ∙ inv.4,
-      rw one.link_ends (stands_joined _ _ _ _ _ one.merges inv.5 other.table),
+      rw one.ends (stands_joined _ _ _ _ _ one.merges inv.5 other.table),
     )
 
 pub returns : goal.returns

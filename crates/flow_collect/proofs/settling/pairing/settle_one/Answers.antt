@@ -4,7 +4,7 @@ pub returns : goal.returns
 returns g c =
     record {
       link = c.in-Ok.link;
-      reports_are = c.in_ok-push_all.ensures.sessions;
+      reports_are = c.in_ok-push_all.ensures.reports;
       links_are = c.in_ok-push_all.ensures.links;
       sources_are = c.in_ok-push_all.ensures.sources;
       settled = c.in-Ok.ensures.ok;

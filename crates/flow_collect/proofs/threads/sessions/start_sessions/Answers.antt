@@ -6,7 +6,7 @@ use Rattle.flow_collect.proofs.ZipLists.{split_on}
 use Rattle.flow_collect.proofs.threads.sessions.start_sessions.Goals as goal
 
 pub loop-start-init : goal.loop-start-init
-loop-start-init g c = ([], refl, c.requires.unused, omega arith, rw c.requires.room.0 tt, omega arith)
+loop-start-init g c = ([], refl, c.requires.unused, omega arith, rw c.requires.empty.0 tt, omega arith)
 
 pub loop-start-preserved : goal.loop-start-preserved
 loop-start-preserved g c =

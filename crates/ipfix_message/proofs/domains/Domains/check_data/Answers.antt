@@ -13,5 +13,5 @@ pub returns-clause-checked : goal.returns-clause-checked
 returns-clause-checked c = λ fresh ds stands.
     let some : lookup (nat_eq c.args.header.now.domain) c.args.self.now.domains ≡ Some c.in-Some.templates.now.entries = search rules in
     checked_message c.args.self.now.domains ds c.args.message.now c.args.header.now c.in-Some.templates.now.entries c.check_sets.result c.requires stands some
-    (λ d agrees. rw c.after_header.ensures.octets at (c.check_sets.ensures.sets c.args.header.now d agrees))
+    (λ h d agrees. rw c.after_header.ensures.octets at (c.check_sets.ensures.sets h d agrees))
     (rw c.after_header.ensures.octets at c.check_sets.ensures.data)

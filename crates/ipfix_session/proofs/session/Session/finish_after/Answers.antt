@@ -5,7 +5,7 @@ use Rattle.ipfix_session.proofs.Reaching.{may_go_on}
 use Rattle.ipfix_session.proofs.session.Session.finish_after.Goals as goal
 
 pub returns-clause-text : goal.returns-clause-text
-returns-clause-text c = λ limit text stands none.
+returns-clause-text c = λ none limit text stands.
     let inside = subst (λ (s : State). StandsForText limit s text) (sym c.self.view_is) stands in
     let is_open = may_go_on limit _ text inside (ap (λ (s : State). s.fault) c.self.view_is ∙ none) in
     in_full c.into_report.result _ _ c.self.inside.intake.domains (Some c.args.fault) c.into_report.ensures.fault (c.into_report.ensures.counts _ _ inside.tells) c.into_report.ensures.domains

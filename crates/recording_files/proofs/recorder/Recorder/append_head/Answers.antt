@@ -5,9 +5,9 @@ use Rattle.ipfix_session.specs.Given.{known_after}
 use Rattle.recording_files.specs.Heads.{AppendsHead, number_at, stamp_at}
 use Rattle.recording_files.specs.KeptOptions.{Kept}
 use Rattle.recording_files.specs.Preambles.{IsStamp}
-use Rattle.recording_files.specs.Recorders.{KeepsWithin, State}
+use Rattle.recording_files.specs.Recorders.{Heading, KeepsWithin, State}
 use Rattle.recording_files.proofs.Keeping.{begun}
-use Rattle.recording_files.proofs.Leading.{heading, no_heading, on_ok}
+use Rattle.recording_files.proofs.Leading.{heading, no_heading, ok_for, on_ok}
 use Rattle.recording_files.proofs.recorder.Recorder.append_head.Goals as goal
 
 pub returns-then-not-is_empty-clause-head : goal.returns-then-not-is_empty-clause-head
@@ -19,7 +19,7 @@ returns-then-not-is_empty-clause-head c = λ limit before here keeps.
     no_heading before here c.args.header.now c.args.out.now.items some
 
 pub returns-clause-head : goal.returns-clause-head
-returns-clause-head c = λ limit before here keeps.
+returns-clause-head c = ok_for c.args.self.now (Heading c.args.header.now c.args.out.now.items c.append_head.new.out.items) c.append_head.result (λ limit before here keeps.
     let inside : State = record { domains = c.self.inside.domains; limit = c.self.inside.limit; due = c.self.inside.due.entries; here = c.self.inside.here.entries; kept = c.self.inside.kept.items } in
     let now : KeepsWithin limit inside before here = subst (λ (s : State). KeepsWithin limit s before here) (sym c.self.view_is) keeps in
     let yes : c.is_empty.result ≡ true = search rules in
@@ -32,4 +32,4 @@ returns-clause-head c = λ limit before here keeps.
     (λ appends. heading inside before here h c.args.out.now.items c.append_head.new.out.items now none fits.export_time fits.sequence
     (subst (λ (ks : List Kept). AppendsHead ds (number_at inside.due (stamp_at h)) h.export_time ks c.args.out.now.items c.append_head.new.out.items) c.deref.ensures.value
     (subst (λ (s : Stamp). AppendsHead ds (number_at inside.due s) s.export_time c.deref.result.now c.args.out.now.items c.append_head.new.out.items) is appends)))
-    (c.append_head.ensures now.not_spent ds now.known)
+    (c.append_head.ensures now.not_spent ds now.known))
