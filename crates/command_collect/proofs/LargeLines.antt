@@ -19,14 +19,14 @@ use Rattle.flow_export.specs.Written.{next_cell}
 use Rattle.flow_export.specs.declared.intervals.Intervals.TheVariants.{OfPlan}
 use Rattle.flow_export.proofs.Lines.{behind_commas, next}
 use Rattle.flow_export.proofs.ShownKeys.{shown_length}
-use Rattle.command_collect.specs.Large.{interval_text, row_line}
+use Rattle.command_collect.specs.Large.{interval_start, interval_text, next_cells, row_line}
 
 each_cell : (cells : List Cell) → flat_map next (map cell_text cells) ≡ flat_map next_cell cells
 each_cell [] = refl
 each_cell (c ∷ cells) = ap (λ (t : List ℕ). (44 ∷ cell_text c) ++ t) (each_cell cells)
 
 pub row_parts : (plan : PlanValue) (row : RowPlace)
-    → row_line plan row ≡ interval_text (first_in OfPlan plan row.interval) (last_in OfPlan plan row.interval) ++ (flat_map next_cell (shown_cells plan.keys row.key.items) ++ codes "\n")
+    → row_line plan row ≡ interval_start plan row.interval ++ (next_cells plan.keys row.key.items ++ codes "\n")
 unfolding interval_text
 row_parts plan row =
     let first = decimal (first_in OfPlan plan row.interval) in

@@ -33,7 +33,7 @@ use Rattle.report_sessions.proofs.Untold.{told_plain}
 use Rattle.input_sources.specs.InputsTold.{opened_lines, StopsAt, TellsPeers}
 use Rattle.command_collect.specs.CollectLines.{collect_fault_line}
 use Rattle.command_collect.specs.Large.{failure_lines, row_lines, session_lines}
-use Rattle.command_collect.specs.Told.{if_filtered, run_lines, table_told, TellsFault}
+use Rattle.command_collect.specs.Told.{counts_told, if_filtered, run_lines, table_told, TellsFault}
 use Rattle.command_collect.specs.declared.job.CollectJob.{CollectJob}
 
 -- the fault of a run that failed, said otherwise
@@ -86,7 +86,7 @@ module _ (job : CollectJob) (plain : job.verbosity ≡ NOTHING_MORE) where
 
   -- and of sessions only their reports
   pub plain_lines : job.filter ≡ None → job.times ≡ Nothing → (origins : List Origin) (fulls : List FullReport) (samplings : List SamplingReport) (times : List TimesReport) (table : Table) (filtered : ℕ) (ended : List EndedSession) → map (λ (e : EndedSession). e.full) ended ≡ fulls
-      → run_lines job origins samplings times table filtered ended ≡ report_lines (reports_in fulls) ++ tally_line table.tally
+      → run_lines job origins (counts_told job origins samplings times table filtered) ended ≡ report_lines (reports_in fulls) ++ tally_line table.tally
   plain_lines all no_times origins fulls samplings times table filtered ended are =
       let nothing : sampling_told job.verbosity origins samplings ≡ [] = rw (is_verbose, is_strict) refl in
       let untold : times_told job.times origins times ≡ [] = rw no_times refl in

@@ -42,7 +42,7 @@ use Rattle.command_collect.specs.Engines.{CollectsBy, due_fault}
 use Rattle.command_collect.specs.Exporters.{asked_of, in_context, in_places, other_origins, others_told}
 use Rattle.command_collect.specs.Runs.{AddsUpWhole, EndedWell, HaveNoFault, IsCollectFault, IsFaultBy, IsNotExported, IsOfWhole, WritesAndTellsJob, WritesTable, plain_texts, texts_in_context}
 use Rattle.command_collect.specs.Gathered.{all_filtered, IsGathered, samplings_in, times_of_each}
-use Rattle.command_collect.specs.Told.{run_lines}
+use Rattle.command_collect.specs.Told.{counts_told, gathered_counts, run_lines}
 use Rattle.command_collect.specs.declared.engine.Engine.{Engine}
 use Rattle.command_collect.specs.declared.gathered.Gathered.{Gathered}
 use Rattle.command_collect.specs.declared.job.CollectJob.{CollectJob}
@@ -105,11 +105,11 @@ of_gathered {S = S} P c g is p =
     (subst (λ (v : Vec S Global). P v.items g.run.sessions.items g.sampling.items g.times.items g.run.table g.filtered) is.sources_are p)))))
 
 pub tells_gathered : {S W : Type 0} (contents : W → Option (List ℕ)) (old new : W) (AreTold : List ℕ → Type 0) (failure : S → Option ErrorKind) (job : CollectJob) (origins : List Origin) (c : FullSerialAnswer S) (g : Gathered S) → IsGathered c g
-    → Writes job.elements.now job.plan.now job.output (contents old) (contents new) g.run.table → TellsEnded failure g.run.sources.items g.run.sessions.items (run_lines job origins g.sampling.items g.times.items g.run.table g.filtered) AreTold
+    → Writes job.elements.now job.plan.now job.output (contents old) (contents new) g.run.table → TellsEnded failure g.run.sources.items g.run.sessions.items (run_lines job origins (gathered_counts job origins g)) AreTold
     → WritesAndTellsJob contents old new AreTold failure job origins c
 tells_gathered {S = S} contents old new AreTold failure job origins c g is writes tells =
     of_gathered (λ (sources : List S) (fulls : List FullReport) (samplings : List SamplingReport) (times : List TimesReport) (table : Table) (n : ℕ).
-    Writes job.elements.now job.plan.now job.output (contents old) (contents new) table × TellsEnded failure sources fulls (run_lines job origins samplings times table n) AreTold) c g is (writes, tells)
+    Writes job.elements.now job.plan.now job.output (contents old) (contents new) table × TellsEnded failure sources fulls (run_lines job origins (counts_told job origins samplings times table n)) AreTold) c g is (writes, tells)
 
 pub not_written_of : {S : Type 0} (output : Output) (IsUntouched : Type 0) (fault : ExportFault) (c : FullSerialAnswer S) (g : Gathered S) → IsGathered c g → IsNotWritten output (length (rows_in g.run.table)) IsUntouched fault
     → IsNotWritten output (length (rows_in c.table)) IsUntouched fault

@@ -35,10 +35,24 @@ pub record Collects (status : ℕ) (IsUntouched Ran TellsNotHad : Type 0) : Type
   pub not_had : status ≡ number_of NotOpened → IsUntouched
   pub stopped : status ≡ number_of NotOpened → TellsNotHad
 
--- an engine that has a fault with however many sources is refused: the fault that it has with so many is told, and nothing is written
-abbrev pub RefusesEngine : Engine → ℕ → ℕ → Type 0 → (List ℕ → Type 0) → Type 0
-RefusesEngine engine count status IsUntouched AreTold =
-    IfSome (fault_of_engine engine) (λ any. (status ≡ number_of Failed) × IsUntouched × IfSome (due_fault engine count) (λ fault. AreTold (collect_fault_line fault)))
+-- a fact that holds if an engine has a fault with however many sources
+abbrev pub IfUnfit : Engine → Type 0 → Type 0
+IfUnfit engine P = IfSome (fault_of_engine engine) (λ any. P)
+
+-- a fact that holds if it has none
+abbrev pub IfFits : Engine → Type 0 → Type 0
+IfFits engine P = IfNone (fault_of_engine engine) P
+
+-- if it has one, the fault that it has with so many sources is told
+abbrev pub TellsUnfit : Engine → ℕ → (List ℕ → Type 0) → Type 0
+TellsUnfit engine count AreTold = IfUnfit engine (IfSome (due_fault engine count) (λ fault. AreTold (collect_fault_line fault)))
+
+-- a fact that holds if there is to be a connection, and it has a limit of no time
+abbrev pub IfNoTimeFor : Option Duration → ℕ → Type 0 → Type 0
+IfNoTimeFor idle count P = IfSome idle (λ limit. as_nanos limit ≡ 0 → 0 < count → P)
+
+abbrev pub IfNoTime : Connections → Type 0 → Type 0
+IfNoTime to P = IfNoTimeFor to.idle to.count P
 
 -- with how sources are had, and how it is told that they aren't
 module _ {S W : Type 0} (seen : S → SourceView) (AreHad : List S → Type 0) (TellsNotHad : Type 0) (contents : W → Option (List ℕ)) (old new : W) (AreTold : List ℕ → Type 0) (status : ℕ) where
@@ -87,11 +101,3 @@ module _ {S L : Type 0} (seen : S → SourceView) (gives : L → Option Duration
       let first = if_verbose job.verbosity (listening_line to.address.now to.count) in
       let TellsNone = TellsNotAccepted (is_of before) (refuses before) job.verbosity first to.address.now AreTold in
       CollectsJob seen (AreConnections to.idle to.count) TellsNone contents old new AreTold (number_of status) failure job (ArePeers (is_of before)) first
-
--- a fact that holds if an engine has no fault with however many sources
-abbrev pub IfFits : Engine → Type 0 → Type 0
-IfFits engine P = IfNone (fault_of_engine engine) P
-
--- a fact that holds if there is to be a connection that has a limit of no time
-abbrev pub IfNoTime : Connections → Type 0 → Type 0
-IfNoTime to P = IfSome to.idle (λ limit. as_nanos limit ≡ 0 → 0 < to.count → P)

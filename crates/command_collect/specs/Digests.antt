@@ -1,5 +1,7 @@
 -- The digests of what the sources of a run gave.
 use Rattle.std.specs.Prelude.{◌≡◌, ◌<◌, ◌^◌, ℕ, ◌+◌, List, [], ◌∷◌, Option, Some, length}
+use Rattle.std.specs.declared.alloc.Global.{Global}
+use Rattle.std.specs.declared.vec.Vec.{Vec}
 use Rattle.sha2.specs.Sha256.{sha256}
 use Rattle.ipfix_session.specs.Sources.{SourceView}
 use Rattle.ipfix_session.specs.declared.report.FullReport.{FullReport}
@@ -18,6 +20,10 @@ AreOfSessions seen texts place (source ∷ sources) (full ∷ fulls) (digest ∷
     IsOfSession seen (texts place) source full digest × AreOfSessions seen texts (place + 1) sources fulls digests
 AreOfSessions seen texts place [] [] [] = Unit {0}
 AreOfSessions seen texts place sources fulls digests = ⊥
+
+-- the same from the first place on
+abbrev pub AreDigested : {S : Type 0} → (S → SourceView) → (ℕ → Option (List ℕ)) → Vec S Global → List FullReport → Vec (List ℕ) Global → Type 0
+AreDigested seen texts sources fulls digests = AreOfSessions seen texts 0 sources.items fulls digests.items
 
 -- of each source there is the digest of the messages that count by the report of its session
 abbrev pub AreDigestsOf : {S : Type 0} → (S → SourceView) → List S → List FullReport → List (List ℕ) → Type 0

@@ -1,12 +1,16 @@
 -- What a verbose run names where a sum is too large.
 use Rattle.std.specs.Prelude.{ℕ, ◌+◌, List, [], ◌∷◌, ◌++◌, map, codes, decimal, if◌then◌else◌, slice_get, unwrap_or, Option, Some, None}
 use Rattle.ipfix_wire.specs.declared.specifier.ElementId.{ElementId}
+use Rattle.std.specs.List.{flat_map}
 use Rattle.ipfix_elements.specs.Texts.{cell_text}
+use Rattle.ipfix_elements.specs.declared.cell.Cell.{Cell}
 use Rattle.flow_table.specs.Plans.{PlanValue}
+use Rattle.flow_table.specs.declared.key.Key.{Key}
 use Rattle.flow_table.specs.declared.table.RowPlace.{RowPlace}
 use Rattle.flow_export.specs.CsvText.{line}
 use Rattle.flow_export.specs.Intervals.{first_in, last_in}
 use Rattle.flow_export.specs.Shown.{shown_cells}
+use Rattle.flow_export.specs.Written.{next_cell}
 use Rattle.flow_export.specs.declared.intervals.Intervals.TheVariants.{OfPlan}
 use Rattle.flow_collect.specs.declared.failure.CollectFailure.{CollectFailure}
 use Rattle.report_writing.specs.OpeningLines.{if_verbose}
@@ -29,6 +33,14 @@ place_texts plan row =
 unfoldable pub interval_text : ℕ → ℕ → List ℕ
 interval_text first last = codes "collectd: collect: too large: " ++ (decimal first ++ (codes "," ++ decimal last))
 
+-- those of an interval
+abbrev pub interval_start : PlanValue → ℕ → List ℕ
+interval_start plan interval = interval_text (first_in OfPlan plan interval) (last_in OfPlan plan interval)
+
+-- and how it goes on: a comma and a cell for each of its key, as tables show it
+abbrev pub next_cells : List Key → List Cell → List ℕ
+next_cells keys cells = flat_map next_cell (shown_cells keys cells)
+
 abbrev pub row_line : PlanValue → RowPlace → List ℕ
 row_line plan row = codes "collectd: collect: too large: " ++ line (place_texts plan row)
 
@@ -49,9 +61,13 @@ abbrev pub session_lines : List Origin → Option ℕ → List ℕ
 session_lines origins None = []
 session_lines origins (Some place) = session_line origins place
 
+-- both
+abbrev pub named_lines : PlanValue → List Origin → CollectFailure → List ℕ
+named_lines plan origins failure = row_lines plan failure.row ++ session_lines origins failure.session
+
+-- which a verbose run tells
 abbrev pub large_lines : Verbosity → PlanValue → List Origin → CollectFailure → List ℕ
-large_lines verbosity plan origins failure =
-    if_verbose verbosity (row_lines plan failure.row ++ session_lines origins failure.session)
+large_lines verbosity plan origins failure = if_verbose verbosity (named_lines plan origins failure)
 
 -- the line of the fault, and what is named after it
 abbrev pub failure_lines : Verbosity → PlanValue → List Origin → CollectFailure → List ℕ

@@ -11,6 +11,7 @@ pub mod Collects
 pub mod Limits
 pub mod Digests
 pub mod Hashing
+pub mod HashedTables
 pub mod Inputs
 pub mod Tables
 pub mod Made

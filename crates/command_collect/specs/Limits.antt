@@ -5,6 +5,7 @@ use Rattle.flow_collect.specs.declared.fault.CollectFault.{CollectFault}
 use Rattle.flow_collect.specs.declared.fault.CollectFault.TheVariants.{Workers, Sessions, Link, NoThread, OutOfMemory, SumTooLarge, Sampled}
 use Rattle.report_writing.specs.OpeningLines.{if_verbose}
 use Rattle.report_writing.specs.declared.verbosity.Verbosity.{Verbosity}
+use Rattle.command_collect.specs.Engines.{due_fault}
 use Rattle.command_collect.specs.declared.engine.Engine.{Engine}
 use Rattle.command_collect.specs.declared.engine.Engine.TheVariants.{Links, Lots}
 
@@ -28,6 +29,10 @@ abbrev pub limit_line : Engine → CollectFault → List ℕ
 limit_line engine fault = limit_text (number_of fault) (name_of fault) (limit_words engine fault)
 
 -- only if it is asked for, and there is one
-abbrev pub limit_lines : Verbosity → Engine → Option CollectFault → List ℕ
-limit_lines verbosity engine (Some fault) = if_verbose verbosity (limit_line engine fault)
-limit_lines verbosity engine None = []
+abbrev pub lines_of_limit : Verbosity → Engine → Option CollectFault → List ℕ
+lines_of_limit verbosity engine (Some fault) = if_verbose verbosity (limit_line engine fault)
+lines_of_limit verbosity engine None = []
+
+-- of the fault that there is with so many sessions
+abbrev pub limit_lines : Verbosity → Engine → ℕ → List ℕ
+limit_lines verbosity engine sessions = lines_of_limit verbosity engine (due_fault engine sessions)

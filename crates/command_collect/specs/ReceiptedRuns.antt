@@ -24,7 +24,7 @@ use Rattle.output_tables.specs.TableTexts.{IsNotWritten}
 use Rattle.table_receipts.specs.Texts.{receipt_text}
 use Rattle.table_receipts.specs.Values.{ReceiptValue}
 use Rattle.command_collect.specs.Collects.{Collects}
-use Rattle.command_collect.specs.Engines.{CollectsBy}
+use Rattle.command_collect.specs.Engines.{CollectsInContext}
 use Rattle.command_collect.specs.Exporters.{in_noting_context}
 use Rattle.command_collect.specs.Gathered.{samplings_in}
 use Rattle.command_collect.specs.Jobs.{job_text}
@@ -96,7 +96,7 @@ module _ {S : Type 0} (seen : S → SourceView) (sources : List S) where
   -- all was collected, and there is no receipt of it for this reason
   pub record IsNotReceipted (job : CollectJob) (origins : List Origin) (IsUntouched : Type 0) (fault : RunFault) : Type 0 where
     pub collected : FullSerialAnswer S
-    pub collects : CollectsBy job.engine (IsGivenInContext seen) (in_noting_context job sources origins) job.plan.now collected
+    pub collects : CollectsInContext seen job.engine (in_noting_context job sources origins) job.plan.now collected
     pub not_put : WithDigests collected (λ digests. IsNotPut job origins (fulls_in collected.sessions.items) digests collected.table IsUntouched fault)
 
   -- why nothing was collected was told, and then nothing was written; or why there is no receipt; and what of the inputs that is

@@ -4,11 +4,11 @@ use Rattle.std.specs.List.{AllZip}
 use Rattle.ipfix_session.specs.Given.{IsPrefix}
 use Rattle.ipfix_session.specs.Sources.{SourceView}
 use Rattle.flow_collect.specs.Contexts.{records_in_context, sources_of}
-use Rattle.flow_collect.specs.InFull.{FullSerialAnswer, IsGivenInContext, fulls_in}
+use Rattle.flow_collect.specs.InFull.{FullSerialAnswer, fulls_in}
 use Rattle.flow_collect.specs.Texts.{AreTexts}
 use Rattle.report_writing.specs.declared.origin.Origin.{Origin}
 use Rattle.table_receipts.specs.Values.{receipt_value}
-use Rattle.command_collect.specs.Engines.{CollectsBy}
+use Rattle.command_collect.specs.Engines.{CollectsInContext}
 use Rattle.command_collect.specs.Exporters.{in_noting_context}
 use Rattle.command_collect.specs.Gathered.{samplings_in}
 use Rattle.command_collect.specs.Jobs.{job_text}
@@ -26,7 +26,7 @@ module _ {S : Type 0} (seen : S → SourceView) where
   pub record IsRemade (job : CollectJob) (made : MadeWith) (sources : List S) (origins : List Origin) (remade : Remade) : Type 0 where
     -- what the headline says
     pub collected : FullSerialAnswer S
-    pub collects : CollectsBy job.engine (IsGivenInContext seen) (in_noting_context job sources origins) job.plan.now collected
+    pub collects : CollectsInContext seen job.engine (in_noting_context job sources origins) job.plan.now collected
     -- the records of each session are the first of those that its source's whole text gives
     pub first : (texts : List (List ℕ)) → AreTexts seen (sources_of (in_noting_context job sources origins)) texts
         → AllZip IsPrefix collects.headline.records (records_in_context (in_noting_context job sources origins) texts)

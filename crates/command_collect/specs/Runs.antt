@@ -41,7 +41,7 @@ use Rattle.command_collect.specs.Engines.{due_fault, CollectsBy}
 use Rattle.command_collect.specs.Exporters.{in_context}
 use Rattle.command_collect.specs.Gathered.{all_filtered, IsGathered, samplings_in, times_of_each}
 use Rattle.command_collect.specs.Large.{failure_lines}
-use Rattle.command_collect.specs.Told.{run_lines, TellsFault}
+use Rattle.command_collect.specs.Told.{counts_told, run_lines, TellsFault}
 use Rattle.command_collect.specs.declared.engine.Engine.{Engine}
 use Rattle.command_collect.specs.declared.gathered.Gathered.{Gathered}
 use Rattle.command_collect.specs.declared.job.CollectJob.{CollectJob}
@@ -178,7 +178,7 @@ module _ {W : Type 0} (contents : W → Option (List ℕ)) (old new : W) (AreTol
   abbrev pub WritesAndTellsJob : {S : Type 0} → (S → Option ErrorKind) → CollectJob → List Origin → FullSerialAnswer S → Type 0
   WritesAndTellsJob failure job origins c =
       Writes job.elements.now job.plan.now job.output (contents old) (contents new) c.table
-      × TellsEnded failure c.sources.items (fulls_in c.sessions.items) (run_lines job origins (samplings_in c.sessions.items) (times_of_each c.sessions.items) c.table (capped (all_filtered c.sessions.items))) AreTold
+      × TellsEnded failure c.sources.items (fulls_in c.sessions.items) (run_lines job origins (counts_told job origins (samplings_in c.sessions.items) (times_of_each c.sessions.items) c.table (capped (all_filtered c.sessions.items)))) AreTold
 
   -- and how one ended with a job, of sources with what their sessions know by their origins, as far as the job wants it
   abbrev pub RunsJob : {S : Type 0} → (S → SourceView) → (S → Option ErrorKind) → List S → CollectJob → List Origin → ℕ → Type 0

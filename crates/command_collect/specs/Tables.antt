@@ -5,6 +5,7 @@ use Rattle.ipfix_wire.specs.declared.specifier.ElementId.{ElementId}
 use Rattle.flow_export.specs.declared.format.Format.{Format}
 use Rattle.flow_export.specs.declared.format.Format.TheVariants.{Csv, Json, Ipfix}
 use Rattle.flow_table.specs.AddedUp.{rows_in}
+use Rattle.flow_table.specs.Plans.{PlanValue}
 use Rattle.flow_table.specs.SameTables.{RowValue}
 use Rattle.flow_table.specs.declared.table.Table.{Table}
 use Rattle.flow_table.specs.declared.tally.Tally.{Tally}
@@ -30,6 +31,10 @@ sums_from known rows place [] = []
 sums_from known rows place (counter ∷ counters) =
     record { name = element_name known counter; total = sum_at place rows } ∷ sums_from known rows (place + 1) counters
 
+-- of all counters of a table
+abbrev pub sums_of : List Known → List ElementId → Table → List SumValue
+sums_of known counters table = sums_from known (rows_in table) 0 counters
+
 abbrev pub flows_of : List RowValue → ℕ
 flows_of rows = sum_by (λ (row : RowValue). row.flows) rows
 
@@ -37,14 +42,14 @@ abbrev pub counts_of : Tally → RecordCounts
 counts_of t = record { used = t.used; options = t.options; untimed = t.untimed; backward = t.backward; unkeyed = t.unkeyed; too_long = t.too_long }
 
 -- by the digest of its text; its rows have the plan's intervals
-abbrev pub table_of : List Known → List ElementId → Output → TextDigest → Table → TableValue
-table_of known counters output text table = record {
+abbrev pub table_of : List Known → PlanValue → Output → TextDigest → Table → TableValue
+table_of known plan output text table = record {
   format = format_of output.format;
   time = output.time;
   into = None;
   octets = text.octets;
   digest = text.sha256;
   rows = length (rows_in table);
-  sums = sums_from known (rows_in table) 0 counters;
+  sums = sums_of known plan.counters table;
   flows = flows_of (rows_in table);
 }

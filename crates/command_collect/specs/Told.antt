@@ -16,6 +16,7 @@ use Rattle.report_sessions.specs.ToldLines.{told_lines}
 use Rattle.report_writing.specs.declared.origin.Origin.{Origin}
 use Rattle.report_writing.specs.declared.reason.Reason.{Reason}
 use Rattle.report_writing.specs.declared.verbosity.Verbosity.{Verbosity}
+use Rattle.command_collect.specs.declared.gathered.Gathered.{Gathered}
 use Rattle.command_collect.specs.declared.job.CollectJob.{CollectJob}
 use Rattle.input_sources.specs.Had.{IsReasonOf}
 use Rattle.input_sources.specs.InputsTold.{opened_lines, StopsAt, TellsPeers}
@@ -35,10 +36,13 @@ abbrev pub counts_told : CollectJob → List Origin → List SamplingReport → 
 counts_told job origins samplings times table filtered =
     sampling_told job.verbosity origins samplings ++ (times_told job.times origins times ++ table_told job table filtered)
 
--- the sessions, in order, and then that
-abbrev pub run_lines : CollectJob → List Origin → List SamplingReport → List TimesReport → Table → ℕ → List EndedSession → List ℕ
-run_lines job origins samplings times table filtered ended =
-    told_lines job.verbosity job.elements.now origins ended ++ counts_told job origins samplings times table filtered
+-- the same of what was gathered
+abbrev pub gathered_counts : {S : Type 0} → CollectJob → List Origin → Gathered S → List ℕ
+gathered_counts job origins g = counts_told job origins g.sampling.items g.times.items g.run.table g.filtered
+
+-- the sessions, in order, and then these lines of their counts
+abbrev pub run_lines : CollectJob → List Origin → List ℕ → List EndedSession → List ℕ
+run_lines job origins counts ended = told_lines job.verbosity job.elements.now origins ended ++ counts
 
 -- after the first lines each session is told when it is had, with its origin; and after these what the last fact says
 pub record TellsBehind (AreOrigins : List Origin → Type 0) (verbosity : Verbosity) (first : List ℕ) (AreTold : List ℕ → Type 0) (Tells : List Origin → (List ℕ → Type 0) → Type 0) : Type 0 where

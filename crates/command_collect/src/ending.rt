@@ -6,7 +6,7 @@ ghost use Rattle.flow_collect.specs.InFull.{FullSerialAnswer};
 ghost use Rattle.flow_collect.specs.Texts.{HasNoFault};
 ghost use Rattle.report_sessions.specs.EndedSessions.{TellsEnded};
 ghost use Rattle.command_collect.specs.Runs.{AddsUpIfWell, GatheredWell, JobWentWell, WentWell};
-ghost use Rattle.command_collect.specs.Told.{counts_told, if_filtered as if_filtered_by, run_lines, table_told};
+ghost use Rattle.command_collect.specs.Told.{gathered_counts, if_filtered as if_filtered_by, run_lines, table_told};
 
 use crate::gathered::Gathered;
 use crate::job::CollectJob;
@@ -98,7 +98,7 @@ pub fn tell<S: Source + Drop, E: WriteLines>(
     err: &mut E,
 ) -> io::Result<()>
     ensures { let g = gathered.now in TellsEnded S.failure g.run.sources.items g.run.sessions.items
-        (run_lines job.now origins.now g.sampling.items g.times.items g.run.table g.filtered)
+        (run_lines job.now origins.now (gathered_counts job.now origins.now g))
         (Tells E.lines err.old err.new result) }
 {
     let run = &gathered.run;
@@ -121,8 +121,7 @@ fn tell_counts<S: Drop, E: WriteLines>(
     err: &mut E,
 ) -> io::Result<()>
     ensures { Tells E.lines err.old err.new result
-        (counts_told job.now origins.now gathered.now.sampling.items gathered.now.times.items
-        gathered.now.run.table gathered.now.filtered) }
+        (gathered_counts job.now origins.now gathered.now) }
 {
     write_sampling(job.verbosity, origins, &gathered.sampling, err)?;
     write_times(job.times, origins, &gathered.times, err)?;

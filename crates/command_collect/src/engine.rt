@@ -1,10 +1,10 @@
 //! What collects: sessions side by side over links, or lots of sessions one after another.
 
-ghost use Rattle.std.specs.Prelude.{◌≡◌, IfErr, IfOk, vec_len};
+ghost use Rattle.std.specs.Prelude.{◌≡◌, IfErr, IfOk};
 ghost use Rattle.flow_table.specs.Fitting.{FitsPlan};
-ghost use Rattle.flow_collect.specs.Failures.{fault_in, TellsLarge};
-ghost use Rattle.flow_collect.specs.InFull.{IsGivenInContext};
-ghost use Rattle.command_collect.specs.Engines.{due_fault, CollectsBy, HasFaultsBy};
+ghost use Rattle.flow_collect.specs.Failures.{TellsLarge};
+ghost use Rattle.command_collect.specs.Engines.{due_fault, CollectsInContext, HasEngineFaults};
+ghost use Rattle.command_collect.specs.declared.engine.Engine.TheVariants.{Links};
 
 use flow_collect::{
     CollectFailure, CollectFault, Collected, FilteredReport, InContext, OpenGate, Pool, Serial,
@@ -46,10 +46,9 @@ impl Engine {
         sources: Vec<InContext<S>>,
         plan: &Plan,
     ) -> Result<Serial<S, FilteredReport, FlatTable>, CollectFailure>
-        ensures ok { IfOk result (CollectsBy self (IsGivenInContext S.seen) sources.entry.items plan.now) }
+        ensures ok { IfOk result (CollectsInContext S.seen self sources.entry.items plan.now) }
         ensures fits { IfOk result (λ s. FitsPlan plan.now s.table) }
-        ensures faults { HasFaultsBy S.seen self sources.entry.items plan.now (vec_len sources.entry)
-            (fault_in result) }
+        ensures faults { HasEngineFaults S.seen self sources.entry plan.now result }
         ensures large { IfErr result (TellsLarge S.seen plan.now sources.entry.items) }
     {
         match self {
@@ -67,11 +66,9 @@ fn collect_over_links<S: Source + Send + Drop, R: Threads + Wait + Sync>(
     plan: &Plan,
     pool: Pool,
 ) -> Result<Serial<S, FilteredReport, FlatTable>, CollectFailure>
-    ensures ok { IfOk result (CollectsBy (Engine.Links pool) (IsGivenInContext S.seen) sources.entry.items
-        plan.now) }
+    ensures ok { IfOk result (CollectsInContext S.seen (Links pool) sources.entry.items plan.now) }
     ensures fits { IfOk result (λ s. FitsPlan plan.now s.table) }
-    ensures faults { HasFaultsBy S.seen (Engine.Links pool) sources.entry.items plan.now
-        (vec_len sources.entry) (fault_in result) }
+    ensures faults { HasEngineFaults S.seen (Links pool) sources.entry plan.now result }
     ensures large { IfErr result (TellsLarge S.seen plan.now sources.entry.items) }
 {
     match collect_flat(rt, alloc, sources, plan, pool, &OpenGate) {

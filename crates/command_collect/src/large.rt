@@ -1,14 +1,12 @@
 //! What a verbose run names where a sum is too large.
 
-ghost use Rattle.std.specs.Prelude.{◌≡◌, ◌++◌, flat_map, option_map, slice_get};
+ghost use Rattle.std.specs.Prelude.{◌≡◌, option_map, slice_get};
 ghost use Rattle.std.specs.Option.{option_map_or};
-ghost use Rattle.flow_export.specs.Intervals.{first_in, last_in};
-ghost use Rattle.flow_export.specs.Shown.{shown_cell as shown, shown_cells};
+ghost use Rattle.flow_export.specs.Shown.{shown_cell as shown};
 ghost use Rattle.flow_export.specs.Written.{next_cell};
-ghost use Rattle.flow_export.specs.declared.intervals.Intervals.TheVariants.{OfPlan};
 ghost use Rattle.report_writing.specs.Origins.{number_text, origin_text};
 ghost use Rattle.report_writing.specs.Writing.{Tells};
-ghost use Rattle.command_collect.specs.Large as lines;
+ghost use Rattle.command_collect.specs.Large.{failure_lines, interval_start, interval_text, large_lines, named_lines, next_cells, noted_counters, origin_at, row_line, row_lines, session_line};
 
 use crate::cells::write_cell;
 use crate::collect_fault::write_collect_fault;
@@ -23,7 +21,7 @@ use std::io;
 /// The counters of a plan, of which a verbose run notes whether a record has one above 2^63.
 pub fn noted_counters(verbosity: Verbosity, plan: &Plan) -> Option<&[ElementId]>
     ensures { option_map (λ counters. counters.now) result ≡
-        lines.noted_counters verbosity plan.now }
+        noted_counters verbosity plan.now }
 {
     if verbosity.verbose {
         Some(plan.counters())
@@ -42,7 +40,7 @@ pub fn write_failure<W: WriteLines>(
     out: &mut W,
 ) -> io::Result<()>
     ensures { Tells W.lines out.old out.new result
-        (lines.failure_lines verbosity plan.now origins.now failure.now) }
+        (failure_lines verbosity plan.now origins.now failure.now) }
 {
     write_collect_fault(failure.fault, out)?;
     write_large(verbosity, plan, origins, failure, out)
@@ -56,7 +54,7 @@ fn write_large<W: WriteLines>(
     out: &mut W,
 ) -> io::Result<()>
     ensures { Tells W.lines out.old out.new result
-        (lines.large_lines verbosity plan.now origins.now failure.now) }
+        (large_lines verbosity plan.now origins.now failure.now) }
 {
     if verbosity.verbose {
         write_named(plan, origins, failure, out)
@@ -72,8 +70,7 @@ fn write_named<W: WriteLines>(
     out: &mut W,
 ) -> io::Result<()>
     ensures { Tells W.lines out.old out.new result
-        (lines.row_lines plan.now failure.now.row
-        ++ lines.session_lines origins.now failure.now.session) }
+        (named_lines plan.now origins.now failure.now) }
 {
     write_if_row(plan, &failure.row, out)?;
     match failure.session {
@@ -84,7 +81,7 @@ fn write_named<W: WriteLines>(
 
 fn write_if_row<W: WriteLines>(plan: &Plan, row: &Option<RowPlace>, out: &mut W) -> io::Result<()>
     ensures { Tells W.lines out.old out.new result
-        (lines.row_lines plan.now row.now) }
+        (row_lines plan.now row.now) }
 {
     match row {
         Some(row) => write_row(plan, row, out),
@@ -94,7 +91,7 @@ fn write_if_row<W: WriteLines>(plan: &Plan, row: &Option<RowPlace>, out: &mut W)
 
 fn write_row<W: WriteLines>(plan: &Plan, row: &RowPlace, out: &mut W) -> io::Result<()>
     ensures { Tells W.lines out.old out.new result
-        (lines.row_line plan.now row.now) }
+        (row_line plan.now row.now) }
 {
     write_interval(plan, row.interval, out)?;
     write_key(plan.keys(), &row.key, out)?;
@@ -103,8 +100,8 @@ fn write_row<W: WriteLines>(plan: &Plan, row: &RowPlace, out: &mut W) -> io::Res
 
 // The first and the last millisecond, in 128 bits since no bound is known of the number.
 fn write_interval<W: WriteLines>(plan: &Plan, interval: u64, out: &mut W) -> io::Result<()>
-    ensures { Tells W.lines out.old out.new result (lines.interval_text
-        (first_in OfPlan plan.now interval) (last_in OfPlan plan.now interval)) }
+    ensures { Tells W.lines out.old out.new result
+        (interval_start plan.now interval) }
 {
     let length = u128::from(plan.length());
     let first = u128::from(interval) * length;
@@ -114,7 +111,7 @@ fn write_interval<W: WriteLines>(plan: &Plan, interval: u64, out: &mut W) -> io:
 #[tactic(auto, unfolding(crate::specs::Large::interval_text))]
 fn write_bounds<W: WriteLines>(first: u128, last: u128, out: &mut W) -> io::Result<()>
     ensures { Tells W.lines out.old out.new result
-        (lines.interval_text first last) }
+        (interval_text first last) }
 {
     write!(out, "collectd: collect: too large: {first},{last}")
 }
@@ -122,7 +119,7 @@ fn write_bounds<W: WriteLines>(first: u128, last: u128, out: &mut W) -> io::Resu
 // A comma and a cell for each, as tables show it.
 fn write_key<W: WriteLines>(keys: &[Key], cells: &[Cell], out: &mut W) -> io::Result<()>
     ensures { Tells W.lines out.old out.new result
-        (flat_map next_cell (shown_cells keys.now cells.now)) }
+        (next_cells keys.now cells.now) }
 {
     for index in 0..cells.len() {
         let cell = shown_under(keys, index, cells[index]);
@@ -151,7 +148,7 @@ fn write_next_cell<W: WriteLines>(cell: &Cell, out: &mut W) -> io::Result<()>
 // The session of a number, from 0.
 fn write_session<W: WriteLines>(origins: &[Origin], place: usize, out: &mut W) -> io::Result<()>
     ensures { Tells W.lines out.old out.new result
-        (lines.session_line origins.now place) }
+        (session_line origins.now place) }
 {
     write_number(place as u128 + 1, out)?;
     write_origin_at(origins, place, out)?;
@@ -167,7 +164,7 @@ fn write_number<W: WriteLines>(session: u128, out: &mut W) -> io::Result<()>
 
 fn write_origin_at<W: WriteLines>(origins: &[Origin], place: usize, out: &mut W) -> io::Result<()>
     ensures { Tells W.lines out.old out.new result
-        (origin_text (lines.origin_at origins.now place)) }
+        (origin_text (origin_at origins.now place)) }
 {
     match origins.get(place) {
         Some(origin) => write_origin(origin, out),

@@ -2,7 +2,6 @@
 
 ghost use Rattle.std.specs.Prelude.{◌≡◌};
 ghost use Rattle.report_writing.specs.OpeningLines.{if_verbose};
-ghost use Rattle.command_collect.specs.Engines.{due_fault};
 ghost use Rattle.command_collect.specs.Limits.{limit_line, limit_lines, limit_text, limit_words as words_of};
 ghost use Rattle.report_writing.specs.Writing.{Tells};
 
@@ -20,7 +19,7 @@ pub fn write_limit<W: WriteLines>(
     out: &mut W,
 ) -> io::Result<()>
     ensures { Tells W.lines out.old out.new result
-        (limit_lines verbosity engine (due_fault engine sessions)) }
+        (limit_lines verbosity engine sessions) }
 {
     match engine.refusal(sessions) {
         Some(fault) => write_if_verbose(verbosity, engine, fault, out),

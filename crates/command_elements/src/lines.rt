@@ -4,7 +4,7 @@ ghost use Rattle.std.specs.Prelude.{◌≡◌, [], ◌∷◌, IfOk, OnOk};
 ghost use Rattle.ipfix_elements.specs.Names.{numbered_text};
 ghost use Rattle.ipfix_elements.specs.Writers.{Writes};
 ghost use Rattle.command_elements.specs.Lines.{blanks, column, line_of, uses};
-ghost use Rattle.command_elements.specs.Searches.{Shows, seen};
+ghost use Rattle.command_elements.specs.Searches.{ShowsTo, seen};
 
 use crate::fitting::fits;
 use crate::search::{Listed, Search};
@@ -24,7 +24,7 @@ const TYPE_WIDTH: usize = 20;
 /// Writes the line of an element, with what it may be in a plan, if the word fits it. Answers whether it does.
 #[tactic(auto, using(crate::proofs::Joined::shows_one))]
 pub fn write_if_fits<W: Write>(search: &Search, item: &Listed, out: &mut W) -> io::Result<bool>
-    ensures { IfOk result (Shows search.now (seen item.now ∷ []) (Writes W.contents out.old out.new)) }
+    ensures { IfOk result (ShowsTo W.contents out.old out.new search.now (seen item.now ∷ [])) }
 {
     let found = fits(search.word, item.element, item.name);
     if found {

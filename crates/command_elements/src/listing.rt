@@ -1,9 +1,8 @@
 //! The list of the elements that are known.
 
 ghost use Rattle.std.specs.Prelude.{[], ◌∷◌, IfOk};
-ghost use Rattle.ipfix_elements.specs.Writers.{Writes};
 ghost use Rattle.command_elements.specs.Listed.{built_in, built_in_at, of_files};
-ghost use Rattle.command_elements.specs.Searches.{Shows, all_in};
+ghost use Rattle.command_elements.specs.Searches.{ShowsAll, ShowsTo};
 
 use crate::lines::write_if_fits;
 use crate::search::{Listed, Search};
@@ -19,7 +18,7 @@ const NUMBER_LIMIT: u16 = 0x8000;
 /// by their numbers, and then those of files as they stand there; each with what it may be in a plan, a key or a
 /// counter. Answers whether there is any, and flushes the writer.
 pub fn list_elements<W: Write>(search: &Search, out: &mut W) -> io::Result<bool>
-    ensures { IfOk result (Shows search.now (all_in search.now) (Writes W.contents out.old out.new)) }
+    ensures { IfOk result (ShowsAll W.contents out.old out.new search.now) }
 {
     let is_any = write_listed(search, out)?;
     out.flush()?;
@@ -27,7 +26,7 @@ pub fn list_elements<W: Write>(search: &Search, out: &mut W) -> io::Result<bool>
 }
 
 fn write_listed<W: Write>(search: &Search, out: &mut W) -> io::Result<bool>
-    ensures { IfOk result (Shows search.now (all_in search.now) (Writes W.contents out.old out.new)) }
+    ensures { IfOk result (ShowsAll W.contents out.old out.new search.now) }
 {
     let is_built_in = write_built_in(search, out)?;
     let is_of_file = write_entries(search, search.elements.entries(), out)?;
@@ -35,7 +34,7 @@ fn write_listed<W: Write>(search: &Search, out: &mut W) -> io::Result<bool>
 }
 
 fn write_built_in<W: Write>(search: &Search, out: &mut W) -> io::Result<bool>
-    ensures { IfOk result (Shows search.now built_in (Writes W.contents out.old out.new)) }
+    ensures { IfOk result (ShowsTo W.contents out.old out.new search.now built_in) }
 {
     let mut is_any = false;
     for number in 0..NUMBER_LIMIT {
@@ -47,7 +46,7 @@ fn write_built_in<W: Write>(search: &Search, out: &mut W) -> io::Result<bool>
 // Writes the line of a built-in element, if there is one of this number and the word fits it.
 fn write_number<W: Write>(search: &Search, number: u16, out: &mut W) -> io::Result<bool>
     ensures { IfOk result
-        (Shows search.now (built_in_at number) (Writes W.contents out.old out.new)) }
+        (ShowsTo W.contents out.old out.new search.now (built_in_at number)) }
 {
     let element = ElementId::iana(number);
     match name_of(element) {
@@ -69,7 +68,7 @@ fn write_number<W: Write>(search: &Search, number: u16, out: &mut W) -> io::Resu
 
 fn write_entries<W: Write>(search: &Search, entries: &[Entry], out: &mut W) -> io::Result<bool>
     ensures { IfOk result
-        (Shows search.now (of_files entries.now) (Writes W.contents out.old out.new)) }
+        (ShowsTo W.contents out.old out.new search.now (of_files entries.now)) }
 {
     let mut is_any = false;
     for entry in entries {
@@ -80,7 +79,7 @@ fn write_entries<W: Write>(search: &Search, entries: &[Entry], out: &mut W) -> i
 
 fn write_entry<W: Write>(search: &Search, entry: &Entry, out: &mut W) -> io::Result<bool>
     ensures { IfOk result
-        (Shows search.now (of_files (entry.now ∷ [])) (Writes W.contents out.old out.new)) }
+        (ShowsTo W.contents out.old out.new search.now (of_files (entry.now ∷ []))) }
 {
     write_if_fits(
         search,

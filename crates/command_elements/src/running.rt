@@ -8,7 +8,7 @@ ghost use Rattle.report_writing.specs.Lines.{StaysFailed};
 ghost use Rattle.report_writing.specs.Told.{AreToldTo};
 ghost use Rattle.command_elements.specs.ErrorLines.{failed_line, none_line};
 ghost use Rattle.command_elements.specs.Runs.{RunsElements};
-ghost use Rattle.command_elements.specs.Searches.{Shows, all_in};
+ghost use Rattle.command_elements.specs.Searches.{ShowsAll};
 
 use crate::error_lines::{write_failed, write_none};
 use crate::listing::list_elements;
@@ -54,10 +54,10 @@ fn list_known<W: Write, E: WriteLines>(search: &Search, out: &mut W, err: &mut E
     ensures statuses { (result ≡ Status.Well) ⊎ (result ≡ Status.NotOpened)
         ⊎ (result ≡ Status.Failed) }
     ensures listed { result ≡ Status.Well
-        → Shows search.now (all_in search.now) (Writes W.contents out.old out.new) true }
+        → ShowsAll W.contents out.old out.new search.now true }
     ensures untold { result ≡ Status.Well → err.new ≡ err.old }
     ensures none { result ≡ Status.NotOpened
-        → Shows search.now (all_in search.now) (Writes W.contents out.old out.new) false }
+        → ShowsAll W.contents out.old out.new search.now false }
     ensures none_told { result ≡ Status.NotOpened
         → AreToldTo E.lines err.old err.new none_line }
     ensures failed { result ≡ Status.Failed

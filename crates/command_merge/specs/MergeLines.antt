@@ -48,6 +48,18 @@ named_file_line file name text = file_start file ++ (whole_name name ++ text)
 abbrev pub file_opened_line : ℕ → List ℕ → List ℕ
 file_opened_line file name = named_file_line file name (codes ": opened\n")
 
+-- which is told if that is asked for
+abbrev pub file_told : Verbosity → ℕ → List ℕ → List ℕ
+file_told verbosity file name = if_verbose verbosity (file_opened_line file name)
+
+-- the fault of a file, with the file's name
+abbrev pub named_fault_line : ℕ → List ℕ → MergeFault → List ℕ
+named_fault_line file name fault = named_file_line file name (merge_fault_text fault)
+
+-- which is told if that is asked for
+abbrev pub named_fault_told : Verbosity → ℕ → List ℕ → MergeFault → List ℕ
+named_fault_told verbosity file name fault = if_verbose verbosity (named_fault_line file name fault)
+
 -- why a file could not be read on, if that is its fault, and what the system answered is known
 abbrev pub unread_reason : MergeFault → Option ErrorKind → Option Reason
 unread_reason (Session fault) failure = read_reason (Some fault) failure
@@ -56,8 +68,7 @@ unread_reason fault failure = None
 -- the fault of a file; if that is asked for, once more with the file's name, and why it could not be read on
 abbrev pub file_fault_lines : Verbosity → ℕ → List ℕ → FileFault → List ℕ
 file_fault_lines verbosity file name failed =
-    file_fault_line file failed.fault
-    ++ (if_verbose verbosity (named_file_line file name (merge_fault_text failed.fault)) ++ unread_lines verbosity name failed.reason)
+    file_fault_line file failed.fault ++ (named_fault_told verbosity file name failed.fault ++ unread_lines verbosity name failed.reason)
 
 -- a fault that is no file's
 abbrev pub merge_fault_line : MergeFault → List ℕ
@@ -65,7 +76,7 @@ merge_fault_line fault = codes "collectd: merge" ++ fault_text (merging.number_o
 
 -- the files that were opened, counted from 1, if that is asked for
 abbrev pub files_opened_lines : Verbosity → List (List ℕ) → List ℕ
-files_opened_lines verbosity names = flat_map (λ x. if_verbose verbosity (file_opened_line x.0 x.1)) (enumerate_from 1 names)
+files_opened_lines verbosity names = flat_map (λ x. file_told verbosity x.0 x.1) (enumerate_from 1 names)
 
 -- why files were not merged, and how the run ends then
 abbrev pub not_merged_lines : Verbosity → NotMerged → List ℕ

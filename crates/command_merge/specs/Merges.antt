@@ -16,9 +16,8 @@ use Rattle.input_sources.specs.Had.{IsOpened, IsUnread, PathsAreOpened}
 use Rattle.report_writing.specs.declared.reason.Reason.{Reason}
 use Rattle.output_tables.specs.TableTexts.{WritesIn}
 use Rattle.ipfix_session.specs.declared.driver.TheConstants.{READ_LIMIT}
-use Rattle.report_writing.specs.OpeningLines.{if_verbose}
 use Rattle.report_writing.specs.declared.verbosity.Verbosity.{Verbosity}
-use Rattle.command_merge.specs.MergeLines.{file_opened_line, files_opened_lines}
+use Rattle.command_merge.specs.MergeLines.{file_told, files_opened_lines}
 use Rattle.command_merge.specs.MergesStopped.{FailsFile, IsDueTo}
 use Rattle.command_merge.specs.MergesTold.{merge_lines, StopsBehind, TellsNotExported, TellsNotMerged}
 use Rattle.command_merge.specs.declared.job.MergeJob.{MergeJob}
@@ -70,7 +69,7 @@ module _ {S : Type 0} (seen : S → SourceView) where
 -- why the file of this name and number was not added, and what was told by then
 abbrev pub IsNotAddedFor : (Reason → Type 0) → (FileFault → Type 0) → Verbosity → ℕ → List ℕ → (List ℕ → Type 0) → NotMerged → Type 0
 IsNotAddedFor Refuses Fails verbosity file name AreTold (NotOpened path reason) = (path.now ≡ name) × Refuses reason × AreTold []
-IsNotAddedFor Refuses Fails verbosity file name AreTold (File number path fault) = (number ≡ file) × (path.now ≡ name) × Fails fault × AreTold (if_verbose verbosity (file_opened_line file name))
+IsNotAddedFor Refuses Fails verbosity file name AreTold (File number path fault) = (number ≡ file) × (path.now ≡ name) × Fails fault × AreTold (file_told verbosity file name)
 IsNotAddedFor Refuses Fails verbosity file name AreTold (Whole fault) = ⊥
 
 module _ {S O : Type 0} (seen : S → SourceView) (failure : S → Option ErrorKind) (opens : O → List ℕ → S → Type 0) (refuses : O → List ℕ → Reason → Type 0) (coming : O → Option (List S)) (before after : O) where

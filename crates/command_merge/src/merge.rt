@@ -4,9 +4,8 @@ ghost use Rattle.std.specs.Prelude.{IfErr, IfOk, OnOk};
 ghost use Rattle.flow_merge.specs.RowRecords.{CanTakeRows};
 ghost use Rattle.flow_table.specs.Fitting.{FitsPlan};
 ghost use Rattle.report_writing.specs.Lines.{StaysFailed};
-ghost use Rattle.report_writing.specs.OpeningLines.{if_verbose};
 ghost use Rattle.report_writing.specs.Told.{AreToldTo};
-ghost use Rattle.command_merge.specs.MergeLines.{file_opened_line, files_opened_lines};
+ghost use Rattle.command_merge.specs.MergeLines.{file_told, files_opened_lines};
 ghost use Rattle.command_merge.specs.Merges.{AddsFile, IsDueOpened, IsMerged, IsNotAdded, MergesFiles, StopsMerge, names_of};
 ghost use Rattle.input_sources.specs.Had.{HoldBefore, IsOpened, PathsAreOpened};
 
@@ -111,7 +110,7 @@ fn add_file<'a, 'b, S: Source + Drop, O: OpenSource<S>, E: WriteLines>(
     ensures same { HoldBefore (O.opens files.old) (O.opens files.new) }
     ensures same_reason { HoldBefore (O.refuses files.old) (O.refuses files.new) }
     ensures told { OnOk result (AreToldTo E.lines err.old err.new
-        (if_verbose verbosity (file_opened_line number path.now))) }
+        (file_told verbosity number path.now)) }
     ensures stops { IfErr result (IsNotAdded S.seen S.failure O.opens O.refuses O.coming files.old files.new
         merging.entry verbosity number path.now (AreToldTo E.lines err.old err.new)) }
     ensures kept { StaysFailed E.lines err.old err.new }

@@ -2,9 +2,8 @@
 
 ghost use Rattle.std.specs.Prelude.{◌++◌, codes};
 ghost use Rattle.flow_merge.specs.MergeFaults.{number_of, name_of};
-ghost use Rattle.report_writing.specs.OpeningLines.{if_verbose};
 ghost use Rattle.report_writing.specs.FaultLines.{fault_text};
-ghost use Rattle.command_merge.specs.MergeLines.{border_text, file_fault_line, file_fault_lines, file_opened_line, file_start, merge_fault_line, merge_fault_text, merged_line, named_file_line, not_merged_lines};
+ghost use Rattle.command_merge.specs.MergeLines.{border_text, file_fault_line, file_fault_lines, file_opened_line, file_start, file_told, merge_fault_line, merge_fault_text, merged_line, named_fault_line, named_fault_told, not_merged_lines};
 ghost use Rattle.report_writing.specs.Writing.{Tells};
 
 use crate::not_merged::{FileFault, NotMerged};
@@ -78,7 +77,7 @@ fn write_if_verbose<W: WriteLines>(
     out: &mut W,
 ) -> io::Result<()>
     ensures { Tells W.lines out.old out.new result
-        (if_verbose verbosity (named_file_line file name.now (merge_fault_text fault))) }
+        (named_fault_told verbosity file name.now fault) }
 {
     if verbosity.verbose {
         write_named_fault(file, name, fault, out)
@@ -105,7 +104,7 @@ fn write_named_fault<W: WriteLines>(
     out: &mut W,
 ) -> io::Result<()>
     ensures { Tells W.lines out.old out.new result
-        (named_file_line file name.now (merge_fault_text fault)) }
+        (named_fault_line file name.now fault) }
 {
     write_file_start(file, out)?;
     write_origin(&Origin::File { name, size: None }, out)?;
@@ -153,7 +152,7 @@ pub fn write_file_opened<W: WriteLines>(
     out: &mut W,
 ) -> io::Result<()>
     ensures { Tells W.lines out.old out.new result
-        (if_verbose verbosity (file_opened_line file name.now)) }
+        (file_told verbosity file name.now) }
 {
     if verbosity.verbose {
         write_opened_line(file, name, out)

@@ -4,7 +4,6 @@ use Rattle.std.specs.Prelude.{IfErr}
 use Rattle.std.specs.Result.{IsErrAnd}
 use Rattle.std.proofs.lemmas.List.{flat_map_more, length-take-le, take_all, take_more}
 use Rattle.std.proofs.lemmas.Slice.Zip.{all_zipped_more}
-use Rattle.ipfix_session.specs.Sources.{SourceView}
 use Rattle.flow_table.specs.AddedUp.{rows_in, AreAddedUp}
 use Rattle.flow_table.specs.Plans.{PlanValue}
 use Rattle.flow_table.specs.SameTables.{RowValue}
@@ -17,6 +16,7 @@ use Rattle.report_writing.specs.Told.{AreTold}
 use Rattle.report_writing.specs.declared.reason.Reason.{Reason}
 use Rattle.report_writing.specs.declared.verbosity.Verbosity.{Verbosity}
 use Rattle.report_writing.proofs.LinesTold.{both_told}
+use Rattle.command_merge.specs.declared.job.MergeJob.{MergeJob}
 use Rattle.command_merge.specs.MergeLines.{file_opened_line, files_opened_lines}
 use Rattle.command_merge.proofs.FilesTold.{lines_more}
 use Rattle.table_parts.specs.declared.tables.PartTable.{PartTable}
@@ -66,9 +66,9 @@ module _ (Has : List ℕ → List ℕ → Type 0) (intervals : Intervals) (plan 
     one_more old new next so_far = subst (λ (ts : List PartTable). Stands ts new) (sym next_one) (one_added (take i tables) table old new next so_far)
 
     -- one isn't added
-    pub fails_at : {S : Type 0} (seen : S → SourceView) (Refuses : List ℕ → Reason → Type 0) (m : Merging) (not_merged : NotMergedParts) → FailsAfter seen Has Refuses m (i + 1) table not_merged → Stands (take i tables) m
-        → FailsAt seen Has Refuses intervals plan tables (take i tables) table not_merged
-    fails_at seen Refuses m not_merged fails so_far =
+    pub fails_at : (Refuses : List ℕ → Reason → Type 0) (m : Merging) (not_merged : NotMergedParts) → FailsAfter Has Refuses m (i + 1) table not_merged → Stands (take i tables) m
+        → FailsAt Has Refuses intervals plan tables (take i tables) table not_merged
+    fails_at Refuses m not_merged fails so_far =
         let number : i + 1 ≡ length (take i tables) + 1 = ap (λ (n : ℕ). n + 1) (sym (length-take-le i tables (omega (arith, within)))) in
         let due = fails (rows_of so_far.exports) so_far.stands in
         record {
@@ -76,33 +76,33 @@ module _ (Has : List ℕ → List ℕ → Type 0) (intervals : Intervals) (plan 
           are = sym (take-append-drop (i + 1) tables) ∙ ap (λ (l : List PartTable). l ++ drop (i + 1) tables) next_one ∙ append_assoc (take i tables) (table ∷ []) (drop (i + 1) tables);
           exports = so_far.exports;
           added = so_far.are;
-          fails = subst (λ (n : ℕ). FailsNext seen Has Refuses intervals plan (rows_of so_far.exports) n table not_merged) number
-              (subst (λ (p : PlanValue). FailsNext seen Has Refuses intervals p (rows_of so_far.exports) (i + 1) table not_merged) so_far.same_plan
-              (subst (λ (n : Intervals). FailsNext seen Has Refuses n (merging_plan m) (rows_of so_far.exports) (i + 1) table not_merged) so_far.same_intervals due));
+          fails = subst (λ (n : ℕ). FailsNext Has Refuses intervals plan (rows_of so_far.exports) n table not_merged) number
+              (subst (λ (p : PlanValue). FailsNext Has Refuses intervals p (rows_of so_far.exports) (i + 1) table not_merged) so_far.same_plan
+              (subst (λ (n : Intervals). FailsNext Has Refuses n (merging_plan m) (rows_of so_far.exports) (i + 1) table not_merged) so_far.same_intervals due));
         }
 
-    pub stops_at : {S : Type 0} (seen : S → SourceView) (Refuses : List ℕ → Reason → Type 0) (m : Merging) (verbosity : Verbosity) (old mid new : Option (List ℕ)) (Before After : Type 0) (not_merged : NotMergedParts)
-        → AreTold old mid Before (files_opened_lines verbosity (map path_in (take i tables))) → IsNotAdded seen Has Refuses m (i + 1) table verbosity (AreTold mid new After) not_merged → (Before → After) → Stands (take i tables) m
-        → StopsAt (FailsAt seen Has Refuses intervals plan tables) verbosity (AreTold old new After) not_merged
-    stops_at seen Refuses m verbosity old mid new Before After not_merged told not_added kept so_far =
+    pub stops_at : (Refuses : List ℕ → Reason → Type 0) (m : Merging) (verbosity : Verbosity) (old mid new : Option (List ℕ)) (Before After : Type 0) (not_merged : NotMergedParts)
+        → AreTold old mid Before (files_opened_lines verbosity (map path_in (take i tables))) → IsNotAdded Has Refuses m (i + 1) table verbosity (AreTold mid new After) not_merged → (Before → After) → Stands (take i tables) m
+        → StopsAt (FailsAt Has Refuses intervals plan tables) verbosity (AreTold old new After) not_merged
+    stops_at Refuses m verbosity old mid new Before After not_merged told not_added kept so_far =
         let number : i + 1 ≡ length (take i tables) + 1 = ap (λ (n : ℕ). n + 1) (sym (length-take-le i tables (omega (arith, within)))) in
         record {
           before = take i tables;
           table = table;
-          fails = fails_at seen Refuses m not_merged not_added.fails so_far;
+          fails = fails_at Refuses m not_merged not_added.fails so_far;
           told = subst (λ (n : ℕ). AreTold old new After (files_opened_lines verbosity (map path_in (take i tables)) ++ own_line verbosity n table not_merged)) number (both_told old mid new Before After _ _ told not_added.told kept);
         }
 
     -- (no table is to blame for want of memory)
-    pub stops_tables : {S : Type 0} (seen : S → SourceView) (Refuses : List ℕ → Reason → Type 0) (m : Merging) (verbosity : Verbosity) (old mid new : Option (List ℕ)) (Before After : Type 0) (not_merged : NotMergedParts)
-        → AreTold old mid Before (files_opened_lines verbosity (map path_in (take i tables))) → IsNotAdded seen Has Refuses m (i + 1) table verbosity (AreTold mid new After) not_merged → (Before → After) → Stands (take i tables) m
-        → StopsTables (FailsAt seen Has Refuses intervals plan tables) tables verbosity (AreTold old new After) not_merged
-    stops_tables seen Refuses m verbosity old mid new Before After (NotMerged (Whole fault)) told not_added kept so_far = absurd (not_added.fails (rows_of so_far.exports) so_far.stands)
-    stops_tables seen Refuses m verbosity old mid new Before After (NotMerged (NotOpened path reason)) told not_added kept so_far = stops_at seen Refuses m verbosity old mid new Before After (NotMerged (NotOpened path reason)) told not_added kept so_far
-    stops_tables seen Refuses m verbosity old mid new Before After (NotMerged (File number path fault)) told not_added kept so_far = stops_at seen Refuses m verbosity old mid new Before After (NotMerged (File number path fault)) told not_added kept so_far
-    stops_tables seen Refuses m verbosity old mid new Before After (Receipt number files why) told not_added kept so_far = stops_at seen Refuses m verbosity old mid new Before After (Receipt number files why) told not_added kept so_far
-    stops_tables seen Refuses m verbosity old mid new Before After (Part number files fault) told not_added kept so_far = stops_at seen Refuses m verbosity old mid new Before After (Part number files fault) told not_added kept so_far
-    stops_tables seen Refuses m verbosity old mid new Before After (InputTwice number files inputs first second) told not_added kept so_far = stops_at seen Refuses m verbosity old mid new Before After (InputTwice number files inputs first second) told not_added kept so_far
+    pub stops_tables : (Refuses : List ℕ → Reason → Type 0) (m : Merging) (verbosity : Verbosity) (old mid new : Option (List ℕ)) (Before After : Type 0) (not_merged : NotMergedParts)
+        → AreTold old mid Before (files_opened_lines verbosity (map path_in (take i tables))) → IsNotAdded Has Refuses m (i + 1) table verbosity (AreTold mid new After) not_merged → (Before → After) → Stands (take i tables) m
+        → StopsTables (FailsAt Has Refuses intervals plan tables) tables verbosity (AreTold old new After) not_merged
+    stops_tables Refuses m verbosity old mid new Before After (NotMerged (Whole fault)) told not_added kept so_far = absurd (not_added.fails (rows_of so_far.exports) so_far.stands)
+    stops_tables Refuses m verbosity old mid new Before After (NotMerged (NotOpened path reason)) told not_added kept so_far = stops_at Refuses m verbosity old mid new Before After (NotMerged (NotOpened path reason)) told not_added kept so_far
+    stops_tables Refuses m verbosity old mid new Before After (NotMerged (File number path fault)) told not_added kept so_far = stops_at Refuses m verbosity old mid new Before After (NotMerged (File number path fault)) told not_added kept so_far
+    stops_tables Refuses m verbosity old mid new Before After (Receipt number files why) told not_added kept so_far = stops_at Refuses m verbosity old mid new Before After (Receipt number files why) told not_added kept so_far
+    stops_tables Refuses m verbosity old mid new Before After (Part number files fault) told not_added kept so_far = stops_at Refuses m verbosity old mid new Before After (Part number files fault) told not_added kept so_far
+    stops_tables Refuses m verbosity old mid new Before After (InputTwice number files inputs first second) told not_added kept so_far = stops_at Refuses m verbosity old mid new Before After (InputTwice number files inputs first second) told not_added kept so_far
 
     pub told_more : (verbosity : Verbosity) (old mid new : Option (List ℕ)) (Before After : Type 0) → AreTold old mid Before (files_opened_lines verbosity (map path_in (take i tables)))
         → AreTold mid new After (if_verbose verbosity (file_opened_line (i + 1) (path_in table))) → (Before → After) → AreTold old new After (files_opened_lines verbosity (map path_in (take (i + 1) tables)))
@@ -111,9 +111,10 @@ module _ (Has : List ℕ → List ℕ → Type 0) (intervals : Intervals) (plan 
         subst (λ (l : List ℕ). AreTold old new After l) (sym (lines_more path_in tables verbosity i d within))
         (both_told old mid new Before After _ _ first (subst (λ (name : List ℕ). AreTold mid new After (if_verbose verbosity (file_opened_line (i + 1) name))) (sym here) then) kept)
 
-  pub all_merged : (tables : List PartTable) (i : ℕ) (m : Merging) (table : Table) → length tables ≤ i → (so_far : Stands (take i tables) m) → AreAddedUp (rows_of so_far.exports) (rows_in table) → AreMergedInto Has intervals plan tables table
-  all_merged tables i m table all so_far added =
-      record { exports = so_far.exports; are = subst (λ (ts : List PartTable). AreExports Has intervals plan ts so_far.exports) (take_all i tables all) so_far.are; added_up = added }
+pub all_merged : (Has : List ℕ → List ℕ → Type 0) (job : MergeJob) (tables : List PartTable) (i : ℕ) (m : Merging) (table : Table) → length tables ≤ i → (so_far : Stands Has job.intervals job.plan.now (take i tables) m)
+    → AreAddedUp (rows_of so_far.exports) (rows_in table) → AreMergedInto Has job tables table
+all_merged Has job tables i m table all so_far added =
+    record { exports = so_far.exports; are = subst (λ (ts : List PartTable). AreExports Has job.intervals job.plan.now ts so_far.exports) (take_all i tables all) so_far.are; added_up = added }
 
 pub all_told : (tables : List PartTable) (i : ℕ) (verbosity : Verbosity) (old new : Option (List ℕ)) (After : Type 0) → length tables ≤ i → AreTold old new After (files_opened_lines verbosity (map path_in (take i tables))) → AreTold old new After (files_opened_lines verbosity (names_in tables))
 all_told tables i verbosity old new After all told = subst (λ (ts : List PartTable). AreTold old new After (files_opened_lines verbosity (map path_in ts))) (take_all i tables all) told

@@ -23,7 +23,7 @@ into_told into = option_map (λ (merged : Bor MergedInto). into_value merged.now
 -- the merged table, by the digest of its text; into what its rows were merged is what the merge was told
 abbrev pub merged_table_of : PartsJob → TextDigest → Table → TableValue
 merged_table_of job text table =
-    record (table_of job.merge.elements.now job.merge.plan.now.counters job.merge.output text table) { into = into_told job.into }
+    record (table_of job.merge.elements.now job.merge.plan.now job.merge.output text table) { into = into_told job.into }
 
 -- under which plan the parts were merged; what their receipts say together; and the merged table
 abbrev pub merged_receipt_of : PartsJob → List PartValue → TextDigest → Table → ReceiptValue
@@ -51,16 +51,18 @@ IsPutIn holds IsReceipt None None = Unit {0}
 IsPutIn holds IsReceipt (Some before) (Some after) = (receipt : ReceiptValue) × IsReceipt receipt × holds after (receipt_text receipt)
 IsPutIn holds IsReceipt before after = ⊥
 
-module _ {W P : Type 0} (contents : W → Option (List ℕ)) (holds : P → List ℕ → Type 0) (job : PartsJob) (table : Table) (to after : MergedTo W P) where
-  -- the merged table was written
-  abbrev pub IsWritten : Type 0
-  IsWritten = WritesIn job.merge.intervals job.merge.elements.now job.merge.plan.now job.merge.output (contents to.out) (contents after.out) table
+-- the merged table was written
+abbrev pub IsWritten : {W : Type 0} → (W → Option (List ℕ)) → PartsJob → Table → W → W → Type 0
+IsWritten contents job table before after =
+    WritesIn job.merge.intervals job.merge.elements.now job.merge.plan.now job.merge.output (contents before) (contents after) table
 
+module _ {W P : Type 0} (contents : W → Option (List ℕ)) (holds : P → List ℕ → Type 0) (job : PartsJob) (table : Table) (to after : MergedTo W P) where
   -- and its receipt was put, if there is a place for one
   abbrev pub IsReceipted : List PartValue → Type 0
   IsReceipted parts = IsPutIn holds (IsMergedReceipt job parts (contents to.out) table) to.place after.place
 
-  -- the table wasn't written, and no receipt was put; or it was, and the receipt that there is a place for wasn't put
-  abbrev pub IsUnfinished : RunFault → Type 0
-  IsUnfinished (Export fault) = IsNotWritten job.merge.output (length (rows_in table)) (after.out ≡ to.out) fault × (after.place ≡ to.place)
-  IsUnfinished (Receipt fault) = IsOfReceipt (Receipt fault) × IsWritten × IsSome to.place
+-- of what there was to write to and to put a receipt at: the table wasn't written, and no receipt was put; or it was, and the receipt that
+-- there is a place for wasn't put
+abbrev pub IsNotDone : {W P : Type 0} → (W → Option (List ℕ)) → PartsJob → Table → W → Option P → MergedTo W P → RunFault → Type 0
+IsNotDone contents job table out place after (Export fault) = IsNotWritten job.merge.output (length (rows_in table)) (after.out ≡ out) fault × (after.place ≡ place)
+IsNotDone contents job table out place after (Receipt fault) = IsOfReceipt (Receipt fault) × IsWritten contents job table out after.out × IsSome place

@@ -1,6 +1,5 @@
 -- What keeps parts from being merged.
-use Rattle.std.specs.Prelude.{◌≡◌, ◌⊎◌, ℕ, ◌+◌, List, [], ◌∷◌, ◌++◌, Option, None, get_or, length, map}
-use Rattle.ipfix_session.specs.Sources.{SourceView}
+use Rattle.std.specs.Prelude.{◌≡◌, ◌⊎◌, ℕ, ◌+◌, List, [], ◌∷◌, ◌++◌, None, get_or, length, map}
 use Rattle.flow_export.specs.declared.intervals.Intervals.{Intervals}
 use Rattle.flow_table.specs.Plans.{PlanValue}
 use Rattle.flow_table.specs.SameTables.{RowValue}
@@ -24,6 +23,7 @@ use Rattle.command_merge_receipts.specs.Tables.{AddsText, AreExports, CannotAddT
 use Rattle.table_parts.specs.declared.files.PartFiles.{PartFiles}
 use Rattle.command_merge_receipts.specs.declared.job.PartsJob.{PartsJob}
 use Rattle.command_merge_receipts.specs.declared.not_merged.NotMergedParts.{NotMergedParts}
+use Rattle.command_merge_receipts.specs.declared.taking.TakenParts.{TakenParts}
 use Rattle.command_merge_receipts.specs.declared.not_merged.NotMergedParts.TheVariants.{NotMerged, Receipt, Part, InputTwice}
 use Rattle.table_parts.specs.declared.tables.PartTable.{PartTable}
 
@@ -41,13 +41,13 @@ pub record AreJudged (Has : List ℕ → List ℕ → Type 0) (job : PartsJob) (
   pub judged : IsJudgementOf job.allowed parts judgement
 
 -- the receipts were read, and their parts may be merged: none of their inputs comes twice, or these two do, which is allowed
-pub record AreTaken (Has : List ℕ → List ℕ → Type 0) (job : PartsJob) (merged : MergedParts) (twice : Option (ℕ × ℕ)) (tables : List PartTable) : Type 0 where
+pub record AreTaken (Has : List ℕ → List ℕ → Type 0) (job : PartsJob) (taken : TakenParts) : Type 0 where
   pub parts : List PartValue
   pub read : AreParts Has job.plan job.parts.now parts
   pub may_be : MayBeMerged job.allowed parts
-  pub together : AreMerged parts merged
-  pub may_come : MayComeTwice job.allowed parts twice
-  pub tables_are : tables ≡ tables_said job.parts.now parts
+  pub together : AreMerged parts taken.merged
+  pub may_come : MayComeTwice job.allowed parts taken.twice
+  pub tables_are : taken.tables.items ≡ tables_said job.parts.now parts
 
 -- the receipts keep the parts from being merged, before any table is read: one isn't had; or one is of another plan; or else isn't
 -- complete; or else an input comes twice, of which the second is the file's; or there was no memory
@@ -70,13 +70,13 @@ IsTwice tables merged first second not_merged = ⊥
 
 -- ---- by the tables
 
-module _ {S : Type 0} (seen : S → SourceView) (Has : List ℕ → List ℕ → Type 0) (Refuses : List ℕ → Reason → Type 0) where
+module _ (Has : List ℕ → List ℕ → Type 0) (Refuses : List ℕ → Reason → Type 0) where
   -- why a table isn't added to rows: it can't be had; its text is another than its receipt says; or else it has a fault
   abbrev pub FailsNext : Intervals → PlanValue → List RowValue → ℕ → PartTable → NotMergedParts → Type 0
   FailsNext intervals plan rows place table (NotMerged (NotOpened path reason)) = (path ≡ table.files.table) × Refuses path.now reason
   FailsNext intervals plan rows place table (NotMerged (File number path failed)) =
       (number ≡ place) × (path ≡ table.files.table) × (failed.reason ≡ unread_reason failed.fault None)
-      × ((text : List ℕ) × IsTableText Has table text × CannotAddText seen intervals plan rows text failed.fault)
+      × ((text : List ℕ) × IsTableText Has table text × CannotAddText intervals plan rows text failed.fault)
   FailsNext intervals plan rows place table (NotMerged (Whole fault)) = ⊥
   FailsNext intervals plan rows place table (Part number files faults.NotItsTable) =
       (number ≡ place) × (files ≡ table.files) × ((text : List ℕ) × Has files.table.now text × (IsItsTable table text → ⊥))
@@ -111,8 +111,8 @@ pub record AddsNext (Has : List ℕ → List ℕ → Type 0) (table : PartTable)
   pub adds : AddsText table text old new
 
 -- or it was not added, which the file of this number has to tell
-pub record IsNotAdded {S : Type 0} (seen : S → SourceView) (Has : List ℕ → List ℕ → Type 0) (Refuses : List ℕ → Reason → Type 0) (merging : Merging) (number : ℕ) (table : PartTable) (verbosity : Verbosity) (AreTold : List ℕ → Type 0) (not_merged : NotMergedParts) : Type 0 where
-  pub fails : FailsAfter seen Has Refuses merging number table not_merged
+pub record IsNotAdded (Has : List ℕ → List ℕ → Type 0) (Refuses : List ℕ → Reason → Type 0) (merging : Merging) (number : ℕ) (table : PartTable) (verbosity : Verbosity) (AreTold : List ℕ → Type 0) (not_merged : NotMergedParts) : Type 0 where
+  pub fails : FailsAfter Has Refuses merging number table not_merged
   pub told : AreTold (own_line verbosity number table not_merged)
 
 -- a table is not added, or there was no memory; and what was told by then
@@ -127,6 +127,6 @@ StopsTables Fails tables verbosity AreTold (NotMerged (Whole fault)) = (fault �
 StopsTables Fails tables verbosity AreTold not_merged = StopsAt Fails verbosity AreTold not_merged
 
 -- the same among all tables of a merge, of this plan and these intervals
-abbrev pub StopsAmong : {S : Type 0} (seen : S → SourceView) (Has : List ℕ → List ℕ → Type 0) (Refuses : List ℕ → Reason → Type 0) → Intervals → PlanValue → List PartTable → Verbosity → (AreTold : List ℕ → Type 0) → NotMergedParts → Type 0
-StopsAmong seen Has Refuses intervals plan tables verbosity AreTold not_merged =
-    StopsTables (FailsAt seen Has Refuses intervals plan tables) tables verbosity AreTold not_merged
+abbrev pub StopsAmong : (Has : List ℕ → List ℕ → Type 0) (Refuses : List ℕ → Reason → Type 0) → Intervals → PlanValue → List PartTable → Verbosity → (AreTold : List ℕ → Type 0) → NotMergedParts → Type 0
+StopsAmong Has Refuses intervals plan tables verbosity AreTold not_merged =
+    StopsTables (FailsAt Has Refuses intervals plan tables) tables verbosity AreTold not_merged

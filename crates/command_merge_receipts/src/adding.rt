@@ -1,10 +1,9 @@
 //! Adding the text of a table.
 
-ghost use Rattle.std.specs.Prelude.{◌≡◌, List, Some, ℕ, IfErr, IfOk};
-ghost use Rattle.flow_merge.specs.Merging.{CannotAdd, StandsFor, merging_intervals, merging_plan};
-ghost use Rattle.flow_table.specs.SameTables.{RowValue};
-ghost use Rattle.ipfix_session.specs.declared.driver.TheConstants.{READ_LIMIT};
-ghost use Rattle.command_merge_receipts.specs.Tables.{AddsRows, AddsText, IsAgainst};
+ghost use Rattle.std.specs.Prelude.{◌≡◌, IfErr, IfOk};
+ghost use Rattle.std.specs.Option.{ForSome};
+ghost use Rattle.flow_merge.specs.Merging.{merging_intervals, merging_plan};
+ghost use Rattle.command_merge_receipts.specs.Tables.{Adds, AddsText, CannotAddFrom, IsAgainst};
 
 use flow_merge::{MergeFault, Merging};
 use ipfix_session::{FromReader, READ_LIMIT, Source};
@@ -25,9 +24,7 @@ pub fn add_text<'b>(
     octets: &[u8],
 ) -> Result<Merging<'b>, Against>
     ensures added { IfOk result (AddsText table.now octets.now merging.entry) }
-    ensures against { (rows : List RowValue) → StandsFor merging.entry rows
-        → IfErr result (IsAgainst ⟦<FromReader<&'static [u8]> as Source>⟧.seen (merging_intervals merging.entry)
-        (merging_plan merging.entry) rows table.now octets.now) }
+    ensures against { IfErr result (IsAgainst merging.entry table.now octets.now) }
 {
     if !is_its_table(table, octets) {
         return Err(Against::NotItsTable);
@@ -46,10 +43,8 @@ fn add_source<'b, S: Source>(
 ) -> Result<Merging<'b>, MergeFault>
     ensures plan { IfOk result (λ m. merging_plan m ≡ merging_plan merging.entry) }
     ensures intervals { IfOk result (λ m. merging_intervals m ≡ merging_intervals merging.entry) }
-    ensures adds { (text : List ℕ) → (S.seen source.old).text ≡ Some text → (rows : List RowValue)
-        → StandsFor merging.entry rows → IfOk result (AddsRows merging.entry text rows) }
-    ensures fault { (rows : List RowValue) → StandsFor merging.entry rows
-        → IfErr result (CannotAdd S.seen READ_LIMIT merging.entry rows source.old source.new) }
+    ensures adds { ForSome (S.seen source.old).text (λ text. IfOk result (Adds merging.entry text)) }
+    ensures fault { IfErr result (CannotAddFrom S.seen merging.entry source.old source.new) }
 {
     merging.read(source, READ_LIMIT)
 }

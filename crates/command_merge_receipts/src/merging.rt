@@ -16,7 +16,6 @@ use command_merge::{FileFault, MergeJob, NotMerged, write_file_opened};
 use flow_merge::Merging;
 use flow_table::FlatTable;
 use input_files::ReadText;
-use ipfix_session::{FromReader, Source};
 use receipt_merging::PartFault;
 use report_writing::{Verbosity, WriteLines};
 use std::alloc::Global;
@@ -31,12 +30,11 @@ pub fn merge_tables<'a, T: ReadText, E: WriteLines>(
     err: &mut E,
 ) -> Result<FlatTable, NotMergedParts<'a>>
     requires { CanTakeRows job.now.intervals }
-    ensures merged { IfOk result (AreMergedInto (T.has texts.now) job.now.intervals job.now.plan.now
-        tables.now) }
+    ensures merged { IfOk result (AreMergedInto (T.has texts.now) job.now tables.now) }
     ensures fits { IfOk result (FitsPlan job.now.plan.now) }
     ensures told { OnOk result (AreToldTo E.lines err.old err.new
         (files_opened_lines job.now.verbosity (names_in tables.now))) }
-    ensures stops { IfErr result (StopsAmong ⟦<FromReader<&'static [u8]> as Source>⟧.seen
+    ensures stops { IfErr result (StopsAmong
         (T.has texts.now) (T.refuses texts.now) job.now.intervals job.now.plan.now
         tables.now job.now.verbosity (AreToldTo E.lines err.old err.new)) }
     ensures kept { StaysFailed E.lines err.old err.new }
@@ -67,7 +65,7 @@ fn add_table<'a, 'b, T: ReadText, E: WriteLines>(
     ensures added { IfOk result (AddsNext (T.has texts.now) table.now merging.entry) }
     ensures told { OnOk result (AreToldTo E.lines err.old err.new
         (if_verbose verbosity (file_opened_line number table.now.files.table.now))) }
-    ensures stops { IfErr result (IsNotAdded ⟦<FromReader<&'static [u8]> as Source>⟧.seen (T.has texts.now)
+    ensures stops { IfErr result (IsNotAdded (T.has texts.now)
         (T.refuses texts.now) merging.entry number table.now verbosity
         (AreToldTo E.lines err.old err.new)) }
     ensures kept { StaysFailed E.lines err.old err.new }

@@ -16,7 +16,6 @@ use crate::writing::{WrittenMerge, write_merge};
 use command_collect::{ReceiptPlace, write_run_fault};
 use command_merge::write_merged;
 use input_files::ReadText;
-use ipfix_session::{FromReader, Source};
 use report_writing::{Status, Verbosity, WriteLines};
 use std::alloc::Global;
 use std::io::Write;
@@ -39,7 +38,7 @@ pub fn run_merge_parts<T: ReadText, W: Write + Drop, P: ReceiptPlace + Drop, E: 
     err: &mut E,
 ) -> MergedEnd<W, P>
     requires { CanTakeRows job.now.merge.intervals }
-    ensures runs { MergesParts ⟦<FromReader<&'static [u8]> as Source>⟧.seen (T.has texts.now) (T.refuses texts.now)
+    ensures runs { MergesParts (T.has texts.now) (T.refuses texts.now)
         job.now W.contents P.holds to result.to (AreToldTo E.lines err.old err.new) result.status }
     ensures kept { StaysFailed E.lines err.old err.new }
 {

@@ -29,8 +29,7 @@ pub fn take_parts<'a, T: ReadText>(
     alloc: Global,
     job: &PartsJob<'a>,
 ) -> Result<TakenParts<'a>, NotMergedParts<'a>>
-    ensures taken { IfOk result (λ taken. AreTaken (T.has texts.now) job.now taken.merged
-        taken.twice taken.tables.items) }
+    ensures taken { IfOk result (AreTaken (T.has texts.now) job.now) }
     ensures refused { IfErr result (AreRefused (T.has texts.now) (T.refuses texts.now) job.now) }
 {
     let parts = match read_parts(texts, alloc, job.parts, &job.plan) {

@@ -6,7 +6,7 @@ ghost use Rattle.receipt_merging.specs.Judging.{AreMerged};
 ghost use Rattle.receipt_merging.specs.Parts.{PartValue};
 ghost use Rattle.table_receipts.specs.Texts.{receipt_text};
 ghost use Rattle.command_collect.specs.ReceiptedRuns.{IsOfReceipt};
-ghost use Rattle.command_merge_receipts.specs.Receipts.{IsReceipted, IsUnfinished, IsWritten, merged_receipt_of};
+ghost use Rattle.command_merge_receipts.specs.Receipts.{IsNotDone, IsReceipted, IsWritten, merged_receipt_of};
 
 use crate::job::{MergedTo, PartsJob};
 use crate::receipt::make_merged_receipt;
@@ -37,11 +37,11 @@ pub fn write_merge<W: Write + Drop, P: ReceiptPlace + Drop>(
 ) -> WrittenMerge<W, P>
     requires { FitsPlan job.now.merge.plan.now table.now }
     ensures written { OnOk result.answer
-        (IsWritten W.contents P.holds job.now table.now to result.to) }
+        (IsWritten W.contents job.now table.now to.out result.to.out) }
     ensures receipted { (parts : List PartValue) → AreMerged parts merged → OnOk result.answer
         (IsReceipted W.contents P.holds job.now table.now to result.to parts) }
-    ensures unfinished { IfErr result.answer
-        (IsUnfinished W.contents P.holds job.now table.now to result.to) }
+    ensures err { IfErr result.answer
+        (IsNotDone W.contents job.now table.now to.out to.place result.to) }
 {
     let MergedTo { out, place } = to;
     match place {
@@ -59,10 +59,10 @@ fn write_alone<W: Write + Drop, P: ReceiptPlace + Drop>(
 ) -> WrittenMerge<W, P>
     requires { FitsPlan job.now.merge.plan.now table.now }
     ensures place { result.to.place ≡ None }
-    ensures written { OnOk result.answer (IsWritten W.contents P.holds job.now table.now
-        (record { out = out; place = None }) result.to) }
-    ensures unfinished { IfErr result.answer (IsUnfinished W.contents P.holds job.now table.now
-        (record { out = out; place = None }) result.to) }
+    ensures written { OnOk result.answer
+        (IsWritten W.contents job.now table.now out result.to.out) }
+    ensures err { IfErr result.answer
+        (IsNotDone W.contents job.now table.now out None result.to) }
 {
     let merge = &job.merge;
     let rows = AnyTable::Flat(table, merge.intervals);
@@ -93,13 +93,13 @@ fn write_with_receipt<W: Write + Drop, P: ReceiptPlace + Drop>(
     place: P,
 ) -> WrittenMerge<W, P>
     requires { FitsPlan job.now.merge.plan.now table.now }
-    ensures written { OnOk result.answer (IsWritten W.contents P.holds job.now table.now
-        (record { out = out; place = Some place }) result.to) }
+    ensures written { OnOk result.answer
+        (IsWritten W.contents job.now table.now out result.to.out) }
     ensures receipted { (parts : List PartValue) → AreMerged parts merged → OnOk result.answer
         (IsReceipted W.contents P.holds job.now table.now
         (record { out = out; place = Some place }) result.to parts) }
-    ensures unfinished { IfErr result.answer (IsUnfinished W.contents P.holds job.now table.now
-        (record { out = out; place = Some place }) result.to) }
+    ensures err { IfErr result.answer
+        (IsNotDone W.contents job.now table.now out (Some place) result.to) }
 {
     let merge = &job.merge;
     let rows = AnyTable::Flat(table, merge.intervals);

@@ -6,5 +6,4 @@ pub mod MergeRuns
 pub mod Branches
 pub mod Settled
 pub mod Lacking
-pub mod TextsAdded
 pub mod TablesIn

@@ -2,7 +2,7 @@
 use Rattle.std.proofs.Common.{◌≡◌, List, [], ℕ, Some, Result, Ok, Err, sym, subst}
 use Rattle.std.specs.Prelude.{IfErr, IfOk}
 use Rattle.std.specs.Result.{IsErrAnd}
-use Rattle.ipfix_session.specs.Sources.{SourceView, unread}
+use Rattle.ipfix_session.specs.Sources.{unread}
 use Rattle.ipfix_session.specs.declared.driver.TheConstants.{READ_LIMIT}
 use Rattle.flow_export.specs.declared.intervals.Intervals.TheVariants.{OfPlan}
 use Rattle.flow_table.specs.AddedUp.{rows_in, AreAddedUp}
@@ -13,10 +13,11 @@ use Rattle.flow_merge.specs.Merging.{CannotAdd, IsDueIn, IsExportIn, StandsFor, 
 use Rattle.flow_merge.specs.declared.merge_fault.MergeFault.{MergeFault}
 use Rattle.flow_merge.specs.declared.merge_fault.MergeFault.TheVariants.{OutOfMemory, SumTooLarge, Session, NotAnExport, Lost, Row, Border}
 use Rattle.flow_merge.specs.declared.merging.Merging.{Merging}
-use Rattle.command_tables.specs.Texts.{AddsRows, CannotMerge, IsNoExport, IsTableOf}
+use Rattle.command_merge_receipts.specs.Tables.{AddsRows, TextSource, text_seen}
+use Rattle.command_tables.specs.Texts.{CannotMerge, IsNoExport, IsTableOf}
 
-module _ {S : Type 0} (seen : S → SourceView) (plan : PlanValue) (text : List ℕ) where
-  no_export : (fault : MergeFault) → IsNoExport seen plan text fault → CannotMerge seen plan text fault
+module _ (plan : PlanValue) (text : List ℕ) where
+  no_export : (fault : MergeFault) → IsNoExport plan text fault → CannotMerge plan text fault
   no_export OutOfMemory is = tt
   no_export SumTooLarge is = is
   no_export (Session fault) is = is
@@ -25,18 +26,18 @@ module _ {S : Type 0} (seen : S → SourceView) (plan : PlanValue) (text : List 
   no_export (Row fault) is = is
   no_export (Border row) is = is
 
-  pub without_memory : (fault : MergeFault) → fault ≡ OutOfMemory → CannotMerge seen plan text fault
-  without_memory fault is = subst (λ f. CannotMerge seen plan text f) (sym is) tt
+  pub without_memory : (fault : MergeFault) → fault ≡ OutOfMemory → CannotMerge plan text fault
+  without_memory fault is = subst (λ f. CannotMerge plan text f) (sym is) tt
 
   -- a source that holds the text was not added to no rows
-  pub cannot_merge : (merging : Merging) (before after : S) (fault : MergeFault) → merging_plan merging ≡ plan → merging_intervals merging ≡ OfPlan → seen before ≡ unread (Some text)
-      → CannotAdd seen READ_LIMIT merging [] before after fault → CannotMerge seen plan text fault
+  pub cannot_merge : (merging : Merging) (before after : TextSource) (fault : MergeFault) → merging_plan merging ≡ plan → merging_intervals merging ≡ OfPlan → text_seen before ≡ unread (Some text)
+      → CannotAdd text_seen READ_LIMIT merging [] before after fault → CannotMerge plan text fault
   cannot_merge merging before after fault of_plan intervals holds cannot = no_export fault (record {
     before = before;
     after = after;
     holds = holds;
-    due = subst (λ p. IsDueIn seen READ_LIMIT OfPlan p [] before after fault) of_plan
-        (subst (λ i. IsDueIn seen READ_LIMIT i (merging_plan merging) [] before after fault) intervals cannot);
+    due = subst (λ p. IsDueIn text_seen READ_LIMIT OfPlan p [] before after fault) of_plan
+        (subst (λ i. IsDueIn text_seen READ_LIMIT i (merging_plan merging) [] before after fault) intervals cannot);
   })
 
 -- the rows that were added to none are those of the table

@@ -11,6 +11,10 @@ use Rattle.command_tables.specs.declared.days.placing.PlacedPeriod.{PlacedPeriod
 abbrev pub IsDayOf : Calendar → ℕ → ℕ → Type 0
 IsDayOf calendar second begins = (day : ℕ) × IsDayAt calendar.interval (plain_zone calendar.zone) second day × (begins ≡ day * 86_400)
 
+-- that is one day, and one month
+abbrev pub EachHasOneDay : Type 0
+EachHasOneDay = (calendar : Calendar) (second day other : ℕ) → IsDayOf calendar second day → IsDayOf calendar second other → day ≡ other
+
 -- a period begins in its day
 pub record IsPlaced (calendar : Calendar) (period : Period) (placed : PlacedPeriod) : Type 0 where
   pub period_is : placed.period ≡ period

@@ -3,7 +3,6 @@ use Rattle.std.specs.Prelude.{◌≡◌, ◌⊎◌, ℕ, Bool, true, List, [], O
 use Rattle.std.specs.Borrow.{Bor}
 use Rattle.std.specs.declared.alloc.Global.{Global}
 use Rattle.std.specs.declared.vec.Vec.{Vec}
-use Rattle.ipfix_session.specs.Sources.{SourceView}
 use Rattle.flow_export.specs.declared.intervals.Intervals.TheVariants.{OfPlan}
 use Rattle.report_writing.specs.declared.reason.Reason.{Reason}
 use Rattle.report_writing.specs.declared.status.Status.{Status}
@@ -56,7 +55,7 @@ EndsWithout ended NotOpened = ended.status ≡ NotOpened
 EndsWithout ended Failed = (ended.status ≡ Failed) ⊎ (text_kept ended.to.place ≡ None)
 EndsWithout ended status = ⊥
 
-module _ {S : Type 0} (seen : S → SourceView) (Has : List ℕ → List ℕ → Type 0) (Refuses : List ℕ → Reason → Type 0) (job : DayJob) (parts : Bor (List PartFiles)) (AreTold : List ℕ → Type 0) where
+module _ (Has : List ℕ → List ℕ → Type 0) (Refuses : List ℕ → Reason → Type 0) (job : DayJob) (parts : Bor (List PartFiles)) (AreTold : List ℕ → Type 0) where
   -- exactly these parts, in their order, were merged by their receipts, into an empty text, with a place for the receipt
   pub record IsRun (ended : MergedEnd (Vec ℕ Global) KeptReceipt) : Type 0 where
     pub to : MergedTo (Vec ℕ Global) KeptReceipt
@@ -65,7 +64,7 @@ module _ {S : Type 0} (seen : S → SourceView) (Has : List ℕ → List ℕ →
     pub empty : to.out.items ≡ []
     pub place : to.place ≡ Some kept
     pub is_merge : merge ≡ parts_job job parts
-    pub runs : MergesParts seen Has Refuses merge (λ v. Some v.items) Holds to ended.to AreTold ended.status
+    pub runs : MergesParts Has Refuses merge (λ v. Some v.items) Holds to ended.to AreTold ended.status
 
   -- the table and the receipt of such a run
   pub record IsMergeOf (made : MergedValue) : Type 0 where

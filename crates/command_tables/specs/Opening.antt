@@ -45,13 +45,16 @@ pub record IsPlanOf (path : Bor (List ℕ)) (plan : NamedPlan) : Type 0 where
   pub path_is : plan.path ≡ path
   pub named : IsFolderName path.now plan.name.now
 
+abbrev pub names_of : List NamedPlan → List (List ℕ)
+names_of plans = map (λ (plan : NamedPlan). plan.name.now) plans
+
 abbrev pub ArePlansOf : List (Bor (List ℕ)) → List NamedPlan → Type 0
 ArePlansOf paths plans = AllZip IsPlanOf paths plans
 
 -- no two of them have the same name
 pub record AreNamed (paths : List (Bor (List ℕ))) (plans : List NamedPlan) : Type 0 where
   pub plans_of : ArePlansOf paths plans
-  pub differ : name_twice (map (λ plan. plan.name.now) plans) ≡ None
+  pub differ : name_twice (names_of plans) ≡ None
 
 -- why the tables of a plan can't be put
 abbrev pub plan_line : List ℕ → List ℕ → PlanFault → List ℕ
@@ -83,7 +86,7 @@ module _ {E : Type 0} (lines : E → LinesView) (before after : E) where
     pub plans : List NamedPlan
     pub plans_of : ArePlansOf paths plans
     pub name : List ℕ
-    pub twice : name_twice (map (λ plan. plan.name.now) plans) ≡ Some name
+    pub twice : name_twice (names_of plans) ≡ Some name
     pub told : AreToldTo lines before after (twice_line name)
     pub status_is : status ≡ NotOpened
 

@@ -61,7 +61,7 @@ AreLocalOf read output other local = ⊥
 
 -- it has the plan's name, and makes tables in IPFIX of what was read of that plan, with as many rows of a session as were given for a
 -- limit, their texts, and those of days and months
-pub record IsWorkOf (read : ReadPlan) (arguments : TablesArguments) (zone : Option TimeZone) (plan : PlanWork) : Type 0 where
+pub record IsWorkOf (arguments : TablesArguments) (zone : Option TimeZone) (read : ReadPlan) (plan : PlanWork) : Type 0 where
   pub name_is : plan.name ≡ read.named.name
   pub elements : plan.work.desk.maker.job.collect.elements.now ≡ read.made.loaded.elements
   pub plan_is : plan.work.desk.maker.job.collect.plan.now ≡ read.made.loaded.read.plan

@@ -82,7 +82,7 @@ fn name_each<'p, E: WriteLines>(
 // The first name that stands again after it.
 fn first_twice<'p>(mut plans: &[NamedPlan<'p>]) -> Option<&'p str>
     ensures { option_map (λ name. name.now) result
-        ≡ name_twice (map (λ plan. plan.name.now) plans.entry.now) }
+        ≡ name_twice (names_of plans.entry.now) }
 {
     while let [plan, rest @ ..] = plans {
         if is_among(plan.name, rest) {

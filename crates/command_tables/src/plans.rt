@@ -106,8 +106,7 @@ pub(crate) fn open_plans<'a>(
     zone: Option<TimeZone<'a>>,
     err: &mut Stderr,
 ) -> Result<Vec<PlanWork<'a>>, Status>
-    ensures { IfOk result (λ plans.
-        AllZip (λ read plan. IsWorkOf read arguments.now zone.entry plan) read.now plans.items) }
+    ensures { IfOk result (λ plans. AllZip (IsWorkOf arguments.now zone.entry) read.now plans.items) }
 {
     let mut plans = Vec::new(rt.alloc());
     for plan in read {
@@ -128,7 +127,7 @@ fn open_plan<'a>(
     zone: Option<TimeZone<'a>>,
     err: &mut Stderr,
 ) -> Result<PlanWork<'a>, Status>
-    ensures ok { IfOk result (IsWorkOf plan.now arguments.now zone.entry) }
+    ensures ok { IfOk result (IsWorkOf arguments.now zone.entry plan.now) }
     ensures err { IfErr result (λ status. status ≡ Status.NotOpened) }
 {
     let NamedPlan { path, name } = plan.named;

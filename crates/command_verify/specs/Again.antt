@@ -6,7 +6,7 @@ use Rattle.flow_plan_fields.specs.declared.named.NamedKey.{NamedKey}
 use Rattle.input_sources.specs.Had.{IsUnread, PathsAreOpened}
 use Rattle.input_sources.specs.MapsLoaded.{AreMapsOf, TellsNoMaps}
 use Rattle.input_sources.specs.Origins.{AreFiles}
-use Rattle.input_sources.specs.PlansTold.{IsLoaded, TellsNoText, table_of}
+use Rattle.input_sources.specs.PlansTold.{IsLoadedPlan, TellsNoText}
 use Rattle.input_sources.specs.declared.maps.LoadedMap.{LoadedMap}
 use Rattle.input_sources.specs.declared.loaded_plan.LoadedPlan.{LoadedPlan}
 use Rattle.ipfix_session.specs.Sources.{SourceView}
@@ -15,7 +15,8 @@ use Rattle.report_writing.specs.declared.reason.Reason.{Reason}
 use Rattle.report_writing.specs.declared.status.Status.{Status}
 use Rattle.report_writing.specs.declared.status.Status.TheVariants.{Well, SessionFault, NotOpened, Failed}
 use Rattle.report_writing.specs.declared.verbosity.Verbosity.{Verbosity}
-use Rattle.table_receipts.specs.Values.{FileValue, IntoValue, ReceiptValue, file_value, receipt_value}
+use Rattle.table_receipts.specs.Values.{FileValue, IntoValue, ReceiptValue, file_value}
+use Rattle.table_receipts.specs.declared.receipt.FileReceipt.{FileReceipt}
 use Rattle.receipt_maps.specs.MapsTold.{AreMapsWith}
 use Rattle.receipt_maps.specs.declared.maps.MapsOfPlan.{MapsOfPlan}
 use Rattle.receipt_differences.specs.Differences.{table_differs}
@@ -24,8 +25,8 @@ use Rattle.command_collect.specs.CollectLines.{collect_fault_line}
 use Rattle.command_collect.specs.Told.{TellsBehind, TellsNotOpened}
 use Rattle.command_collect.specs.Faults.{run_fault_line}
 use Rattle.command_collect.specs.declared.receipts.remaking.RemakeFault.TheVariants.{Collect, Run}
-use Rattle.table_remaking.specs.Again.{IsCompared}
-use Rattle.table_remaking.specs.Faults.{IsFaultOf}
+use Rattle.table_remaking.specs.Again.{IsCompared, said_by}
+use Rattle.table_remaking.specs.Faults.{IsDue}
 use Rattle.table_remaking.specs.declared.again.AgainFault.{AgainFault}
 use Rattle.table_remaking.specs.declared.again.AgainFault.TheVariants.{NotMade, OutOfMemory}
 use Rattle.table_remaking.specs.declared.again.MadeBy.{MadeBy}
@@ -44,7 +45,7 @@ pub record ThereValue : Type 0 where
   pub table : List ℕ
 
 abbrev pub there_value : TableThere → ThereValue
-there_value there = record { said = receipt_value there.receipt.now; table = there.table.now }
+there_value there = record { said = said_by there; table = there.table.now }
 
 -- ---- what it isn't made again by
 
@@ -56,10 +57,18 @@ given_differ job said = elements_differ (map file_value job.element_files.now) s
 abbrev pub files_differ : MapsOfPlan → ReceiptValue → List ℕ
 files_differ maps said = maps_differ (map file_value maps.files.items) said.maps
 
+-- the octets of the table differ from what its receipt tells
+abbrev pub own_differ : ThereValue → List ℕ
+own_differ there = table_differs there.said.table there.table
+
 -- ---- what it is made again by
 
 abbrev pub names_of : List FileValue → List (List ℕ)
 names_of files = map (λ (f : FileValue). f.name) files
+
+-- the names of files that a receipt tells
+abbrev pub names_said : List FileReceipt → List (List ℕ)
+names_said files = names_of (map file_value files)
 
 -- files of these names have texts that gave these maps, each of its own
 abbrev pub AreMapsNamed : (List ℕ → List ℕ → Type 0) → List (List ℕ) → List NamedKey → MapsOfPlan → Type 0
@@ -84,7 +93,7 @@ module _ (there : ThereValue) (status : Status) where
   -- the table alone is compared, and this is told after what differs, unless memory runs out
   abbrev pub ComparesAlone : List ℕ → (List ℕ → Type 0) → Type 0
   ComparesAlone behind AreTold =
-      TellsDifferences there.said (table_differs there.said.table there.table ++ behind) status AreTold
+      TellsDifferences there.said (own_differ there ++ behind) status AreTold
       ⊎ ((status ≡ Failed) × AreTold memory_line)
 
 module _ {S : Type 0} (seen : S → SourceView) (there : ThereValue) (status : Status) where
@@ -92,7 +101,7 @@ module _ {S : Type 0} (seen : S → SourceView) (there : ThereValue) (status : S
   abbrev pub TellsAgain : MadeBy → List S → List Origin → (List ℕ → Type 0) → Type 0
   TellsAgain by sources origins AreTold =
       ((lines : List ℕ) × IsCompared seen by there.said sources origins there.table lines × TellsDifferences there.said lines status AreTold)
-      ⊎ ((fault : AgainFault) × IsFaultOf seen by there.said sources origins fault × (status ≡ Failed) × AreTold (again_fault_line fault))
+      ⊎ ((fault : AgainFault) × IsDue seen by there.said sources origins fault × (status ≡ Failed) × AreTold (again_fault_line fault))
 
 module _ {S O : Type 0} (seen : S → SourceView) (job : VerifyJob) (there : ThereValue) (status : Status)
     (opens : O → List ℕ → S → Type 0) (sizes : O → List ℕ → Option ℕ → Type 0) (refuses : O → List ℕ → Reason → Type 0) (coming : O → Option (List S)) (before after : O) (AreTold : List ℕ → Type 0) where
@@ -151,7 +160,7 @@ module _ {S O : Type 0} (seen : S → SourceView) (job : VerifyJob) (there : The
   -- it is that of a plan, with these elements
   pub record HasPlan (known : List Known) : Type 0 where
     pub loaded : LoadedPlan
-    pub is_loaded : IsLoaded known there.said.plan loaded.maps (table_of loaded)
+    pub is_loaded : IsLoadedPlan known there.said.plan loaded
     pub compares : ComparesLoaded loaded
 
   -- with other files of elements than it was made with it isn't made again; else by the plan of the receipt

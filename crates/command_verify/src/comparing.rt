@@ -4,9 +4,7 @@ ghost use Rattle.std.specs.Prelude.{◌≡◌, ◌++◌, IfOk};
 ghost use Rattle.report_writing.specs.Lines.{StaysFailed};
 ghost use Rattle.report_writing.specs.Told.{AreToldTo};
 ghost use Rattle.report_writing.specs.Writing.{Tells};
-ghost use Rattle.table_receipts.specs.Values.{table_value};
-ghost use Rattle.receipt_differences.specs.Differences.{table_differs};
-ghost use Rattle.command_verify.specs.Again.{ComparesAlone, ComparesFiles, ComparesGiven, ComparesLoaded, ComparesMapped, ComparesWith, IsMadeBy, OpensBy, OpensOrLacks, TellsAgain, again_fault_line, files_differ, given_differ, there_value};
+ghost use Rattle.command_verify.specs.Again.{ComparesAlone, ComparesFiles, ComparesGiven, ComparesLoaded, ComparesMapped, ComparesWith, IsMadeBy, OpensBy, OpensOrLacks, TellsAgain, again_fault_line, files_differ, given_differ, own_differ, there_value};
 
 use crate::maps::load_said_maps;
 use crate::telling::{tell_differences, tell_fault, tell_merged};
@@ -27,7 +25,7 @@ use std::io::{self, Write};
 use std::rt::Clock;
 use std::sync::Wait;
 use std::thread::Threads;
-use table_receipts::{FileReceipt, ReceiptFault, TableReceipt};
+use table_receipts::{FileReceipt, ReceiptFault};
 use table_remaking::{AgainFault, MadeBy, TableThere, compare_again};
 
 /// Compares a table with its receipt; and with files with the one that these give, unless its rows were merged into days or
@@ -74,7 +72,7 @@ fn compare_alone<E: WriteLines>(
         behind.now (AreToldTo E.lines err.old err.new) }
     ensures kept { StaysFailed E.lines err.old err.new }
 {
-    match differences_of(alloc, &there.receipt.table, there.table, behind) {
+    match differences_of(alloc, there, behind) {
         Ok(lines) => tell_differences(there.receipt, &lines, err),
         Err(AllocError) => tell_fault(ReceiptFault::OutOfMemory, err),
     }
@@ -318,17 +316,12 @@ fn tell_again<S: Source + Send + Drop, E: WriteLines, R: Threads + Wait + Sync>(
 }
 
 // The lines of what differs in a table, and these after them.
-fn differences_of(
-    alloc: Global,
-    said: &TableReceipt,
-    table: &[u8],
-    behind: &[u8],
-) -> Result<Vec<u8>, AllocError>
+fn differences_of(alloc: Global, there: &TableThere, behind: &[u8]) -> Result<Vec<u8>, AllocError>
     ensures { IfOk result
-        (λ lines. lines.items ≡ table_differs (table_value said.now) table.now ++ behind.now) }
+        (λ lines. lines.items ≡ own_differ (there_value there.now) ++ behind.now) }
 {
     let mut lines = Vec::new(alloc);
-    let Ok(()) = write_table_differences(said, table, &mut lines) else {
+    let Ok(()) = write_table_differences(&there.receipt.table, there.table, &mut lines) else {
         return Err(AllocError);
     };
     lines.extend_from_slice(behind)?;

@@ -3,8 +3,7 @@
 ghost use Rattle.std.specs.Prelude.{◌≡◌, IfErr, IfOk, map};
 ghost use Rattle.report_writing.specs.Lines.{StaysFailed};
 ghost use Rattle.report_writing.specs.Told.{AreToldTo};
-ghost use Rattle.table_receipts.specs.Values.{file_value};
-ghost use Rattle.command_verify.specs.Again.{AreMapsNamed, HasNoMaps, names_of as names_in};
+ghost use Rattle.command_verify.specs.Again.{AreMapsNamed, HasNoMaps, names_said};
 ghost use Rattle.command_verify.specs.Verified.{memory_line};
 
 use crate::telling::tell_fault;
@@ -27,10 +26,10 @@ pub fn load_said_maps<T: ReadText, E: WriteLines>(
     err: &mut E,
 ) -> Result<MapsOfPlan, Status>
     ensures maps { IfOk result
-        (AreMapsNamed (T.has texts.now) (names_in (map file_value said.now)) keys.now) }
+        (AreMapsNamed (T.has texts.now) (names_said said.now) keys.now) }
     ensures silent { IfOk result (λ _. err.new ≡ err.old) }
     ensures told { IfErr result (HasNoMaps (T.has texts.now) (T.refuses texts.now) verbosity
-        (names_in (map file_value said.now)) (AreToldTo E.lines err.old err.new)) }
+        (names_said said.now) (AreToldTo E.lines err.old err.new)) }
     ensures kept { StaysFailed E.lines err.old err.new }
 {
     let Ok(names) = names_of(alloc, said) else {
@@ -57,7 +56,7 @@ fn without_memory<E: WriteLines>(err: &mut E) -> Status
 // The names of files.
 fn names_of(alloc: Global, mut files: &[FileReceipt]) -> Result<Vec<&str>, AllocError>
     ensures { IfOk result (λ names. map (λ name. name.now) names.items
-        ≡ names_in (map file_value files.entry.now)) }
+        ≡ names_said files.entry.now) }
 {
     let mut names = Vec::new(alloc);
     while let [file, rest @ ..] = files {

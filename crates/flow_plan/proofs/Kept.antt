@@ -12,12 +12,12 @@ use Rattle.element_registry.specs.Registries.{Known, element_by_name}
 use Rattle.element_registry.proofs.Registered.{before}
 use Rattle.flow_table.specs.declared.key.Key.{Key}
 use Rattle.flow_table.specs.declared.plan_fault.PlanFault.{PlanFault}
-use Rattle.flow_table.specs.Plans.{PlanValue, chosen_plan, chosen_fault, context_named}
+use Rattle.flow_table.specs.Plans.{PlanValue, chosen_plan, context_named}
 use Rattle.flow_table.proofs.MadePlans.{kept_fault, kept_plan}
 use Rattle.flow_plan.specs.declared.fault.PlanTextFault.{PlanTextFault}
 use Rattle.flow_plan.specs.declared.fault.PlanTextFault.TheVariants.{NotToml, UnknownField, UnknownElement}
 use Rattle.flow_plan.specs.Faults.{Read, ◌>>=◌}
-use Rattle.flow_plan.specs.PlanTexts.{Fields, all_of, bits_in, checked, counters_in, fields_of, has_known_fields, is_slash, key_element, key_named, keys_in, plan_of_document, plan_of_fields, plan_of_text, prefix_key, whole_key}
+use Rattle.flow_plan.specs.PlanTexts.{Fields, all_of, bits_in, checked, counters_in, fault_in, fields_of, has_known_fields, is_slash, key_element, key_named, keys_in, plan_of_document, plan_of_fields, plan_of_text, prefix_key, whole_key}
 
 -- ---- what is named
 
@@ -87,11 +87,11 @@ passed plan p (Some fault) h = absurd cc
 
 -- the plan of the fields but for their texts
 abbrev made : List Known → Fields → List Key → List ElementId → Read PlanValue
-made known f ks cs = checked (chosen_plan known f.choices f.length f.method ks cs f.max_spread) (chosen_fault known f.choices f.length ks cs f.max_spread)
+made known f ks cs = checked (chosen_plan known f.choices f.length f.method ks cs f.max_spread) (fault_in known f ks cs)
 
 made_kept : (known : List Known) (f : Fields) (ks : List Key) (cs : List ElementId) (p : PlanValue) → made [] f ks cs ≡ Ok p → made known f ks cs ≡ Ok p
 made_kept known f ks cs p h =
-    let none = passed (chosen_plan [] f.choices f.length f.method ks cs f.max_spread) p (chosen_fault [] f.choices f.length ks cs f.max_spread) h in
+    let none = passed (chosen_plan [] f.choices f.length f.method ks cs f.max_spread) p (fault_in [] f ks cs) h in
     ap₂ checked (kept_plan known f.choices f.length f.method ks cs f.max_spread none) (kept_fault known f.choices f.length ks cs f.max_spread none ∙ sym none) ∙ h
 
 fields_kept : (known : List Known) (p : PlanValue) (f : Fields) → plan_of_fields [] f ≡ Ok p → plan_of_fields known f ≡ Ok p

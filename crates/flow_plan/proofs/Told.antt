@@ -17,8 +17,8 @@ use Rattle.flow_plan.specs.declared.error.PlanTextError.{PlanTextError}
 use Rattle.flow_plan.specs.declared.error.PlanTextError.TheVariants.{NotUtf8, NotToml, UnknownField, Missing, WrongKind, UnknownElement, Plan, OutOfMemory}
 use Rattle.flow_plan.specs.Faults.{Read, Fails}
 use Rattle.flow_plan.specs.PlanTexts.{Fields, all_of, counters_in, has_known_fields, fields_of, key_named, keys_in, plan_of_fields, plan_of_document, plan_of_text}
-use Rattle.flow_plan.specs.Places.{fault_of, refused_key, no_counter_in, no_key_in, IsDocument, IsNoDocument, IsNoTextOfDocument, IsPlanError, IsPlanOf, IsUnknown, Tells, TellsKey}
-use Rattle.flow_plan.specs.Shown.{GivesOr, IsOfKey, IsOfText, IsOfValues}
+use Rattle.flow_plan.specs.Places.{fault_of, no_counter_in, no_key_in, IsDocument, IsNoDocument, IsNoTextOfDocument, IsPlanError, IsPlanOf, IsUnknown, Tells, TellsKey}
+use Rattle.flow_plan.specs.Shown.{GivesOr, IsOfText, IsOfValues, ReadsFields}
 use Rattle.flow_plan.proofs.Listed.{none_without}
 
 pub given : {X : Type 0} (o : Option X) (fault : PlanTextFault) → result_ok (ok_or o fault) ≡ o
@@ -50,7 +50,7 @@ of_counters known f keys e named h =
 
 -- a key whose value is refused, where no key is unknown
 pub of_key : (known : List Known) (d : Members) (e : PlanTextError) → has_known_fields d ≡ true
-    → Fails (fault_of e) (fields_of d) × IsOfKey (refused_key d) e → Fails (fault_of e) (plan_of_document known d) × TellsKey known d e
+    → ReadsFields d (Err e) → Fails (fault_of e) (plan_of_document known d) × TellsKey known d e
 of_key known d (Missing key) fields h = (rw fields (rw h.0 refl), h.1)
 of_key known d (WrongKind key) fields h = (rw fields (rw h.0 refl), h.1)
 of_key known d OutOfMemory fields h = (tt, tt)

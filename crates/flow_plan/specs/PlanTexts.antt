@@ -165,11 +165,15 @@ abbrev pub checked : PlanValue → Option PlanFault → Read PlanValue
 checked plan None = Ok plan
 checked plan (Some fault) = Err (faults.Plan fault)
 
+-- the first fault that fits what a document says, where its texts name these keys and counters
+abbrev pub fault_in : List Known → Fields → List Key → List ElementId → Option PlanFault
+fault_in known f keys counters = chosen_fault known f.choices f.length keys counters f.max_spread
+
 abbrev pub plan_of_fields : List Known → Fields → Read PlanValue
 plan_of_fields known f =
     keys_in known f.keys >>= λ keys.
     counters_in known f.counters >>= λ counters.
-    checked (chosen_plan known f.choices f.length f.method keys counters f.max_spread) (chosen_fault known f.choices f.length keys counters f.max_spread)
+    checked (chosen_plan known f.choices f.length f.method keys counters f.max_spread) (fault_in known f keys counters)
 
 abbrev pub plan_of_document : List Known → Members → Read PlanValue
 plan_of_document known d = if has_known_fields d then fields_of d >>= plan_of_fields known else Err faults.UnknownField

@@ -15,7 +15,7 @@ use Rattle.flow_plan.specs.declared.fault.PlanTextFault.TheVariants as faults
 use Rattle.flow_plan.specs.declared.fields.Fields.{Fields}
 use Rattle.flow_plan.specs.Faults.{Read, Fails}
 use Rattle.flow_plan.specs.Blames.{IsPlace}
-use Rattle.flow_plan.specs.Places.{fault_of, value_of, IsUnknown}
+use Rattle.flow_plan.specs.Places.{fault_of, refused_key, value_of, IsUnknown}
 use Rattle.flow_plan.specs.PlanTexts as plan
 
 abbrev pub shown_all : List (Bor (List ℕ)) → List (List ℕ)
@@ -46,6 +46,14 @@ IsOfKey k _ = ⊥
 -- what is read of the value at this key, or the key is told
 abbrev pub ReadsValue : {X Y : Type 0} → (X → Y) → PlanKey → Members → (Option Data → Read Y) → Result X PlanTextError → Type 0
 ReadsValue view key d read result = GivesOr view (IsOfKey key) result (read (value_of key d))
+
+-- the value is the result itself
+abbrev pub ReadsKey : {X : Type 0} → PlanKey → Members → (Option Data → Read X) → Result X PlanTextError → Type 0
+ReadsKey key d read result = ReadsValue (λ x. x) key d read result
+
+-- what is read of all keys, or the refused one is told
+abbrev pub ReadsFields : Members → Result Fields PlanTextError → Type 0
+ReadsFields d result = GivesOr shown (IsOfKey (refused_key d)) result (plan.fields_of d)
 
 -- a text of this key names no element
 abbrev pub IsOfText : PlanKey → Option (List ℕ) → PlanTextError → Type 0

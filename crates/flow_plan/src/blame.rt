@@ -1,8 +1,10 @@
 //! What makes no plan of the values of a document.
 
-ghost use Rattle.std.specs.Prelude.{◌≡◌, ◌≢◌, ◌<◌, true, Some, IfOk, length};
+ghost use Rattle.std.specs.Prelude.{◌≡◌, ◌<◌, true, Some, IfOk, length};
 ghost use Rattle.std.specs.List.{list_all, position_from};
-ghost use Rattle.flow_table.specs.Plans.{is_value, repeat_fault, chosen_fault};
+ghost use Rattle.flow_table.specs.PlanFaults.{IsFirstFault};
+ghost use Rattle.flow_table.specs.Plans.{is_value, repeat_fault};
+ghost use Rattle.flow_plan.specs.PlanTexts.{fault_in};
 ghost use Rattle.flow_plan.specs.Blames.{is_unfit_prefix, is_unfit_counter, is_unfit_key, IsPlace, NamesAll};
 ghost use Rattle.flow_plan.specs.Shown.{shown, shown_all, IsTextAt};
 
@@ -25,9 +27,8 @@ pub fn place_of(
     fault: PlanFault,
 ) -> Result<PlanPlace, AllocError>
     requires named { NamesAll elements.now (shown fields.now) keys.now counters.now }
-    requires first { fault ≢ PlanFault.OutOfMemory
-        → chosen_fault elements.now fields.now.choices fields.now.length keys.now counters.now
-        fields.now.max_spread ≡ Some fault }
+    requires first { IsFirstFault
+        (fault_in elements.now (shown fields.now) keys.now counters.now) fault }
     ensures { IfOk result (IsPlace elements.now (shown fields.now) fault) }
 {
     match fault {

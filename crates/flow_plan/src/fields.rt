@@ -3,9 +3,9 @@
 ghost use Rattle.std.specs.Prelude.{◌≡◌, string_bytes, IfOk};
 ghost use Rattle.std.specs.Option.{option_map};
 ghost use Rattle.toml.specs.View.{table_view, view};
-ghost use Rattle.flow_plan.specs.PlanTexts.{is_field as is_field_name, fields_of, required, optional, small_number, method, texts, times_in as times_of, totals_in as totals_of};
-ghost use Rattle.flow_plan.specs.Places.{refused_key, unknown_field as unknown_in, value_of};
-ghost use Rattle.flow_plan.specs.Shown.{shown, texts_of, GivesOr, IsOfKey, ReadsValue};
+ghost use Rattle.flow_plan.specs.PlanTexts.{is_field as is_field_name, required, optional, small_number, method, texts, times_in as times_of, totals_in as totals_of};
+ghost use Rattle.flow_plan.specs.Places.{unknown_field as unknown_in, value_of};
+ghost use Rattle.flow_plan.specs.Shown.{texts_of, ReadsFields, ReadsKey, ReadsValue};
 ghost use Rattle.flow_table.specs.Plans.{basic};
 ghost use Rattle.flow_plan.specs.declared.error.PlanKey.TheVariants.{MaxSpread};
 
@@ -45,8 +45,7 @@ fn is_field(name: &str) -> bool
 /// The values of a document's keys, or the first fault: for each key, in their order, `Missing` and
 /// `WrongKind`.
 pub fn read_fields(alloc: Global, table: &Table) -> Result<Fields<'_>, PlanTextError>
-    ensures { GivesOr shown (IsOfKey (refused_key (table_view table.now))) result
-        (fields_of (table_view table.now)) }
+    ensures { ReadsFields (table_view table.now) result }
 {
     let length = number_at(table, PlanKey::IntervalMs)?;
     let method = method_at(table)?;
@@ -73,7 +72,7 @@ fn value_at(table: &Table, key: PlanKey) -> Option<&Value>
 
 // The number at a key that has to be there.
 fn number_at(table: &Table, key: PlanKey) -> Result<u32, PlanTextError>
-    ensures { ReadsValue (λ n. n) key (table_view table.now) (required small_number) result }
+    ensures { ReadsKey key (table_view table.now) (required small_number) result }
 {
     match value_at(table, key) {
         Some(value) => small_number_in(value).ok_or(PlanTextError::WrongKind { key }),
@@ -83,7 +82,7 @@ fn number_at(table: &Table, key: PlanKey) -> Result<u32, PlanTextError>
 
 // The most intervals that a flow may cover: a value that may be missing.
 fn max_spread(table: &Table) -> Result<u32, PlanTextError>
-    ensures { ReadsValue (λ n. n) MaxSpread (table_view table.now) (optional 4096 small_number) result }
+    ensures { ReadsKey MaxSpread (table_view table.now) (optional 4096 small_number) result }
 {
     let key = PlanKey::MaxSpread;
     match value_at(table, key) {
@@ -93,7 +92,7 @@ fn max_spread(table: &Table) -> Result<u32, PlanTextError>
 }
 
 fn method_at(table: &Table) -> Result<Method, PlanTextError>
-    ensures { ReadsValue (λ m. m) PlanKey.Method (table_view table.now) (required method) result }
+    ensures { ReadsKey PlanKey.Method (table_view table.now) (required method) result }
 {
     let key = PlanKey::Method;
     match value_at(table, key) {
@@ -104,7 +103,7 @@ fn method_at(table: &Table) -> Result<Method, PlanTextError>
 
 // Which elements say times: a value that may be missing.
 fn times_at(table: &Table) -> Result<Times, PlanTextError>
-    ensures { ReadsValue (λ t. t) PlanKey.Times (table_view table.now)
+    ensures { ReadsKey PlanKey.Times (table_view table.now)
         (optional basic.times times_of) result }
 {
     let key = PlanKey::Times;
@@ -116,7 +115,7 @@ fn times_at(table: &Table) -> Result<Times, PlanTextError>
 
 // What becomes of totals: a value that may be missing.
 fn totals_at(table: &Table) -> Result<Totals, PlanTextError>
-    ensures { ReadsValue (λ t. t) PlanKey.Totals (table_view table.now)
+    ensures { ReadsKey PlanKey.Totals (table_view table.now)
         (optional basic.totals totals_of) result }
 {
     let key = PlanKey::Totals;

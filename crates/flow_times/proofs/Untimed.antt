@@ -13,10 +13,10 @@ use Rattle.flow_table.specs.declared.choices.Times.TheVariants.{Basic}
 use Rattle.flow_table.specs.declared.class.Class.{Class}
 use Rattle.flow_table.specs.declared.class.Class.TheVariants.{Options, Untimed, Backward, Unkeyed, TooLong, Used}
 use Rattle.flow_times.specs.Elements.{other_time, start_element}
-use Rattle.flow_times.specs.Noted.{after, first}
+use Rattle.flow_times.specs.Noted.{after, first, noted_of}
 use Rattle.flow_times.specs.Starts.{counted, counted_all}
 use Rattle.flow_times.specs.Timed.{is_timed}
-use Rattle.flow_times.specs.Untimed.{first_other, IsLeftOut, is_timed_flow, times_of, untimed_time}
+use Rattle.flow_times.specs.Untimed.{AreLeftOut, IsLeftOut, first_other, is_timed_flow, times_of, untimed_time}
 use Rattle.flow_times.specs.declared.element.TimeElement.{TimeElement}
 use Rattle.flow_times.specs.declared.notes.TimeNotes.{TimeNotes}
 use Rattle.flow_times.specs.declared.notes.TimeNoting.{TimeNoting}
@@ -81,7 +81,7 @@ counted_so : (rs : List DataRecord) (s : StartCounts) → (after (counting s) rs
 counted_so [] s = refl
 counted_so (r ∷ rs) s = count_step (nat_lt 0 r.scope) s (counted (start_element r.fields) s) rs (counted_so rs)
 
-pub noted_told : (noting : TimeNoting) (rs : List DataRecord) → (after (first noting) rs).report ≡ times_of noting rs
+pub noted_told : (noting : TimeNoting) (rs : List DataRecord) → noted_of noting rs ≡ times_of noting rs
 noted_told noting.Nothing rs = ap (λ (n : TimeNotes). n.report) (none_more rs)
 noted_told noting.Untimed rs = noted_so rs None
 noted_told noting.Starts rs = counted_so rs NO_STARTS
@@ -149,8 +149,8 @@ told_only : (any : Bool) (o : Option TimeElement) (e : TimeElement) → cond any
 told_only true o e is = absurd (cc is)
 told_only false o e is = refl
 
-pub only_untimed : (plan : PlanValue) (rs : List DataRecord) (e : TimeElement) → plan.choices.times ≡ Basic → untimed_time rs ≡ Some e → All (IsLeftOut plan) rs
+pub only_untimed : (plan : PlanValue) (rs : List DataRecord) (e : TimeElement) → plan.choices.times ≡ Basic → untimed_time rs ≡ Some e → AreLeftOut plan rs
 only_untimed plan rs e basic is = all_left plan rs basic (told_only (list_any is_timed_flow rs) (first_other rs) e is)
 
-pub all_untimed : (plan : PlanValue) (rs : List DataRecord) → plan.choices.times ≡ Basic → All (IsLeftOut plan) rs → untimed_time rs ≡ first_other rs
+pub all_untimed : (plan : PlanValue) (rs : List DataRecord) → plan.choices.times ≡ Basic → AreLeftOut plan rs → untimed_time rs ≡ first_other rs
 all_untimed plan rs basic all = ap (λ (b : Bool). cond b None (first_other rs)) (none_timed plan rs basic all)

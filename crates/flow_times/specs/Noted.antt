@@ -8,6 +8,7 @@ use Rattle.flow_times.specs.Elements.{other_time, start_element}
 use Rattle.flow_times.specs.Starts.{counted}
 use Rattle.flow_times.specs.Timed.{is_timed}
 use Rattle.flow_times.specs.declared.notes.TimeNotes.{TimeNotes}
+use Rattle.flow_times.specs.declared.notes.TimesReport.{TimesReport}
 use Rattle.flow_times.specs.declared.notes.TimeNoting.{TimeNoting}
 use Rattle.flow_times.specs.declared.notes.TimeNoting.TheVariants.{Nothing, Untimed, Starts}
 use Rattle.flow_times.specs.declared.notes.TheConstants.{NO_TIMES}
@@ -42,3 +43,7 @@ next n r = if nat_lt 0 r.scope then n else next_flow n.noting n r
 abbrev pub after : TimeNotes → List DataRecord → TimeNotes
 after n [] = n
 after n (r ∷ rs) = after (next n r) rs
+
+-- what is noted of a session's records
+abbrev pub noted_of : TimeNoting → List DataRecord → TimesReport
+noted_of noting rs = (after (first noting) rs).report

@@ -1,10 +1,11 @@
 -- What is told of the times of a session's flows.
-use Rattle.std.specs.Prelude.{◌≡◌, ◌⊎◌, Bool, ◌&&◌, if◌then◌else◌, List, [], ◌∷◌, Option, None}
+use Rattle.std.specs.Prelude.{◌≡◌, ◌⊎◌, Bool, ◌&&◌, if◌then◌else◌, List, [], ◌∷◌, All, Option, None}
 use Rattle.std.specs.List.{list_any}
 use Rattle.std.specs.Option.{option_or}
 use Rattle.ipfix_message.specs.declared.record.DataRecord.{DataRecord}
 use Rattle.flow_table.specs.Plans.{PlanValue}
 use Rattle.flow_table.specs.Reading.{class_of}
+use Rattle.flow_table.specs.declared.choices.Times.TheVariants.{Basic}
 use Rattle.flow_table.specs.declared.class.Class.TheVariants.{Options, Untimed}
 use Rattle.flow_times.specs.Elements.{other_time}
 use Rattle.flow_times.specs.Starts.{starts_of}
@@ -38,3 +39,11 @@ times_of noting.Starts rs = record { untimed = None; starts = starts_of rs }
 -- under a plan the record is of options, or untimed
 abbrev pub IsLeftOut : PlanValue → DataRecord → Type 0
 IsLeftOut plan r = (class_of plan r ≡ Options) ⊎ (class_of plan r ≡ Untimed)
+
+-- each of these is
+abbrev pub AreLeftOut : PlanValue → List DataRecord → Type 0
+AreLeftOut plan rs = All (IsLeftOut plan) rs
+
+-- for each plan that reads milliseconds and seconds alone, and each list of records
+abbrev pub ForBasic : (PlanValue → List DataRecord → Type 0) → Type 0
+ForBasic P = (plan : PlanValue) (rs : List DataRecord) → plan.choices.times ≡ Basic → P plan rs

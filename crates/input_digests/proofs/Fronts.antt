@@ -7,7 +7,7 @@ use Rattle.std.proofs.lemmas.List.{length-append, length-drop, length-take-le, t
 use Rattle.std.proofs.lemmas.List.Edits.{take-paste}
 use Rattle.ipfix_session.specs.Ledger.{capped}
 use Rattle.input_digests.specs.declared.front_digest.FrontDigest.{FrontDigest}
-use Rattle.input_digests.specs.FrontDigests.{HasRead, HoldsRest}
+use Rattle.input_digests.specs.FrontDigests.{HasRead, HashesHeld}
 use Rattle.input_digests.specs.declared.front_digest.TheConstants.{MOST_OPEN}
 use Rattle.sha2.specs.Hashers.{Holds256}
 use Rattle.sha2.specs.declared.Sha256.{Sha256}
@@ -32,7 +32,7 @@ taken front held text octets hashed rest is count small sum =
 -- ---- what is hashed of it
 
 -- a digest that hashed so many more of a text's octets, which are known to count, or leave enough of them
-pub hashed_more : (old new : FrontDigest) (due sure known : ℕ) (text : List ℕ) → due ≤ length old.held → ((front t : List ℕ) → HoldsRest old front t → HoldsRest new (front ++ take due old.held) t)
+pub hashed_more : (old new : FrontDigest) (due sure known : ℕ) (text : List ℕ) → due ≤ length old.held → HashesHeld old new due
     → (read : HasRead old sure text) → (length read.front + due ≤ known) ⊎ (MOST_OPEN ≤ length new.held) → HasRead new known text
 hashed_more old new due sure known text within moved read behind =
     let long : length (read.front ++ take due old.held) ≡ length read.front + due = length-append read.front (take due old.held) ∙ ap (λ (n : ℕ). length read.front + n) (length-take-le due old.held within) in
@@ -43,14 +43,14 @@ hashed_more old new due sure known text within moved read behind =
     }
 
 -- and that has made room
-pub made_room : (old new : FrontDigest) (held sure : ℕ) (text : List ℕ) → held ≡ length old.held → MOST_OPEN < held → ((front t : List ℕ) → HoldsRest old front t → HoldsRest new (front ++ take (held - MOST_OPEN) old.held) t)
+pub made_room : (old new : FrontDigest) (held sure : ℕ) (text : List ℕ) → held ≡ length old.held → MOST_OPEN < held → HashesHeld old new (held - MOST_OPEN)
     → length new.held + (held - MOST_OPEN) ≡ length old.held → HasRead old sure text → HasRead new sure text
 made_room old new held sure text is many moved sum read =
     hashed_more old new (held - MOST_OPEN) sure sure text (omega arith) moved read (inr (omega arith))
 
 -- and of whose text so many octets are known to count
 pub settled : (old new : FrontDigest) (octets due sure : ℕ) (text : List ℕ) → octets < 2 ^ 64 → due ≡ min (octets - old.hashed) (length old.held)
-    → ((front t : List ℕ) → HoldsRest old front t → HoldsRest new (front ++ take due old.held) t) → length new.held + due ≡ length old.held
+    → HashesHeld old new due → length new.held + due ≡ length old.held
     → HasRead old sure text → HasRead new (max sure octets) text
 settled old new octets due sure text fits is moved sum read =
     hashed_more old new due sure (max sure octets) text (omega arith) moved read (by_count (cases_lt old.hashed octets) read.behind)

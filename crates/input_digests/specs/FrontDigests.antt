@@ -1,5 +1,5 @@
 -- What a digest of the front of a text has read.
-use Rattle.std.specs.Prelude.{◌≡◌, ◌≤◌, ◌<◌, ℕ, ◌+◌, ◌⊎◌, List, ◌++◌, length}
+use Rattle.std.specs.Prelude.{◌≡◌, ◌≤◌, ◌<◌, ℕ, ◌+◌, ◌^◌, ◌⊎◌, List, ◌++◌, length, take}
 use Rattle.sha2.specs.Hashers.{Holds256}
 use Rattle.ipfix_session.specs.Ledger.{capped}
 use Rattle.input_digests.specs.declared.front_digest.FrontDigest.{FrontDigest}
@@ -17,6 +17,18 @@ pub record HasRead (digest : FrontDigest) (sure : ℕ) (text : List ℕ) : Type 
   pub front : List ℕ
   pub holds : HoldsRest digest front text
   pub behind : (length front ≤ sure) ⊎ (MOST_OPEN ≤ length digest.held)
+
+-- P holds of each text that a digest has read, and of how many of its octets are known to count
+abbrev pub IfRead : FrontDigest → (ℕ → List ℕ → Type 0) → Type 0
+IfRead digest P = (sure : ℕ) (text : List ℕ) → HasRead digest sure text → P sure text
+
+-- the same of texts of fewer than 2^64 octets, which it counts
+abbrev pub IfCounted : FrontDigest → (ℕ → List ℕ → Type 0) → Type 0
+IfCounted digest P = (sure : ℕ) (text : List ℕ) → HasRead digest sure text → length text < 2 ^ 64 → P sure text
+
+-- a digest hashed so many of the octets that it held, the first ones
+abbrev pub HashesHeld : FrontDigest → FrontDigest → ℕ → Type 0
+HashesHeld old new due = (front text : List ℕ) → HoldsRest old front text → HoldsRest new (front ++ take due old.held) text
 
 -- the digest of so many octets may be unknown: the text has fewer, or more are known to count, or the text has many more
 abbrev pub MayBeUnknown : ℕ → ℕ → List ℕ → Type 0

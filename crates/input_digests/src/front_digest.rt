@@ -1,8 +1,8 @@
 //! The digest of the front of a text, whose length is known only at its end.
 
-ghost use Rattle.std.specs.Prelude.{◌≡◌, ◌≤◌, ◌<◌, ◌+◌, ◌^◌, ◌++◌, [], ℕ, List, length, max, take, IfSome, IfNone, OnOk};
+ghost use Rattle.std.specs.Prelude.{◌≡◌, ◌≤◌, ◌+◌, ◌++◌, [], length, max, take, IfSome, IfNone, OnOk};
 ghost use Rattle.sha2.specs.Sha256.{sha256};
-ghost use Rattle.input_digests.specs.FrontDigests.{HasRead, HoldsRest, MayBeUnknown};
+ghost use Rattle.input_digests.specs.FrontDigests.{HasRead, HashesHeld, IfRead, IfCounted, MayBeUnknown};
 
 use crate::held_octets::HeldOctets;
 use sha2::{Digest, Sha256};
@@ -38,8 +38,8 @@ impl FrontDigest {
 
     /// Reads on in the text. An `Err` is memory that couldn't be had: the piece is lost.
     pub fn read(&mut self, piece: &[u8]) -> Result<(), AllocError>
-        ensures { OnOk result ((sure : ℕ) (text : List ℕ) → HasRead self.old sure text
-            → HasRead self.new sure (text ++ piece.now)) }
+        ensures { OnOk result
+            (IfRead self.old (λ sure text. HasRead self.new sure (text ++ piece.now))) }
     {
         self.make_room(piece.len());
         self.held.append(piece)?;
@@ -48,8 +48,7 @@ impl FrontDigest {
 
     // Hashes what surely counts, if with so many octets more there were too many to hold.
     fn make_room(&mut self, coming: usize)
-        ensures { (sure : ℕ) (text : List ℕ) → HasRead self.old sure text
-            → HasRead self.new sure text }
+        ensures { IfRead self.old (λ sure text. HasRead self.new sure text) }
     {
         let held = self.held.as_slice().len();
         if held > MOST_OPEN && held.saturating_add(coming) > MOST_HELD {
@@ -60,8 +59,7 @@ impl FrontDigest {
     /// Takes it that the first octets of the text, so many of them, count: those that were read are hashed, and no
     /// memory is kept for them.
     pub fn settle(&mut self, octets: u64)
-        ensures { (sure : ℕ) (text : List ℕ) → HasRead self.old sure text
-            → HasRead self.new (max sure octets) text }
+        ensures { IfRead self.old (λ sure text. HasRead self.new (max sure octets) text) }
     {
         let held = self.held.as_slice().len();
         let due = octets.saturating_sub(self.hashed).min(held as u64) as usize;
@@ -72,8 +70,7 @@ impl FrontDigest {
     // Hashes so many of the octets that are held.
     fn hash_held(&mut self, due: usize)
         requires { due ≤ length self.old.held }
-        ensures moved { (front text : List ℕ) → HoldsRest self.old front text
-            → HoldsRest self.new (front ++ take due self.old.held) text }
+        ensures moved { HashesHeld self.old self.new due }
         ensures length { length self.new.held + due ≡ length self.old.held }
     {
         self.hasher.update(&self.held.as_slice()[..due]);
@@ -84,12 +81,11 @@ impl FrontDigest {
     /// The digest of the first octets of the text, so many of them. `None` if the text has fewer, or if these are
     /// fewer than are known to count, or the text has [`MOST_OPEN`] more. A text has less than 2^64 octets.
     pub fn finish(self, octets: u64) -> Option<[u8; 32]>
-        ensures found { (sure : ℕ) (text : List ℕ) → HasRead self sure text → length text < 2 ^ 64
-            → IfSome result (λ digest. digest ≡ sha256 (take octets text)) }
-        ensures within { (sure : ℕ) (text : List ℕ) → HasRead self sure text → length text < 2 ^ 64
-            → IfSome result (λ digest. octets ≤ length text) }
-        ensures none { (sure : ℕ) (text : List ℕ) → HasRead self sure text → length text < 2 ^ 64
-            → IfNone result (MayBeUnknown octets sure text) }
+        ensures found { IfCounted self (λ _ text.
+            IfSome result (λ sha. sha ≡ sha256 (take octets text))) }
+        ensures within { IfCounted self (λ _ text. IfSome result (λ _. octets ≤ length text)) }
+        ensures none { IfCounted self (λ sure text.
+            IfNone result (MayBeUnknown octets sure text)) }
     {
         let FrontDigest {
             mut hasher,

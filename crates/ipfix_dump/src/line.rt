@@ -87,7 +87,7 @@ fn append_field(
     labels: &mut Labels,
     out: &mut LineOctets,
 ) -> Result<(), AllocError>
-    ensures field { OnOk result
+    ensures text { OnOk result
         (out.new ≡ out.old ++ field_by labels.old later (field_of field.entry)) }
     ensures elements { labels.new.elements.now ≡ labels.old.elements.now }
     ensures form { labels.new.form ≡ labels.old.form }
@@ -104,7 +104,7 @@ fn append_text_field(
     out: &mut LineOctets,
 ) -> Result<(), AllocError>
     requires { labels.old.form ≡ forms.Text }
-    ensures field { OnOk result
+    ensures text { OnOk result
         (out.new ≡ out.old ++ field_by labels.old false (field_of field.entry)) }
     ensures elements { labels.new.elements.now ≡ labels.old.elements.now }
     ensures form { labels.new.form ≡ labels.old.form }
@@ -121,7 +121,7 @@ fn append_json_field(
     out: &mut LineOctets,
 ) -> Result<(), AllocError>
     requires { labels.old.form ≡ forms.Json }
-    ensures field { OnOk result
+    ensures text { OnOk result
         (out.new ≡ out.old ++ field_by labels.old later (field_of field.entry)) }
     ensures elements { labels.new.elements.now ≡ labels.old.elements.now }
     ensures form { labels.new.form ≡ labels.old.form }

@@ -20,7 +20,7 @@ use Rattle.flow_table.proofs.OneTable.{Among, among}
 use Rattle.flow_table.proofs.RowsHeld.{places_of_values}
 use Rattle.flow_table.proofs.Sums.{sum_at-none}
 use Rattle.largest_sessions.specs.LeftOut.{Place, AreLeftOut}
-use Rattle.largest_sessions.specs.SessionNumbers.{numbers_of_plan, by_records, by_rows, number_of}
+use Rattle.largest_sessions.specs.SessionNumbers.{AreLeftOutOf, numbers_of_plan, by_records, by_rows, number_of}
 use Rattle.largest_sessions.specs.Walks.{Rows, Ascend}
 use Rattle.largest_sessions.proofs.LeftAlike.{Agree, left_out-agree}
 use Rattle.largest_sessions.proofs.Rests.{off_place, at_place}
@@ -89,7 +89,7 @@ same_sessions plan count (rs ∷ lists) [] are = absurd are
 same_sessions plan count (rs ∷ lists) (table ∷ tables) are = (λ q other n counted. same_numbers plan rs table are.0 q n, same_sessions plan count lists tables are.1)
 
 pub left_out_by_records : (plan : PlanValue) (lists : List (List DataRecord)) (tables : List Table) (out : List ℕ) → AllZip (IsTable plan) lists tables
-    → AreLeftOut (numbers_of_plan plan) (map by_rows (map rows_in tables)) out → AreLeftOut (numbers_of_plan plan) (map (by_records plan) lists) out
+    → AreLeftOut (numbers_of_plan plan) (map by_rows (map rows_in tables)) out → AreLeftOutOf plan out lists
 left_out_by_records plan lists tables out are left =
     left_out-agree (numbers_of_plan plan) (λ q. ⊥) (λ q. inr (λ h. h)) (map (by_records plan) lists) (map by_rows (map rows_in tables)) (same_sessions plan (numbers_of_plan plan) lists tables are)
     (λ q there. absurd there) (λ q there. absurd there) out left

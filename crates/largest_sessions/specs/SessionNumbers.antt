@@ -6,7 +6,7 @@ use Rattle.flow_table.specs.AddedUp.{place}
 use Rattle.flow_table.specs.Plans.{PlanValue}
 use Rattle.flow_table.specs.SameTables.{RowValue}
 use Rattle.flow_table.specs.Tables.{place_cmp, flows_at, sum_at}
-use Rattle.largest_sessions.specs.LeftOut.{Numbers, Place}
+use Rattle.largest_sessions.specs.LeftOut.{AreLeftOut, Numbers, Place}
 
 -- how many numbers a row has: a sum of each counter, and its flows
 abbrev pub numbers_of_plan : PlanValue → ℕ
@@ -15,6 +15,10 @@ numbers_of_plan plan = length plan.counters + 1
 -- by its records: the sum of each counter, and how many flows there are
 abbrev pub by_records : PlanValue → List DataRecord → Numbers
 by_records plan rs p n = slice_index_or (map (sum_at plan rs p.0 p.1) plan.counters ++ flows_at plan rs p.0 p.1 ∷ []) n 0
+
+-- of sessions with these records those of these indices are left out
+abbrev pub AreLeftOutOf : PlanValue → List ℕ → List (List DataRecord) → Type 0
+AreLeftOutOf plan out lists = AreLeftOut (numbers_of_plan plan) (map (by_records plan) lists) out
 
 -- a row's
 abbrev pub number_of : RowValue → ℕ → ℕ

@@ -1,5 +1,5 @@
 -- A walk over the rows of all tables at once, in their order.
-use Rattle.std.specs.Prelude.{◌≡◌, ℕ, ◌<◌, ◌≤◌, List, [], ◌∷◌, ◌++◌, length, map, slice_index_or, sum_by, All, Option, None, Some, if◌then◌else◌}
+use Rattle.std.specs.Prelude.{◌≡◌, ℕ, ◌^◌, ◌<◌, ◌≤◌, List, [], ◌∷◌, ◌++◌, length, map, slice_index_or, sum_by, All, Option, None, Some, if◌then◌else◌}
 use Rattle.std.specs.List.Sorted.{IsStrictlySortedBy}
 use Rattle.std.specs.Ordering.{is_eq}
 use Rattle.std.specs.declared.cmp.Ordering.TheVariants.{Less}
@@ -29,6 +29,10 @@ first_number (row ∷ rows) p n = number_at row p n
 -- what the first rows of all tables have there together
 abbrev pub first_numbers : List Rows → Place → ℕ → ℕ
 first_numbers all p n = sum_by (λ (rows : Rows). first_number rows p n) all
+
+-- each of so many of these numbers has a place in 64 bits
+abbrev pub FirstsFit : ℕ → List Rows → Place → Type 0
+FirstsFit count all p = (m : ℕ) → m < count → first_numbers all p m < 2 ^ 64
 
 -- the first row, if there is one, isn't before a place
 abbrev pub IsNotBefore : Place → Rows → Type 0

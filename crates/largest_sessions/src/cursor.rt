@@ -1,8 +1,9 @@
 //! The rows of one table, in their order.
 
 ghost use Rattle.std.specs.Prelude.{◌≡◌, ◌<◌, [], None, true, false, drop, length, IfOk, IfSome, OnOk};
-ghost use Rattle.flow_table.specs.AddedUp.{place as place_in, rows_in};
+ghost use Rattle.flow_table.specs.AddedUp.{rows_in};
 ghost use Rattle.flow_table.specs.SameTables.{value_of};
+ghost use Rattle.flow_table.specs.Tables.{place_of};
 ghost use Rattle.largest_sessions.specs.SessionNumbers.{number_of};
 ghost use Rattle.largest_sessions.specs.Walks.{IsBefore, StartsWith, after_place, first_number};
 
@@ -86,7 +87,7 @@ impl Cursor {
     /// What the next row has at the place of a row: the number of an index, or 0.
     #[tactic(auto, using(crate::proofs::FirstRows::number_there, crate::proofs::FirstRows::number_elsewhere, crate::proofs::FirstRows::number_none))]
     pub fn number_at(&self, place: &Row, number: usize) -> u64
-        ensures { result ≡ first_number self.now (place_in (value_of place.now)) number }
+        ensures { result ≡ first_number self.now (place_of place.now) number }
     {
         let Some(row) = self.row() else {
             return 0;
@@ -101,8 +102,8 @@ impl Cursor {
     /// Whether a row is before the next one.
     #[tactic(auto, using(crate::proofs::FirstRows::before_first, crate::proofs::FirstRows::not_before_first, crate::proofs::FirstRows::before_none))]
     pub fn is_after(&self, row: &Row) -> bool
-        ensures yes { result ≡ true → IsBefore (place_in (value_of row.now)) self.now }
-        ensures no { result ≡ false → IsBefore (place_in (value_of row.now)) self.now → ⊥ }
+        ensures yes { result ≡ true → IsBefore (place_of row.now) self.now }
+        ensures no { result ≡ false → IsBefore (place_of row.now) self.now → ⊥ }
     {
         let Some(next) = self.row() else {
             return false;
@@ -130,7 +131,7 @@ impl Cursor {
     /// Goes on after the place of a row.
     #[tactic(auto, using(crate::proofs::FirstRows::after_there, crate::proofs::FirstRows::after_elsewhere, crate::proofs::FirstRows::after_no_row))]
     pub fn pass(&mut self, place: &Row) -> Result<(), AllocError>
-        ensures { OnOk result (self.new ≡ after_place (place_in (value_of place.now)) self.old) }
+        ensures { OnOk result (self.new ≡ after_place (place_of place.now) self.old) }
     {
         let Some(row) = self.row() else {
             return Ok(());

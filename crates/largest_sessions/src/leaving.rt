@@ -1,13 +1,9 @@
 //! Which sessions are left out.
 
-ghost use Rattle.std.specs.Prelude.{◌≡◌, List, All, map, IfOk};
-ghost use Rattle.std.specs.List.{AllZip};
-ghost use Rattle.ipfix_message.specs.declared.record.DataRecord.{DataRecord};
-ghost use Rattle.flow_table.specs.AddedUp.{rows_in};
+ghost use Rattle.std.specs.Prelude.{◌≡◌, All, map, IfOk};
+ghost use Rattle.flow_table.specs.AddedUp.{ForListsOf, rows_in};
 ghost use Rattle.flow_table.specs.Fitting.{FitsPlan};
-ghost use Rattle.flow_table.specs.Tables.{IsTable};
-ghost use Rattle.largest_sessions.specs.LeftOut.{AreLeftOut};
-ghost use Rattle.largest_sessions.specs.SessionNumbers.{by_records, numbers_of_plan};
+ghost use Rattle.largest_sessions.specs.SessionNumbers.{AreLeftOutOf};
 
 use crate::cursor::Cursor;
 use crate::walk::{first_cursor, step};
@@ -37,9 +33,8 @@ pub fn left_out(
     tables: Vec<FlatTable>,
 ) -> Result<Vec<usize>, AllocError>
     requires fits { All (FitsPlan plan.now) tables.items }
-    ensures { IfOk result (λ out. (lists : List (List DataRecord))
-        → AllZip (IsTable plan.now) lists tables.items
-        → AreLeftOut (numbers_of_plan plan.now) (map (by_records plan.now) lists) out.items) }
+    ensures { IfOk result (λ out.
+        ForListsOf plan.now tables.items (AreLeftOutOf plan.now out.items)) }
 {
     let count = plan.counters().len() + 1;
     let mut cursors = cursors_of(alloc, tables)?;

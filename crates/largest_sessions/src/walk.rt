@@ -1,9 +1,8 @@
 //! One place after another, over the rows of all tables.
 
-ghost use Rattle.std.specs.Prelude.{◌≡◌, ◌+◌, ◌^◌, ◌<◌, ◌≤◌, ℕ, None, All, true, false, length, map, IfOk, IfSome, OnOk};
-ghost use Rattle.flow_table.specs.AddedUp.{place as place_in};
-ghost use Rattle.flow_table.specs.SameTables.{value_of};
-ghost use Rattle.largest_sessions.specs.Walks.{Ascend, Continues, HasMost, IsFirstOf, StartsFirst, after_place, first_numbers};
+ghost use Rattle.std.specs.Prelude.{◌≡◌, ◌+◌, ◌^◌, ◌<◌, ◌≤◌, None, All, true, false, length, map, IfOk, IfSome, OnOk};
+ghost use Rattle.flow_table.specs.Tables.{place_of};
+ghost use Rattle.largest_sessions.specs.Walks.{Ascend, Continues, FirstsFit, HasMost, IsFirstOf, StartsFirst, after_place, first_numbers};
 
 use crate::cursor::Cursor;
 use flow_table::Row;
@@ -43,10 +42,8 @@ pub(crate) fn first_cursor(cursors: &[Cursor]) -> Option<usize>
 // Whether all tables together have 2^64 or more at a place: of the number of an index.
 #[tactic(auto, using(crate::proofs::FirstRows::one_more))]
 fn is_too_large(cursors: &[Cursor], place: &Row, number: usize) -> bool
-    ensures yes { result ≡ true
-        → 2 ^ 64 ≤ first_numbers cursors.now (place_in (value_of place.now)) number }
-    ensures no { result ≡ false
-        → first_numbers cursors.now (place_in (value_of place.now)) number < 2 ^ 64 }
+    ensures yes { result ≡ true → 2 ^ 64 ≤ first_numbers cursors.now (place_of place.now) number }
+    ensures no { result ≡ false → first_numbers cursors.now (place_of place.now) number < 2 ^ 64 }
 {
     let mut total: u64 = 0;
     for cursor in cursors {
@@ -61,12 +58,10 @@ fn is_too_large(cursors: &[Cursor], place: &Row, number: usize) -> bool
 // The first of so many numbers at a place that has no room in 64 bits.
 fn large_number(cursors: &[Cursor], place: &Row, count: usize) -> Option<usize>
     ensures inside { IfSome result (λ n. n < count) }
-    ensures large { IfSome result (λ n.
-        2 ^ 64 ≤ first_numbers cursors.now (place_in (value_of place.now)) n) }
-    ensures first { IfSome result (λ n. (m : ℕ) → m < n
-        → first_numbers cursors.now (place_in (value_of place.now)) m < 2 ^ 64) }
-    ensures none { result ≡ None → (m : ℕ) → m < count
-        → first_numbers cursors.now (place_in (value_of place.now)) m < 2 ^ 64 }
+    ensures large { IfSome result
+        (λ n. 2 ^ 64 ≤ first_numbers cursors.now (place_of place.now) n) }
+    ensures first { IfSome result (λ n. FirstsFit n cursors.now (place_of place.now)) }
+    ensures none { result ≡ None → FirstsFit count cursors.now (place_of place.now) }
 {
     for number in 0..count {
         if is_too_large(cursors, place, number) {
@@ -80,7 +75,7 @@ fn large_number(cursors: &[Cursor], place: &Row, count: usize) -> Option<usize>
 #[tactic(auto, using(crate::proofs::FirstRows::most_alone, crate::proofs::FirstRows::most_changes, crate::proofs::FirstRows::most_stays))]
 fn most_at(cursors: &[Cursor], place: &Row, number: usize) -> usize
     requires { 0 < length cursors.now }
-    ensures { HasMost cursors.now (length cursors.now) (place_in (value_of place.now)) number result }
+    ensures { HasMost cursors.now (length cursors.now) (place_of place.now) number result }
 {
     let mut most = 0;
     for index in 1..cursors.len() {
@@ -94,8 +89,7 @@ fn most_at(cursors: &[Cursor], place: &Row, number: usize) -> usize
 
 // Goes on after a place.
 fn pass_place(cursors: &mut [Cursor], place: &Row) -> Result<(), AllocError>
-    ensures { OnOk result
-        (cursors.new ≡ map (after_place (place_in (value_of place.now))) cursors.old) }
+    ensures { OnOk result (cursors.new ≡ map (after_place (place_of place.now)) cursors.old) }
 {
     for cursor in cursors {
         cursor.pass(place)?;

@@ -1,11 +1,12 @@
 -- Files that are collected one after another, each by itself.
-use Rattle.std.proofs.Common.{◌≡◌, ℕ, suc, ◌+◌, List, [], ◌∷◌, ◌++◌, length, map, Option, None, Some, refl, sym, ap, subst, ◌∙◌, append-nil, arith}
-use Rattle.std.specs.Prelude.{All, slice_index_or}
+use Rattle.std.proofs.Common.{◌≡◌, ℕ, suc, ◌+◌, List, [], ◌∷◌, ◌++◌, length, Option, None, Some, refl, sym, ap, subst, ◌∙◌, append-nil, arith}
+use Rattle.std.specs.Prelude.{All}
 use Rattle.std.specs.List.{AllZip}
 use Rattle.std.proofs.lemmas.List.Elements.{All-append, All-cons, All-nil}
 use Rattle.ipfix_message.specs.declared.record.DataRecord.{DataRecord}
-use Rattle.ipfix_session.specs.Sources.{SourceView}
-use Rattle.report_writing.specs.Lines.{LinesView}
+use Rattle.ipfix_session.specs.declared.source.Source as source
+use Rattle.input_sources.specs.declared.opening.OpenSource as opening
+use Rattle.report_writing.specs.declared.write_lines.WriteLines as writing
 use Rattle.report_writing.specs.declared.origin.Origin.{Origin}
 use Rattle.report_writing.specs.declared.verbosity.TheConstants.{NOTHING_MORE}
 use Rattle.input_sources.specs.InputsTold.{opened_lines}
@@ -14,7 +15,7 @@ use Rattle.flow_table.specs.Fitting.{FitsPlan}
 use Rattle.flow_table.specs.Plans.{PlanValue}
 use Rattle.flow_table.specs.Tables.{IsTable}
 use Rattle.flow_table.specs.declared.table.Table.{Table}
-use Rattle.period_collect.specs.LeftOutFiles.{Alone, AreFilesLeftOut, lists_of, places_with, places_without}
+use Rattle.period_collect.specs.LeftOutFiles.{Alone, AreFilesLeftOut, lists_of, places_at, places_with, places_without}
 use Rattle.period_collect.specs.Parting.{AreAlone, AreOut, AreOwn, IsAlone, IsKept, IsOwnTable}
 use Rattle.period_collect.specs.declared.maker.TableMaker.{TableMaker}
 use Rattle.period_collect.specs.declared.parting.OwnTables.{OwnTables}
@@ -100,18 +101,18 @@ pub files_out : (plan : PlanValue) (alone : List Alone) (own : OwnTables) (out :
 files_out plan alone own out are goes = record {
   others = goes.left;
   are_others = goes.are_left;
-  are = goes.are ∙ ap (λ (o : List ℕ). o ++ map (λ i. slice_index_or own.places.items i 0) goes.left) are.others
-      ∙ ap (λ (p : List ℕ). places_without 0 alone ++ map (λ i. slice_index_or p i 0) goes.left) are.places;
+  are = goes.are ∙ ap (λ (o : List ℕ). o ++ places_at own.places.items goes.left) are.others
+      ∙ ap (λ (p : List ℕ). places_without 0 alone ++ places_at p goes.left) are.places;
 }
 
 -- ---- the states of the maker
 
-module _ {S O E : Type 0} (seen : S → SourceView) (opens : O → List ℕ → S → Type 0) (sizes : O → List ℕ → Option ℕ → Type 0) (coming : O → Option (List S)) (lines : E → LinesView) where
-  pub alone_more : (before between after : TableMaker S O E) (paths : List (List ℕ)) (alone : List Alone) (path : List ℕ) (a : Alone)
-      → AreAlone seen opens sizes coming lines before between paths alone → IsAlone seen opens sizes coming lines between after path a
-      → AreAlone seen opens sizes coming lines before after (paths ++ path ∷ []) (alone ++ a ∷ [])
+module _ {S O E : Type 0} {as_source : source.Ghosts S} {as_opener : opening.Ghosts O S} {as_writer : writing.Ghosts E} where
+  pub alone_more : (before between after : TableMaker S O E as_source as_opener as_writer) (paths : List (List ℕ)) (alone : List Alone) (path : List ℕ) (a : Alone)
+      → AreAlone before between paths alone → IsAlone between after path a
+      → AreAlone before after (paths ++ path ∷ []) (alone ++ a ∷ [])
   alone_more before between after [] [] path a same is =
-      (after, subst (λ (m : TableMaker S O E). IsAlone seen opens sizes coming lines m after path a) same is, refl)
+      (after, subst (λ (m : TableMaker S O E as_source as_opener as_writer). IsAlone m after path a) same is, refl)
   alone_more before between after [] (b ∷ alone) path a all is = absurd all
   alone_more before between after (x ∷ paths) [] path a all is = absurd all
   alone_more before between after (x ∷ paths) (b ∷ alone) path a all is = (all.0, all.1, alone_more all.0 between after paths alone path a all.2 is)

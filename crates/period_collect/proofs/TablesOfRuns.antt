@@ -1,15 +1,14 @@
 -- The table of the last of several runs, before each of which a lot more was left out.
-use Rattle.std.proofs.Common.{◌≡◌, ◌<◌, ℕ, List, [], ◌∷◌, ◌++◌, length, Bool, Option, None, Some, inl, inr, refl, sym, ap, subst, ◌∙◌, append-nil, append_assoc, arith}
+use Rattle.std.proofs.Common.{◌≡◌, ◌<◌, ℕ, List, [], ◌∷◌, ◌++◌, length, None, Some, inl, inr, refl, sym, ap, subst, ◌∙◌, append-nil, append_assoc, arith}
 use Rattle.std.specs.Prelude.{◌==◌, true, false}
 use Rattle.std.proofs.lemmas.Bool.{eqb-true}
 use Rattle.std.proofs.lemmas.Grind.{flat_map-append}
 use Rattle.std.specs.declared.alloc.Global.{Global}
-use Rattle.std.specs.declared.io.ErrorKind.{ErrorKind}
 use Rattle.std.specs.declared.string.String.{String}
 use Rattle.std.specs.declared.vec.Vec.{Vec}
-use Rattle.ipfix_session.specs.Sources.{SourceView}
-use Rattle.report_writing.specs.Lines.{LinesView}
-use Rattle.report_writing.specs.declared.reason.Reason.{Reason}
+use Rattle.ipfix_session.specs.declared.source.Source as source
+use Rattle.input_sources.specs.declared.opening.OpenSource as opening
+use Rattle.report_writing.specs.declared.write_lines.WriteLines as writing
 use Rattle.report_writing.specs.declared.status.Status.{Status}
 use Rattle.report_writing.specs.declared.status.Status.TheVariants.{Failed}
 use Rattle.command_collect.specs.declared.receipts.run.Ended.{Ended}
@@ -32,105 +31,99 @@ pub some_in : (lot : List ℕ) → (length lot == 0) ≡ false → 0 < length lo
 some_in [] is = absurd cc
 some_in (place ∷ lot) is = omega arith
 
-module _ {S O E : Type 0} (seen : S → SourceView) (failure : S → Option ErrorKind) (opens : O → List ℕ → S → Type 0) (sizes : O → List ℕ → Option ℕ → Type 0) (refuses : O → List ℕ → Reason → Type 0) (coming : O → Option (List S))
-    (lines : E → LinesView) (begins : ℕ) (files : List (String Global)) where
-  lots_more : (before between after : TableMaker S O E) (out : List ℕ) (lots : List (List ℕ)) (lot : List ℕ) → LeaveLots seen failure opens sizes refuses coming lines before between begins files out lots
-      → LeavesLot seen failure opens sizes refuses coming lines between after begins files (out ++ all_out lots) lot → LeaveLots seen failure opens sizes refuses coming lines before after begins files out (lots ++ lot ∷ [])
+module _ {S O E : Type 0} {as_source : source.Ghosts S} {as_opener : opening.Ghosts O S} {as_writer : writing.Ghosts E} (begins : ℕ) (files : List (String Global)) where
+  lots_more : (before between after : TableMaker S O E as_source as_opener as_writer) (out : List ℕ) (lots : List (List ℕ)) (lot : List ℕ) → LeaveLots before between begins files out lots
+      → LeavesLot between after begins files (out ++ all_out lots) lot → LeaveLots before after begins files out (lots ++ lot ∷ [])
   lots_more before between after out [] lot same is = (
     after,
-    subst (λ (m : TableMaker S O E). LeavesLot seen failure opens sizes refuses coming lines m after begins files out lot) same
-        (subst (λ (o : List ℕ). LeavesLot seen failure opens sizes refuses coming lines between after begins files o lot) (append-nil out) is),
+    subst (λ (m : TableMaker S O E as_source as_opener as_writer). LeavesLot m after begins files out lot) same
+        (subst (λ (o : List ℕ). LeavesLot between after begins files o lot) (append-nil out) is),
     refl,
   )
   lots_more before between after out (first ∷ lots) lot all is = (
     all.0,
     all.1,
     lots_more all.0 between after (out ++ first) lots lot all.2
-        (subst (λ (o : List ℕ). LeavesLot seen failure opens sizes refuses coming lines between after begins files o lot) (sym (append_assoc out first (all_out lots))) is),
+        (subst (λ (o : List ℕ). LeavesLot between after begins files o lot) (sym (append_assoc out first (all_out lots))) is),
   )
 
   -- ---- what a run gave
 
-  module _ (before ran after : TableMaker S O E) (out : List ℕ) (ended : Ended (Vec ℕ Global) KeptReceipt) (run : IsRun seen failure opens sizes refuses coming lines before ran begins files out ended) where
-    pub lot_of_hindered : (lot : List ℕ) (hindrance : Hindrance) → ended.hindrance ≡ Some hindrance → LeavesOutMore seen failure opens sizes refuses coming lines ran after begins files out lot hindrance
-        → LeavesLot seen failure opens sizes refuses coming lines before after begins files out lot
+  module _ (before ran after : TableMaker S O E as_source as_opener as_writer) (out : List ℕ) (ended : Ended (Vec ℕ Global) KeptReceipt) (run : IsRun before ran begins files out ended) where
+    pub lot_of_hindered : (lot : List ℕ) (hindrance : Hindrance) → ended.hindrance ≡ Some hindrance → LeavesOutMore ran after begins files out lot hindrance
+        → LeavesLot before after begins files out lot
     lot_of_hindered lot hindrance is leaves = inl (record { tried = ran; hindrance = hindrance; hindered = record { ended = ended; run = run; is = is }; leaves_out = leaves })
 
-    pub none_of_rest : (hindrance : Hindrance) → ended.hindrance ≡ Some hindrance → (status : Status) → HasNoRest status → HasNoTable seen failure opens sizes refuses coming lines before after begins files out status
+    pub none_of_rest : (hindrance : Hindrance) → ended.hindrance ≡ Some hindrance → (status : Status) → HasNoRest status → HasNoTable before after begins files out status
     none_of_rest hindrance is status none = inr (inl (ran, hindrance, record { ended = ended; run = run; is = is }, none))
 
-    pub none_of_run : ended.hindrance ≡ None → (status : Status) → EndsWithout ended status → HasNoTable seen failure opens sizes refuses coming lines before ran begins files out status
+    pub none_of_run : ended.hindrance ≡ None → (status : Status) → EndsWithout ended status → HasNoTable before ran begins files out status
     none_of_run free status ends = inl (record { ended = ended; run = run; free = free; ends = ends })
 
-    module _ (free : ended.hindrance ≡ None) (table : MadeTable) (ends : EndsWithoutSome ended out table.text.items table.receipt.items table.had_fault) (told : List ℕ) (is : told ≡ table.receipt.items) where
-      run_with : IsRunWith seen failure opens sizes refuses coming lines before ran begins files out table.text.items table.receipt.items table.had_fault
+    module _ (free : ended.hindrance ≡ None) (table : MadeTable) (ends : EndsWithoutSome ended out table) (told : List ℕ) (is : told ≡ table.receipt.items) where
+      run_with : IsRunWith before ran begins files out table
       run_with = record { ended = ended; run = run; free = free; ends = ends }
 
-      pub not_looked_at : (status : Status) → LacksRows ran after told status → HasNoTable seen failure opens sizes refuses coming lines before after begins files out status
+      pub not_looked_at : (status : Status) → LacksRows ran after told status → HasNoTable before after begins files out status
       not_looked_at status lacks = inr (inr (inl (record {
         ran = ran;
-        text = table.text.items;
-        receipt = table.receipt.items;
-        fault = table.had_fault;
+        table = table;
         run = run_with;
         why = subst (λ (receipt : List ℕ). LacksRows ran after receipt status) is lacks;
       })))
 
-      pub standing : (lot : List ℕ) → LeavesOutForRows seen opens sizes coming lines ran after begins files out told lot → lot ≡ []
-          → IsStanding seen failure opens sizes refuses coming lines before after begins files out table.text.items table.receipt.items table.had_fault
+      pub standing : (lot : List ℕ) → LeavesOutForRows ran after begins files out told lot → lot ≡ []
+          → IsStanding before after begins files out table
       standing lot leaves none = record {
         ran = ran;
         run = run_with;
-        none_goes = subst (λ (lot : List ℕ). LeavesOutForRows seen opens sizes coming lines ran after begins files out table.receipt.items lot) none
-            (subst (λ (receipt : List ℕ). LeavesOutForRows seen opens sizes coming lines ran after begins files out receipt lot) is leaves);
+        none_goes = subst (λ (lot : List ℕ). LeavesOutForRows ran after begins files out table.receipt.items lot) none
+            (subst (λ (receipt : List ℕ). LeavesOutForRows ran after begins files out receipt lot) is leaves);
       }
 
-      pub lot_of_large : (lot : List ℕ) → LeavesOutForRows seen opens sizes coming lines ran after begins files out told lot → 0 < length lot
-          → LeavesLot seen failure opens sizes refuses coming lines before after begins files out lot
+      pub lot_of_large : (lot : List ℕ) → LeavesOutForRows ran after begins files out told lot → 0 < length lot
+          → LeavesLot before after begins files out lot
       lot_of_large lot leaves some = inr (record {
         tried = ran;
-        text = table.text.items;
-        receipt = table.receipt.items;
-        fault = table.had_fault;
+        table = table;
         run = run_with;
-        leaves_out = subst (λ (receipt : List ℕ). LeavesOutForRows seen opens sizes coming lines ran after begins files out receipt lot) is leaves;
+        leaves_out = subst (λ (receipt : List ℕ). LeavesOutForRows ran after begins files out receipt lot) is leaves;
         some = some;
       })
 
   -- ---- run after run
 
   -- what was left out so far
-  pub record LeftOut (before between : TableMaker S O E) (out : List ℕ) : Type 0 where
+  pub record LeftOut (before between : TableMaker S O E as_source as_opener as_writer) (out : List ℕ) : Type 0 where
     pub lots : List (List ℕ)
-    pub left_out : LeaveLots seen failure opens sizes refuses coming lines before between begins files [] lots
+    pub left_out : LeaveLots before between begins files [] lots
     pub all : out ≡ all_out lots
 
-  pub lot_out : (before between after : TableMaker S O E) (out lot longer : List ℕ) → LeftOut before between out
-      → LeavesLot seen failure opens sizes refuses coming lines between after begins files out lot → longer ≡ out ++ lot → LeftOut before after longer
+  pub lot_out : (before between after : TableMaker S O E as_source as_opener as_writer) (out lot longer : List ℕ) → LeftOut before between out
+      → LeavesLot between after begins files out lot → longer ≡ out ++ lot → LeftOut before after longer
   lot_out before between after out lot longer left leaves longer_is = record {
     lots = left.lots ++ lot ∷ [];
     left_out = lots_more before between after [] left.lots lot left.left_out
-        (subst (λ (o : List ℕ). LeavesLot seen failure opens sizes refuses coming lines between after begins files o lot) left.all leaves);
+        (subst (λ (o : List ℕ). LeavesLot between after begins files o lot) left.all leaves);
     all = longer_is ∙ ap (λ (o : List ℕ). o ++ lot) left.all ∙ sym (all_out_more left.lots lot);
   }
 
-  module _ (before between after : TableMaker S O E) (out : List ℕ) (left : LeftOut before between out) where
-    pub table_of : (text receipt : List ℕ) (fault : Bool) → IsStanding seen failure opens sizes refuses coming lines between after begins files out text receipt fault
-        → IsTableOf seen failure opens sizes refuses coming lines before after begins files text receipt fault
-    table_of text receipt fault stands = record {
+  module _ (before between after : TableMaker S O E as_source as_opener as_writer) (out : List ℕ) (left : LeftOut before between out) where
+    pub table_of : (table : MadeTable) → IsStanding between after begins files out table → IsTableOf before after begins files table
+    table_of table stands = record {
       lots = left.lots;
       between = between;
       left_out = left.left_out;
-      stands = subst (λ (o : List ℕ). IsStanding seen failure opens sizes refuses coming lines between after begins files o text receipt fault) left.all stands;
+      stands = subst (λ (o : List ℕ). IsStanding between after begins files o table) left.all stands;
     }
 
-    pub not_made : (status : Status) → HasNoTable seen failure opens sizes refuses coming lines between after begins files out status → IsNotMade seen failure opens sizes refuses coming lines before after begins files status
+    pub not_made : (status : Status) → HasNoTable between after begins files out status → IsNotMade before after begins files status
     not_made status lacks = record {
       lots = left.lots;
       between = between;
       left_out = left.left_out;
-      ends = subst (λ (o : List ℕ). HasNoTable seen failure opens sizes refuses coming lines between after begins files o status) left.all lacks;
+      ends = subst (λ (o : List ℕ). HasNoTable between after begins files o status) left.all lacks;
     }
 
-  pub no_run : (before between : TableMaker S O E) (out : List ℕ) → LeftOut before between out → IsNotMade seen failure opens sizes refuses coming lines before between begins files Failed
+  pub no_run : (before between : TableMaker S O E as_source as_opener as_writer) (out : List ℕ) → LeftOut before between out → IsNotMade before between begins files Failed
   no_run before between out left = not_made before between between out left Failed (inr (inr (inr (refl, refl))))

@@ -1,10 +1,14 @@
 -- Files that are left out of the table of a period.
-use Rattle.std.specs.Prelude.{◌≡◌, ℕ, zero, suc, nat_eq, nat_lt, Bool, List, [], ◌∷◌, ◌++◌, codes, length, map, slice_index_or, Option, None, Some, if◌then◌else◌}
+use Rattle.std.specs.Prelude.{◌≡◌, ℕ, zero, suc, nat_eq, nat_lt, Bool, List, [], ◌∷◌, ◌++◌, codes, length, map, slice_index_or, string_bytes, Option, None, Some, if◌then◌else◌}
+use Rattle.std.specs.Borrow.{Bor}
 use Rattle.std.specs.List.{flat_map, list_any}
+use Rattle.std.specs.declared.alloc.Global.{Global}
+use Rattle.std.specs.declared.string.String.{String}
 use Rattle.ipfix_message.specs.declared.record.DataRecord.{DataRecord}
 use Rattle.flow_table.specs.Plans.{PlanValue}
 use Rattle.largest_sessions.specs.LeftOut.{AreLeftOut}
 use Rattle.largest_sessions.specs.SessionNumbers.{by_records, numbers_of_plan}
+use Rattle.period_collect.specs.Paths.{texts_of}
 
 -- the line about one, and the lines about several
 unfoldable pub left_out_line : List ℕ → List ℕ
@@ -34,6 +38,16 @@ kept_of out paths = kept_from 0 out paths
 -- the paths at these places
 abbrev pub paths_at : List ℕ → List (List ℕ) → List (List ℕ)
 paths_at out paths = map (λ place. slice_index_or paths place []) out
+
+abbrev pub texts_at : List ℕ → List (Bor (List ℕ)) → List (List ℕ)
+texts_at out words = paths_at out (texts_of words)
+
+abbrev pub AreTextsAt : List ℕ → List (Bor (List ℕ)) → List (String Global) → Type 0
+AreTextsAt out words names = map string_bytes names ≡ texts_at out words
+
+-- the places of these numbers, counted from 0, among some
+abbrev pub places_at : List ℕ → List ℕ → List ℕ
+places_at places numbers = map (λ i. slice_index_or places i 0) numbers
 
 -- the places below so many that are none of these, and one of them by its number from 0
 abbrev pub places_kept : List ℕ → ℕ → List ℕ
@@ -74,4 +88,4 @@ places_without place (Some rs ∷ alone) = places_without (suc place) alone
 pub record AreFilesLeftOut (plan : PlanValue) (alone : List Alone) (out : List ℕ) : Type 0 where
   pub others : List ℕ
   pub are_others : AreLeftOut (numbers_of_plan plan) (map (by_records plan) (lists_of alone)) others
-  pub are : out ≡ places_without 0 alone ++ map (λ i. slice_index_or (places_with 0 alone) i 0) others
+  pub are : out ≡ places_without 0 alone ++ places_at (places_with 0 alone) others

@@ -1,4 +1,5 @@
 -- What public contracts cite.
+pub mod Seen
 pub mod Paths
 pub mod Exporters
 pub mod LeftOutFiles

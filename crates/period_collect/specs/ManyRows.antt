@@ -3,8 +3,9 @@ use Rattle.std.specs.Prelude.{◌≡◌, ◌<◌, ◌≤◌, ℕ, suc, nat_lt, L
 use Rattle.std.specs.List.{AllZip, flat_map}
 use Rattle.std.specs.declared.alloc.Global.{Global}
 use Rattle.std.specs.declared.string.String.{String}
-use Rattle.ipfix_session.specs.Sources.{SourceView}
-use Rattle.report_writing.specs.Lines.{LinesView}
+use Rattle.ipfix_session.specs.declared.source.Source as source
+use Rattle.input_sources.specs.declared.opening.OpenSource as opening
+use Rattle.report_writing.specs.declared.write_lines.WriteLines as writing
 use Rattle.report_writing.specs.Told.{AreToldTo}
 use Rattle.flow_table.specs.Plans.{PlanValue}
 use Rattle.flow_table.specs.Tables.{IsTable}
@@ -54,34 +55,34 @@ pub record AreLarge (plan : PlanValue) (limit : ℕ) (alone : List Alone) (large
   pub have : AllZip (HasRows plan) alone rows
   pub are : large ≡ places_above limit 0 rows
 
-module _ {S O E : Type 0} (seen : S → SourceView) (opens : O → List ℕ → S → Type 0) (sizes : O → List ℕ → Option ℕ → Type 0) (coming : O → Option (List S)) (lines : E → LinesView) where
+module _ {S O E : Type 0} {as_source : source.Ghosts S} {as_opener : opening.Ghosts O S} {as_writer : writing.Ghosts E} where
   -- the file of a path was collected by itself, and has so many rows
-  pub record HasRowsAlone (before after : TableMaker S O E) (path : List ℕ) (rows : ℕ) : Type 0 where
+  pub record HasRowsAlone (before after : TableMaker S O E as_source as_opener as_writer) (path : List ℕ) (rows : ℕ) : Type 0 where
     pub alone : Alone
-    pub is_alone : IsAlone seen opens sizes coming lines before after path alone
+    pub is_alone : IsAlone before after path alone
     pub has : HasRows before.job.collect.plan.now alone rows
 
   -- the files of these paths were collected, each by itself, and these have more rows than the job lets a session have
-  pub record FindsLarge (before after : TableMaker S O E) (paths : List (List ℕ)) (large : List ℕ) : Type 0 where
+  pub record FindsLarge (before after : TableMaker S O E as_source as_opener as_writer) (paths : List (List ℕ)) (large : List ℕ) : Type 0 where
     pub alone : List Alone
-    pub are_alone : AreAlone seen opens sizes coming lines before after paths alone
+    pub are_alone : AreAlone before after paths alone
     pub are_large : AreLarge before.job.collect.plan.now before.job.rows_of_a_session alone large
 
   -- of all files of a period but those at some places these are left out, all at once; and a line was told for each
-  pub record AreLeftOutForRows (before after : TableMaker S O E) (begins : ℕ) (files : List (String Global)) (out lot : List ℕ) : Type 0 where
+  pub record AreLeftOutForRows (before after : TableMaker S O E as_source as_opener as_writer) (begins : ℕ) (files : List (String Global)) (out lot : List ℕ) : Type 0 where
     pub paths : List (String Global)
-    pub collected : TableMaker S O E
+    pub collected : TableMaker S O E as_source as_opener as_writer
     pub large : List ℕ
     pub are_paths : AreFilePaths before.job.recordings.now begins files paths
     pub finds : FindsLarge before collected (kept_of out (map string_bytes paths)) large
     pub are : lot ≡ map (kept_place out (length paths)) large
-    pub told : AreToldTo lines collected.err after.err (large_lines before.job.rows_of_a_session (paths_at lot (map string_bytes paths)))
+    pub told : AreToldTo as_writer.lines collected.err after.err (large_lines before.job.rows_of_a_session (paths_at lot (map string_bytes paths)))
     pub same_opening : after.opening ≡ collected.opening
     pub same_job : after.job ≡ collected.job
 
   -- the receipt of a table of all files but those at some places says so many rows: if a session may have as many, no file is looked at,
   -- and none goes; if they are more, those go that have more by themselves
-  pub record LeavesOutForRows (before after : TableMaker S O E) (begins : ℕ) (files : List (String Global)) (out receipt lot : List ℕ) : Type 0 where
+  pub record LeavesOutForRows (before after : TableMaker S O E as_source as_opener as_writer) (begins : ℕ) (files : List (String Global)) (out receipt lot : List ℕ) : Type 0 where
     pub rows : ℕ
     pub says : SaysRows receipt rows
     pub few : rows ≤ before.job.rows_of_a_session → (lot ≡ []) × (after ≡ before)

@@ -6,7 +6,9 @@ use Rattle.std.specs.declared.alloc.Global.{Global}
 use Rattle.std.specs.declared.string.String.{String}
 use Rattle.ipfix_message.specs.declared.record.DataRecord.{DataRecord}
 use Rattle.ipfix_session.specs.Sources.{SourceView}
-use Rattle.report_writing.specs.Lines.{LinesView}
+use Rattle.ipfix_session.specs.declared.source.Source as source
+use Rattle.input_sources.specs.declared.opening.OpenSource as opening
+use Rattle.report_writing.specs.declared.write_lines.WriteLines as writing
 use Rattle.report_writing.specs.Told.{AreToldTo}
 use Rattle.report_writing.specs.declared.origin.Origin.{Origin}
 use Rattle.flow_table.specs.Fitting.{FitsPlan}
@@ -24,7 +26,7 @@ use Rattle.command_collect.specs.Engines.{CollectsBy}
 use Rattle.command_collect.specs.Exporters.{in_context}
 use Rattle.command_collect.specs.declared.job.CollectJob.{CollectJob}
 use Rattle.period_collect.specs.Exporters.{IsJobWith}
-use Rattle.period_collect.specs.LeftOutFiles.{Alone, AreFilesLeftOut, kept_place, left_out_lines, lists_of, paths_at, places_with, places_without, same_line}
+use Rattle.period_collect.specs.LeftOutFiles.{Alone, AreFilesLeftOut, kept_place, left_out_lines, lists_of, paths_at, places_at, places_with, places_without, same_line}
 use Rattle.period_collect.specs.Paths.{AreFilePaths}
 use Rattle.period_collect.specs.declared.maker.TableMaker.{TableMaker}
 use Rattle.period_collect.specs.declared.parting.OwnTables.{OwnTables}
@@ -50,64 +52,63 @@ pub record AreOwn (plan : PlanValue) (alone : List Alone) (own : OwnTables) : Ty
   pub places : own.places.items ≡ places_with 0 alone
   pub others : own.others.items ≡ places_without 0 alone
 
-module _ {S O E : Type 0} (seen : S → SourceView) (opens : O → List ℕ → S → Type 0) (sizes : O → List ℕ → Option ℕ → Type 0) (coming : O → Option (List S)) (lines : E → LinesView) where
+module _ {S O E : Type 0} {as_source : source.Ghosts S} {as_opener : opening.Ghosts O S} {as_writer : writing.Ghosts E} where
   -- the file of a path was opened and collected by itself, by the job with the exporter that its name says, and no line was told
-  pub record IsAlone (before after : TableMaker S O E) (path : List ℕ) (alone : Alone) : Type 0 where
+  pub record IsAlone (before after : TableMaker S O E as_source as_opener as_writer) (path : List ℕ) (alone : Alone) : Type 0 where
     pub word : Bor (List ℕ)
     pub is_word : word.now ≡ path
     pub with_exporter : CollectJob
     pub sources : List S
     pub origins : List Origin
     pub is_job : IsJobWith before.job.collect (word ∷ []) with_exporter
-    pub opened : PathsAreOpened opens coming before.opening after.opening (word ∷ []) sources
-    pub files : AreFiles (sizes before.opening) (word ∷ []) origins
-    pub gave : GiveAlone seen with_exporter sources origins alone
-    pub told : AreToldTo lines before.err after.err []
+    pub opened : PathsAreOpened as_opener.opens as_opener.coming before.opening after.opening (word ∷ []) sources
+    pub files : AreFiles (as_opener.sizes before.opening) (word ∷ []) origins
+    pub gave : GiveAlone as_source.seen with_exporter sources origins alone
+    pub told : AreToldTo as_writer.lines before.err after.err []
     pub same : after.job ≡ before.job
 
   -- each of these files was, in their order
-  abbrev pub AreAlone : TableMaker S O E → TableMaker S O E → List (List ℕ) → List Alone → Type 0
+  abbrev pub AreAlone : TableMaker S O E as_source as_opener as_writer → TableMaker S O E as_source as_opener as_writer → List (List ℕ) → List Alone → Type 0
   AreAlone before after [] [] = after ≡ before
-  AreAlone before after (path ∷ paths) (alone ∷ others) = (between : TableMaker S O E) × IsAlone before between path alone × AreAlone between after paths others
+  AreAlone before after (path ∷ paths) (alone ∷ others) = (between : TableMaker S O E as_source as_opener as_writer) × IsAlone before between path alone × AreAlone between after paths others
   AreAlone before after paths others = ⊥
 
   -- and by that those at these places are left out
-  pub record LeavesOut (before after : TableMaker S O E) (paths : List (List ℕ)) (out : List ℕ) : Type 0 where
+  pub record LeavesOut (before after : TableMaker S O E as_source as_opener as_writer) (paths : List (List ℕ)) (out : List ℕ) : Type 0 where
     pub alone : List Alone
     pub are_alone : AreAlone before after paths alone
     pub left_out : AreFilesLeftOut before.job.collect.plan.now alone out
 
   -- of the files of a period; and a line was told for each that is left out
-  pub record IsParted (before after : TableMaker S O E) (begins : ℕ) (files : List (String Global)) (out : List ℕ) : Type 0 where
+  pub record IsParted (before after : TableMaker S O E as_source as_opener as_writer) (begins : ℕ) (files : List (String Global)) (out : List ℕ) : Type 0 where
     pub paths : List (String Global)
-    pub collected : TableMaker S O E
+    pub collected : TableMaker S O E as_source as_opener as_writer
     pub are_paths : AreFilePaths before.job.recordings.now begins files paths
     pub leaves_out : LeavesOut before collected (map string_bytes paths) out
-    pub told : AreToldTo lines collected.err after.err (left_out_lines (paths_at out (map string_bytes paths)))
+    pub told : AreToldTo as_writer.lines collected.err after.err (left_out_lines (paths_at out (map string_bytes paths)))
     pub same_opening : after.opening ≡ collected.opening
     pub same_job : after.job ≡ collected.job
 
   -- ---- what is kept of files that were collected so
 
   -- of one
-  pub record HasOwnTable (before after : TableMaker S O E) (path : List ℕ) (table : Option Table) : Type 0 where
+  pub record HasOwnTable (before after : TableMaker S O E as_source as_opener as_writer) (path : List ℕ) (table : Option Table) : Type 0 where
     pub alone : Alone
     pub is_alone : IsAlone before after path alone
     pub is_table : IsOwnTable before.job.collect.plan.now alone table
 
   -- of several
-  pub record HaveOwnTables (before after : TableMaker S O E) (paths : List (List ℕ)) (own : OwnTables) : Type 0 where
+  pub record HaveOwnTables (before after : TableMaker S O E as_source as_opener as_writer) (paths : List (List ℕ)) (own : OwnTables) : Type 0 where
     pub alone : List Alone
     pub are_alone : AreAlone before after paths alone
     pub are_own : AreOwn before.job.collect.plan.now alone own
 
-module _ {S O E : Type 0} (lines : E → LinesView) where
   -- of two with the same octets the later is left out, by their numbers among all but those at some places; and a line was told
-  pub record IsSameLeftOut (before after : TableMaker S O E) (begins : ℕ) (files : List (String Global)) (out lot : List ℕ) (first second : ℕ) : Type 0 where
+  pub record IsSameLeftOut (before after : TableMaker S O E as_source as_opener as_writer) (begins : ℕ) (files : List (String Global)) (out lot : List ℕ) (first second : ℕ) : Type 0 where
     pub paths : List (String Global)
     pub are_paths : AreFilePaths before.job.recordings.now begins files paths
     pub are : lot ≡ kept_place out (length paths) second ∷ []
-    pub told : AreToldTo lines before.err after.err
+    pub told : AreToldTo as_writer.lines before.err after.err
         (same_line (slice_index_or (map string_bytes paths) (kept_place out (length paths) first) []) (slice_index_or (map string_bytes paths) (kept_place out (length paths) second) []))
     pub same_opening : after.opening ≡ before.opening
     pub same_job : after.job ≡ before.job
@@ -121,4 +122,4 @@ IsKept place (Some table) old new = (new.tables.items ≡ old.tables.items ++ ta
 pub record AreOut (plan : PlanValue) (own : OwnTables) (lists : List (List DataRecord)) (out : List ℕ) : Type 0 where
   pub left : List ℕ
   pub are_left : AreLeftOut (numbers_of_plan plan) (map (by_records plan) lists) left
-  pub are : out ≡ own.others.items ++ map (λ i. slice_index_or own.places.items i 0) left
+  pub are : out ≡ own.others.items ++ places_at own.places.items left

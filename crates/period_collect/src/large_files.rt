@@ -1,8 +1,9 @@
 //! Which files of a period are left out of its table since they have too many rows.
 
-ghost use Rattle.std.specs.Prelude.{◌≡◌, map, IfErr, IfOk, IfSome};
+ghost use Rattle.std.specs.Prelude.{◌≡◌, IfErr, IfOk, IfSome};
 ghost use Rattle.period_collect.specs.ManyRows.{AreLeftOutForRows, FindsLarge, HasRowsAlone, LeavesOutForRows, SaysRows, row_count};
 ghost use Rattle.period_collect.specs.MadeTables.{HasNoRest, LacksRows};
+ghost use Rattle.period_collect.specs.Paths.{texts_of};
 
 use crate::maker::TableMaker;
 use crate::parting::{add_places, own_table};
@@ -36,8 +37,8 @@ pub(crate) fn leave_out_large<
     out: &[usize],
     receipt: &[u8],
 ) -> Result<Vec<usize>, Status>
-    ensures lot { IfOk result (λ lot. LeavesOutForRows S.seen O.opens O.sizes O.coming E.lines
-        maker.old maker.new period.begins files.now out.now receipt.now lot.items) }
+    ensures lot { IfOk result (λ lot. LeavesOutForRows maker.old maker.new
+        period.begins files.now out.now receipt.now lot.items) }
     ensures err { IfErr result (LacksRows maker.old maker.new receipt.now) }
     ensures job { maker.new.job ≡ maker.old.job }
 {
@@ -77,8 +78,8 @@ fn leave_out_those<
     files: &[String],
     out: &[usize],
 ) -> Result<Vec<usize>, Status>
-    ensures lot { IfOk result (λ lot. AreLeftOutForRows S.seen O.opens O.sizes O.coming E.lines
-        maker.old maker.new period.begins files.now out.now lot.items) }
+    ensures lot { IfOk result (λ lot. AreLeftOutForRows maker.old maker.new
+        period.begins files.now out.now lot.items) }
     ensures err { IfErr result HasNoRest }
     ensures job { maker.new.job ≡ maker.old.job }
 {
@@ -110,8 +111,7 @@ fn large_files<
     E: WriteLines,
     R: Clock + Threads + Wait + Sync,
 >(threads: &R, maker: &mut TableMaker<'_, S, O, E>, paths: &[&str]) -> Result<Vec<usize>, Status>
-    ensures large { IfOk result (λ large. FindsLarge S.seen O.opens O.sizes O.coming E.lines
-        maker.old maker.new (map (λ path. path.now) paths.now) large.items) }
+    ensures large { IfOk result (λ lot. FindsLarge maker.old maker.new (texts_of paths.now) lot.items) }
     ensures err { IfErr result HasNoRest }
     ensures job { maker.new.job ≡ maker.old.job }
 {
@@ -134,8 +134,7 @@ fn own_rows<
     E: WriteLines,
     R: Clock + Threads + Wait + Sync,
 >(threads: &R, maker: &mut TableMaker<'_, S, O, E>, path: &str) -> Result<u64, Status>
-    ensures rows { IfOk result (HasRowsAlone S.seen O.opens O.sizes O.coming E.lines
-        maker.old maker.new path.now) }
+    ensures rows { IfOk result (HasRowsAlone maker.old maker.new path.now) }
     ensures err { IfErr result HasNoRest }
     ensures job { maker.new.job ≡ maker.old.job }
 {

@@ -1,8 +1,8 @@
 //! Who makes a table, and under which plan, told again for each run.
 
-ghost use Rattle.std.specs.Prelude.{◌≡◌, map, string_bytes, IfOk};
+ghost use Rattle.std.specs.Prelude.{◌≡◌, map, IfOk};
 ghost use Rattle.table_receipts.specs.Values.{file_value};
-ghost use Rattle.period_collect.specs.LeftOutFiles.{paths_at};
+ghost use Rattle.period_collect.specs.LeftOutFiles.{AreTextsAt};
 ghost use Rattle.period_collect.specs.MadeTables.{IsSameMade};
 
 use crate::places::names_at;
@@ -18,8 +18,7 @@ pub(crate) fn same_made(
     out: &[usize],
 ) -> Result<MadeWith, AllocError>
     ensures same { IfOk result (λ same. IsSameMade same made.now) }
-    ensures left_out { IfOk result (λ same. map string_bytes same.left_out.items
-        ≡ paths_at out.now (map (λ path. path.now) paths.now)) }
+    ensures left_out { IfOk result (λ same. AreTextsAt out.now paths.now same.left_out.items) }
 {
     Ok(MadeWith {
         collectd: made.collectd.clone()?,

@@ -1,12 +1,14 @@
 //! Which files of a period are left out of its table: as long as some sum of all others is too large, the one that has most of it.
 
-ghost use Rattle.std.specs.Prelude.{◌≡◌, ◌++◌, List, All, map, slice_index_or, IfErr, IfOk, OnOk};
+ghost use Rattle.std.specs.Prelude.{◌≡◌, ◌++◌, List, All, IfErr, IfOk, OnOk};
 ghost use Rattle.std.specs.List.{AllZip};
 ghost use Rattle.ipfix_message.specs.declared.record.DataRecord.{DataRecord};
 ghost use Rattle.flow_table.specs.Fitting.{FitsPlan};
 ghost use Rattle.flow_table.specs.Tables.{IsTable};
+ghost use Rattle.period_collect.specs.LeftOutFiles.{places_at};
 ghost use Rattle.period_collect.specs.MadeTables.{HasNoRest};
 ghost use Rattle.period_collect.specs.Parting.{AreOut, HasOwnTable, HaveOwnTables, IsKept, LeavesOut};
+ghost use Rattle.period_collect.specs.Paths.{texts_of};
 
 use crate::exporters::exporters_of;
 use crate::maker::TableMaker;
@@ -45,8 +47,7 @@ pub(crate) fn files_left_out<
     E: WriteLines,
     R: Clock + Threads + Wait + Sync,
 >(threads: &R, maker: &mut TableMaker<'_, S, O, E>, paths: &[&str]) -> Result<Vec<usize>, Status>
-    ensures out { IfOk result (λ out. LeavesOut S.seen O.opens O.sizes O.coming E.lines
-        maker.old maker.new (map (λ path. path.now) paths.now) out.items) }
+    ensures out { IfOk result (λ out. LeavesOut maker.old maker.new (texts_of paths.now) out.items) }
     ensures err { IfErr result HasNoRest }
     ensures job { maker.new.job ≡ maker.old.job }
 {
@@ -78,8 +79,7 @@ pub(crate) fn add_places(
     places: &[usize],
     indices: &[usize],
 ) -> Result<Vec<usize>, AllocError>
-    ensures { IfOk result (λ added. added.items
-        ≡ all.items ++ map (λ i. slice_index_or places.now i 0) indices.now) }
+    ensures { IfOk result (λ added. added.items ≡ all.items ++ places_at places.now indices.now) }
 {
     for index in indices {
         all.push(place_at(places, *index))?;
@@ -94,8 +94,7 @@ fn own_tables<
     E: WriteLines,
     R: Clock + Threads + Wait + Sync,
 >(threads: &R, maker: &mut TableMaker<'_, S, O, E>, paths: &[&str]) -> Result<OwnTables, Status>
-    ensures own { IfOk result (HaveOwnTables S.seen O.opens O.sizes O.coming E.lines
-        maker.old maker.new (map (λ path. path.now) paths.now)) }
+    ensures own { IfOk result (HaveOwnTables maker.old maker.new (texts_of paths.now)) }
     ensures err { IfErr result HasNoRest }
     ensures job { maker.new.job ≡ maker.old.job }
 {
@@ -135,8 +134,7 @@ pub(crate) fn own_table<
     E: WriteLines,
     R: Clock + Threads + Wait + Sync,
 >(threads: &R, maker: &mut TableMaker<'_, S, O, E>, path: &str) -> Result<Option<FlatTable>, Status>
-    ensures own { IfOk result (HasOwnTable S.seen O.opens O.sizes O.coming E.lines
-        maker.old maker.new path.now) }
+    ensures own { IfOk result (HasOwnTable maker.old maker.new path.now) }
     ensures err { IfErr result HasNoRest }
     ensures job { maker.new.job ≡ maker.old.job }
 {

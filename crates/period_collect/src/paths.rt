@@ -1,7 +1,7 @@
 //! The paths of the files of a period.
 
 ghost use Rattle.std.specs.Prelude.{◌≡◌, map, string_bytes, IfOk};
-ghost use Rattle.period_collect.specs.Paths.{AreFilePaths, path_of};
+ghost use Rattle.period_collect.specs.Paths.{AreFilePaths, ArePathsIn, path_of, texts_of};
 
 use recording_names::{Period, period_name};
 use std::alloc::{AllocError, Global};
@@ -27,8 +27,7 @@ fn paths_in(
     name: &String,
     files: &[String],
 ) -> Result<Vec<String>, AllocError>
-    ensures { IfOk result (λ paths. map string_bytes paths.items
-        ≡ map (λ file. path_of recordings.now (string_bytes name.now) (string_bytes file)) files.now) }
+    ensures { IfOk result (λ paths. ArePathsIn recordings.now name.now files.now paths.items) }
 {
     let mut paths = Vec::new(alloc);
     let mut left = files;
@@ -45,15 +44,14 @@ fn path_in(
     name: &String,
     file: &String,
 ) -> Result<String, AllocError>
-    ensures { IfOk result (λ path. string_bytes path
-        ≡ path_of recordings.now (string_bytes name.now) (string_bytes file.now)) }
+    ensures { IfOk result (λ path. string_bytes path ≡ path_of recordings.now name.now file.now) }
 {
     format!(in alloc; "{recordings}/{name}/{file}")
 }
 
 /// The same as words.
 pub(crate) fn words_of(alloc: Global, paths: &[String]) -> Result<Vec<&str>, AllocError>
-    ensures { IfOk result (λ words. map (λ w. w.now) words.items ≡ map string_bytes paths.now) }
+    ensures { IfOk result (λ words. texts_of words.items ≡ map string_bytes paths.now) }
 {
     let mut words = Vec::new(alloc);
     for path in paths {

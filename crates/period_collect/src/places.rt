@@ -1,7 +1,8 @@
 //! Paths by their places.
 
-ghost use Rattle.std.specs.Prelude.{◌≡◌, [], map, slice_index_or, string_bytes, IfOk};
-ghost use Rattle.period_collect.specs.LeftOutFiles.{is_among, kept_of as others_of, paths_at, places_kept};
+ghost use Rattle.std.specs.Prelude.{◌≡◌, [], slice_index_or, IfOk};
+ghost use Rattle.period_collect.specs.LeftOutFiles.{AreTextsAt, is_among, kept_of as others_of, places_kept};
+ghost use Rattle.period_collect.specs.Paths.{texts_of};
 
 use std::alloc::{AllocError, Global};
 
@@ -11,8 +12,7 @@ pub(crate) fn kept_of<'a>(
     paths: &[&'a str],
     out: &[usize],
 ) -> Result<Vec<&'a str>, AllocError>
-    ensures { IfOk result (λ kept. map (λ path. path.now) kept.items
-        ≡ others_of out.now (map (λ path. path.now) paths.now)) }
+    ensures { IfOk result (λ kept. texts_of kept.items ≡ others_of out.now (texts_of paths.now)) }
 {
     let mut kept = Vec::new(alloc);
     for place in 0..paths.len() {
@@ -63,8 +63,7 @@ pub(crate) fn names_at(
     paths: &[&str],
     out: &[usize],
 ) -> Result<Vec<String>, AllocError>
-    ensures { IfOk result (λ names. map string_bytes names.items
-        ≡ paths_at out.now (map (λ path. path.now) paths.now)) }
+    ensures { IfOk result (λ names. AreTextsAt out.now paths.now names.items) }
 {
     let mut names = Vec::new(alloc);
     for place in out {
@@ -75,7 +74,7 @@ pub(crate) fn names_at(
 
 /// The path at a place.
 pub(crate) fn path_at<'a>(paths: &[&'a str], place: usize) -> &'a str
-    ensures { result.now ≡ slice_index_or (map (λ path. path.now) paths.now) place [] }
+    ensures { result.now ≡ slice_index_or (texts_of paths.now) place [] }
 {
     if place < paths.len() {
         paths[place]

@@ -43,12 +43,8 @@ pub fn make_table<
     period: Period,
     files: &[String],
 ) -> Result<MadeTable, Status>
-    ensures table { IfOk result (λ table. IsTableOf S.seen S.failure
-        O.opens O.sizes O.refuses O.coming E.lines maker.old maker.new
-        period.begins files.now table.text.items table.receipt.items table.had_fault) }
-    ensures err { IfErr result (IsNotMade S.seen S.failure
-        O.opens O.sizes O.refuses O.coming E.lines maker.old maker.new
-        period.begins files.now) }
+    ensures table { IfOk result (IsTableOf maker.old maker.new period.begins files.now) }
+    ensures err { IfErr result (IsNotMade maker.old maker.new period.begins files.now) }
     ensures job { maker.new.job ≡ maker.old.job }
 {
     let mut out = Vec::new(maker.alloc);
@@ -87,12 +83,8 @@ fn table_of_rest<
     files: &[String],
     out: &[usize],
 ) -> Result<Tried, Status>
-    ensures tried { IfOk result (IsTried S.seen S.failure
-        O.opens O.sizes O.refuses O.coming E.lines maker.old maker.new
-        period.begins files.now out.now) }
-    ensures err { IfErr result (HasNoTable S.seen S.failure
-        O.opens O.sizes O.refuses O.coming E.lines maker.old maker.new
-        period.begins files.now out.now) }
+    ensures tried { IfOk result (IsTried maker.old maker.new period.begins files.now out.now) }
+    ensures err { IfErr result (HasNoTable maker.old maker.new period.begins files.now out.now) }
     ensures job { maker.new.job ≡ maker.old.job }
 {
     let Ok(ended) = run_period(threads, maker, period, files, out) else {
@@ -124,8 +116,7 @@ fn leave_out<
     out: &[usize],
     hindrance: Hindrance,
 ) -> Result<Vec<usize>, Status>
-    ensures lot { IfOk result (λ lot. LeavesOutMore S.seen S.failure
-        O.opens O.sizes O.refuses O.coming E.lines maker.old maker.new
+    ensures lot { IfOk result (λ lot. LeavesOutMore maker.old maker.new
         period.begins files.now out.now lot.items hindrance) }
     ensures some { IfOk result (λ lot. 0 < length lot.items) }
     ensures err { IfErr result HasNoRest }
@@ -157,8 +148,7 @@ fn leave_out_largest<
     period: Period,
     files: &[String],
 ) -> Result<Vec<usize>, Status>
-    ensures out { IfOk result (λ out. IsParted S.seen O.opens O.sizes O.coming E.lines
-        maker.old maker.new period.begins files.now out.items) }
+    ensures out { IfOk result (λ out. IsParted maker.old maker.new period.begins files.now out.items) }
     ensures some { IfOk result (λ out. 0 < length out.items) }
     ensures err { IfErr result HasNoRest }
     ensures job { maker.new.job ≡ maker.old.job }
@@ -187,7 +177,7 @@ fn leave_out_same<S: Source, O: OpenSource<S>, E: WriteLines>(
     first: usize,
     second: usize,
 ) -> Result<Vec<usize>, AllocError>
-    ensures lot { IfOk result (λ lot. IsSameLeftOut E.lines maker.old maker.new
+    ensures lot { IfOk result (λ lot. IsSameLeftOut maker.old maker.new
         period.begins files.now out.now lot.items first second) }
     ensures some { IfOk result (λ lot. 0 < length lot.items) }
     ensures job { maker.new.job ≡ maker.old.job }
@@ -206,8 +196,7 @@ fn leave_out_same<S: Source, O: OpenSource<S>, E: WriteLines>(
 
 // The table of a run without the files of some places, if it ended with one.
 fn table_without(ended: Ended<Vec<u8>, KeptReceipt>, out: &[usize]) -> Result<MadeTable, Status>
-    ensures table { IfOk result (λ table. EndsWithoutSome ended out.now
-        table.text.items table.receipt.items table.had_fault) }
+    ensures table { IfOk result (EndsWithoutSome ended out.now) }
     ensures err { IfErr result (EndsWithout ended) }
 {
     let table = made_table(ended)?;
@@ -230,9 +219,7 @@ fn run_period<
     files: &[String],
     out: &[usize],
 ) -> Result<Ended<Vec<u8>, KeptReceipt>, AllocError>
-    ensures run { IfOk result (IsRun S.seen S.failure
-        O.opens O.sizes O.refuses O.coming E.lines maker.old maker.new
-        period.begins files.now out.now) }
+    ensures run { IfOk result (IsRun maker.old maker.new period.begins files.now out.now) }
     ensures err { OnErr result (maker.new ≡ maker.old) }
     ensures job { maker.new.job ≡ maker.old.job }
 {
@@ -263,8 +250,7 @@ pub(crate) fn job_with<'a>(job: &CollectJob<'a>, exporters: &'a [Option<IpAddr>]
 
 // The table of a run, if it ended with one.
 fn made_table(ended: Ended<Vec<u8>, KeptReceipt>) -> Result<MadeTable, Status>
-    ensures table { IfOk result (λ made.
-        EndsWith ended made.text.items made.receipt.items made.had_fault) }
+    ensures table { IfOk result (EndsWith ended) }
     ensures err { IfErr result (EndsWithout ended) }
 {
     let Ended {

@@ -1,10 +1,9 @@
 //! The lines about files that are left out of a table.
 
-ghost use Rattle.std.specs.Prelude.{◌≡◌, map};
 ghost use Rattle.report_writing.specs.Lines.{StaysFailed};
 ghost use Rattle.report_writing.specs.Told.{AreToldTo};
 ghost use Rattle.report_writing.specs.Writing.{Tells};
-ghost use Rattle.period_collect.specs.LeftOutFiles.{left_out_line, left_out_lines, paths_at, same_line};
+ghost use Rattle.period_collect.specs.LeftOutFiles.{left_out_line, left_out_lines, same_line, texts_at};
 ghost use Rattle.period_collect.specs.ManyRows.{large_line, large_lines};
 
 use crate::places::path_at;
@@ -14,7 +13,7 @@ use std::io;
 /// Writes that the files at these places of the paths are left out of a table, in the order of the places.
 pub(crate) fn tell_left_out<E: WriteLines>(paths: &[&str], out: &[usize], err: &mut E)
     ensures told { AreToldTo E.lines err.old err.new
-        (left_out_lines (paths_at out.now (map (λ path. path.now) paths.now))) }
+        (left_out_lines (texts_at out.now paths.now)) }
     ensures kept { StaysFailed E.lines err.old err.new }
 {
     for place in out {
@@ -48,7 +47,7 @@ pub(crate) fn write_same<E: WriteLines>(other: &str, path: &str, err: &mut E) ->
 /// order of the places.
 pub(crate) fn tell_large<E: WriteLines>(limit: u64, paths: &[&str], out: &[usize], err: &mut E)
     ensures told { AreToldTo E.lines err.old err.new
-        (large_lines limit (paths_at out.now (map (λ path. path.now) paths.now))) }
+        (large_lines limit (texts_at out.now paths.now)) }
     ensures kept { StaysFailed E.lines err.old err.new }
 {
     for place in out {

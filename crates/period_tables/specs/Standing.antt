@@ -1,11 +1,15 @@
 -- The tables and receipts at a place.
-use Rattle.std.specs.Prelude.{◌≡◌, ◌≢◌, ◌↔◌, ◌⊎◌, ◌||◌, ◌++◌, ℕ, Bool, false, List, Option, None, Some, bytes_eq, codes, filter, map, not, string_bytes}
+use Rattle.std.specs.Prelude.{◌≡◌, ◌≢◌, ◌↔◌, ◌⊎◌, ◌||◌, ◌++◌, ℕ, Bool, false, List, Option, None, Some, bytes_eq, codes, filter, map, not, option_map, string_bytes}
 use Rattle.std.specs.declared.alloc.Global.{Global}
 use Rattle.std.specs.declared.string.String.{String}
 use Rattle.std.specs.declared.vec.Vec.{Vec}
 use Rattle.report_writing.specs.declared.reason.Reason.{Reason}
 use Rattle.table_receipts.specs.Texts.{receipt_text}
 use Rattle.table_receipts.specs.Values.{InputValue, ReceiptValue}
+
+-- what is in a vector, if there is one
+abbrev pub items_of : {X : Type 0} → Option (Vec X Global) → Option (List X)
+items_of vector = option_map (λ v. v.items) vector
 
 -- what contracts see of a place of tables, by the second at which a period begins
 pub record PlaceView (T : Type 0) : Type 1 where
@@ -46,9 +50,13 @@ is_of_the_run (Some fault) = bytes_eq fault (codes "ReadFailed") || bytes_eq fau
 abbrev pub was_read : InputValue → Bool
 was_read input = not (is_of_the_run input.fault)
 
--- the names of the inputs that were read, and of those that were left out: files of these names make no table again
+-- the names of the inputs that were read
+abbrev pub names_read : List InputValue → List (List ℕ)
+names_read inputs = map (λ (i : InputValue). i.file.name) (filter was_read inputs)
+
+-- and of those that were left out: files of these names make no table again
 abbrev pub names_in : ReceiptValue → List (List ℕ)
-names_in r = map (λ (i : InputValue). i.file.name) (filter was_read r.inputs) ++ r.left_out
+names_in r = names_read r.inputs ++ r.left_out
 
 -- these are the paths that the receipt which is there names so; or there is none
 abbrev pub NamesFiles : (Option (List ℕ) → Type 0) → Option (Vec (String Global) Global) → Type 0

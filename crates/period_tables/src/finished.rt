@@ -1,9 +1,9 @@
 //! The table of a finished period.
 
 ghost use Rattle.std.specs.Prelude.{◌≡◌};
-ghost use Rattle.std.specs.Option.{option_map};
 ghost use Rattle.recording_periods.specs.TableStates.{IsTableState};
-ghost use Rattle.period_tables.specs.Outcomes.{IsDueOutcome, IsFinishedOutcome, IsGoneOutcome, views};
+ghost use Rattle.period_tables.specs.Outcomes.{IsDueOutcome, IsFinishedOutcome, IsGoneOutcome};
+ghost use Rattle.period_tables.specs.Standing.{items_of};
 
 use crate::desk::Desk;
 use crate::outcome::Outcome;
@@ -34,10 +34,7 @@ pub(crate) fn take_finished<
     alloc: Global,
     period: Period,
 ) -> Outcome
-    ensures { IsFinishedOutcome
-        (views F.listed F.refuses S.seen S.failure O.opens O.sizes
-        O.refuses O.coming E.lines T.seen)
-        period.begins result desk.old desk.new }
+    ensures { IsFinishedOutcome F.Recordings period.begins result desk.old desk.new }
 {
     let names = match desk.folder.files(period) {
         Ok(names) => names,
@@ -60,7 +57,7 @@ pub(crate) fn take_finished<
 
 // Whether the table of these files is due, by the paths of its receipt.
 fn state_of<'p>(files: &[String], paths: &'p Option<Vec<String>>) -> TableState<'p>
-    ensures { IsTableState files.now (option_map (λ v. v.items) paths.now) result }
+    ensures { IsTableState files.now (items_of paths.now) result }
 {
     match paths {
         Some(paths) => table_state(files, Some(paths.as_slice())),
@@ -92,10 +89,7 @@ fn make_due<
     period: Period,
     files: &[String],
 ) -> Outcome
-    ensures outcome { IsDueOutcome
-        (views F.listed F.refuses S.seen S.failure O.opens O.sizes
-        O.refuses O.coming E.lines T.seen)
-        period.begins files.now result desk.old desk.new }
+    ensures outcome { IsDueOutcome period.begins files.now result desk.old desk.new }
     ensures folder { desk.new.folder ≡ desk.old.folder }
 {
     let made = match make_table(threads, &mut desk.maker, period, files) {

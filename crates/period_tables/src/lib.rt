@@ -13,7 +13,7 @@ mod taking;
 mod telling;
 mod work;
 
-pub use desk::Desk;
+pub use desk::{Desk, Work};
 pub use outcome::Outcome;
 pub use periods::take_periods;
 pub use place::TablePlace;
@@ -24,4 +24,4 @@ pub use telling::{
     status_of_reason, tell_outcome, tell_removal, tell_unlisted, words_of_unread, worse_of,
     write_path, write_paths, write_period,
 };
-pub use work::{Round, Work, label_of};
+pub use work::{Round, label_of};

@@ -1,12 +1,12 @@
 //! Taking periods one after another.
 
-ghost use Rattle.period_tables.specs.Outcomes.{views};
 ghost use Rattle.period_tables.specs.Taking.{Takes, TakesEach, TakesNext};
 
+use crate::desk::Work;
 use crate::place::TablePlace;
 use crate::recordings::Recordings;
 use crate::telling::{status_of_reason, tell_unlisted, worse_of};
-use crate::work::{Round, Work, take_and_tell};
+use crate::work::{Round, take_and_tell};
 use input_sources::OpenSource;
 use ipfix_session::Source;
 use period_collect::TableMaker;
@@ -33,10 +33,7 @@ pub fn take_periods<
     round: Round,
     periods: &[Period],
 ) -> Status
-    ensures { Takes (views F.listed F.refuses S.seen S.failure O.opens O.sizes
-        O.refuses O.coming E.lines T.seen)
-        P.lines L.lines
-        round.entry periods.now result work.old work.new }
+    ensures { Takes F.Recordings round.entry periods.now result work.old work.new }
 {
     match work.desk.folder.unfinished() {
         Ok(unfinished) => take_each(threads, work, round, &unfinished, periods),
@@ -64,9 +61,7 @@ fn take_each<
     unfinished: &[String],
     periods: &[Period],
 ) -> Status
-    ensures { TakesEach (views F.listed F.refuses S.seen S.failure O.opens O.sizes
-        O.refuses O.coming E.lines T.seen)
-        P.lines L.lines
+    ensures { TakesEach F.Recordings
         round.entry unfinished.now periods.now result work.old work.new }
 {
     let mut status = Status::Well;
@@ -96,9 +91,7 @@ fn take_next<
     unfinished: &[String],
     period: Period,
 ) -> Status
-    ensures { TakesNext (views F.listed F.refuses S.seen S.failure O.opens O.sizes
-        O.refuses O.coming E.lines T.seen)
-        P.lines L.lines
+    ensures { TakesNext F.Recordings
         round.entry unfinished.now period result work.old work.new }
 {
     if work.rounds.has_settled(period) {

@@ -7,8 +7,7 @@ use std::alloc::AllocError;
 /// A place of tables and their receipts, by their periods.
 pub trait TablePlace {
     ghost use Rattle.std.specs.Prelude.{◌≡◌, IfErr, IfOk, OnErr, OnOk, string_bytes};
-    ghost use Rattle.std.specs.Option.{option_map};
-    ghost use Rattle.period_tables.specs.Standing.{IsKeptBeside, IsPutAt, IsPutOrKept, NamesFiles, PlaceView};
+    ghost use Rattle.period_tables.specs.Standing.{IsKeptBeside, IsPutAt, IsPutOrKept, NamesFiles, PlaceView, items_of};
 
     /// What contracts see of it.
     ghost seen: { PlaceView Self };
@@ -26,7 +25,7 @@ pub trait TablePlace {
 
     /// The text of the receipt of a period, if it has one.
     fn standing_receipt(&self, period: Period) -> Result<Option<Vec<u8>>, Reason>
-        ensures ok { IfOk result (λ text. seen.receipt_at self.now period.begins (option_map (λ v. v.items) text)) }
+        ensures ok { IfOk result (λ text. seen.receipt_at self.now period.begins (items_of text)) }
         ensures reason { IfErr result (seen.refuses self.now period.begins) };
 
     /// The text of the table of a period.
@@ -35,9 +34,9 @@ pub trait TablePlace {
         ensures reason { IfErr result (seen.refuses self.now period.begins) };
 
     /// Puts the table of a period and its receipt. After an `Err` either both stand, or both are as they were.
-    fn put(&mut self, period: Period, text: &[u8], receipt_text: &[u8]) -> Result<(), Reason>
-        ensures ok { OnOk result (IsPutAt seen period.begins self.new text.now receipt_text.now) }
-        ensures err { OnErr result (IsPutOrKept seen period.begins self.old self.new text.now receipt_text.now) }
+    fn put(&mut self, period: Period, text: &[u8], receipt: &[u8]) -> Result<(), Reason>
+        ensures ok { OnOk result (IsPutAt seen period.begins self.new text.now receipt.now) }
+        ensures err { OnErr result (IsPutOrKept seen period.begins self.old self.new text.now receipt.now) }
         ensures others { IsKeptBeside seen period.begins self.old self.new }
         ensures reason { IfErr result (seen.refuses self.new period.begins) };
 }

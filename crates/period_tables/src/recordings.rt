@@ -7,7 +7,7 @@ use report_writing::Reason;
 pub trait Recordings {
     ghost use Rattle.std.specs.Prelude.{◌≡◌, ℕ, List, Option, None, Some, IfErr, IfOk, OnErr};
     ghost use Rattle.report_writing.specs.declared.reason.Reason.{Reason};
-    ghost use Rattle.period_tables.specs.Listings.{Listing, ListsNext};
+    ghost use Rattle.period_tables.specs.Listings.{Listing, ListsPeriod, ListsUnfinished};
 
     /// What was listed, in this order, if it shows that.
     ghost listed: { Self → Option (List Listing) };
@@ -17,15 +17,14 @@ pub trait Recordings {
 
     /// The names in the folder of what isn't finished.
     fn unfinished(&mut self) -> Result<Vec<String>, Reason>
-        ensures ok { IfOk result (λ names. ListsNext (listed self.old) (listed self.new)
-            (record { period = None; names = names.items })) }
+        ensures ok { IfOk result (λ names. ListsUnfinished listed self.old self.new names.items) }
         ensures err { OnErr result (listed self.new ≡ listed self.old) }
         ensures reason { IfErr result (refuses self.new None) };
 
     /// The names in the folder of a period.
     fn files(&mut self, period: Period) -> Result<Vec<String>, Reason>
-        ensures ok { IfOk result (λ names. ListsNext (listed self.old) (listed self.new)
-            (record { period = Some period.begins; names = names.items })) }
+        ensures ok { IfOk result (λ names.
+            ListsPeriod listed self.old self.new period.begins names.items) }
         ensures err { OnErr result (listed self.new ≡ listed self.old) }
         ensures reason { IfErr result (refuses self.new (Some period.begins)) };
 }

@@ -1,7 +1,7 @@
 //! Taking a period of a folder of recordings.
 
 ghost use Rattle.std.specs.Prelude.{◌≡◌, IfOk, OnErr};
-ghost use Rattle.period_tables.specs.Outcomes.{IsOutcome, views};
+ghost use Rattle.period_tables.specs.Outcomes.{IsOutcome};
 
 use crate::desk::Desk;
 use crate::finished::take_finished;
@@ -38,10 +38,8 @@ pub fn take_period<
     unfinished: &[String],
     period: Period,
 ) -> Result<Outcome, AllocError>
-    ensures ok { IfOk result (λ outcome. IsOutcome
-        (views F.listed F.refuses S.seen S.failure O.opens O.sizes
-        O.refuses O.coming E.lines T.seen)
-        rule now unfinished.now period.begins outcome desk.old desk.new) }
+    ensures ok { IfOk result
+        (IsOutcome F.Recordings rule now unfinished.now period desk.old desk.new) }
     ensures err { OnErr result (desk.new ≡ desk.old) }
 {
     match period_state(rule, now, unfinished, period) {

@@ -2,15 +2,13 @@
 
 ghost use Rattle.std.specs.Prelude.{◌≡◌, string_bytes, IfOk};
 ghost use Rattle.report_writing.specs.Told.{AreToldTo};
-ghost use Rattle.period_tables.specs.Outcomes.{views};
 ghost use Rattle.period_tables.specs.Taking.{TakesOne, settles};
 ghost use Rattle.period_tables.specs.Telling.{label_text, outcome_lines, outcome_paths, outcome_status};
 
-use crate::desk::Desk;
+use crate::desk::Work;
 use crate::outcome::Outcome;
 use crate::place::TablePlace;
 use crate::recordings::Recordings;
-use crate::rounds::Rounds;
 use crate::taking::take_period;
 use crate::telling::{tell_outcome, write_paths};
 use input_sources::OpenSource;
@@ -23,15 +21,6 @@ use std::alloc::{AllocError, Global};
 use std::rt::Clock;
 use std::sync::Wait;
 use std::thread::Threads;
-
-/// A desk, what the paths of its tables and the lines about them are written to, and what is known of periods.
-#[derive(Drop)]
-pub struct Work<F, M, T, P, L> {
-    pub desk: Desk<F, M, T>,
-    pub out: P,
-    pub err: L,
-    pub rounds: Rounds,
-}
 
 /// How periods are taken in a round.
 #[derive(Clone, Copy)]
@@ -79,9 +68,7 @@ pub(crate) fn take_and_tell<
     unfinished: &[String],
     period: Period,
 ) -> Took
-    ensures { TakesOne (views F.listed F.refuses S.seen S.failure O.opens O.sizes
-        O.refuses O.coming E.lines T.seen)
-        P.lines L.lines
+    ensures { TakesOne F.Recordings
         round.entry unfinished.now period result work.old work.new }
 {
     let Ok(name) = period_name(round.alloc, period) else {
@@ -119,7 +106,7 @@ pub(crate) fn take_and_tell<
 
 /// What lines call the table of the period of this name.
 pub fn label_of(alloc: Global, plan: Option<&str>, name: &String) -> Result<String, AllocError>
-    ensures { IfOk result (λ label. string_bytes label ≡ label_text plan.entry (string_bytes name.now)) }
+    ensures { IfOk result (λ text. string_bytes text ≡ label_text plan.entry (string_bytes name.now)) }
 {
     match plan {
         Some(plan) => format!(in alloc; "{plan}/{name}"),

@@ -1,6 +1,7 @@
 //! Lines that wait to be written.
 
 ghost use Rattle.std.specs.Prelude.{◌≡◌, ◌≤◌, ◌↔◌, IfOk, IsTrue, vec_capacity};
+ghost use Rattle.report_writing.specs.Lines.{Adds};
 ghost use Rattle.report_writing.specs.Writing.{Tells};
 ghost use Rattle.recording_log.specs.Logs.{dropped_line, dropped_lines, has_room, log_text, nothing_waits, pushed};
 ghost use Rattle.recording_log.specs.declared.waiting_lines.TheConstants.{MOST_OCTETS};

@@ -31,6 +31,7 @@ use Rattle.command_collect.specs.declared.receipts.making.MadeWith.{MadeWith}
 use Rattle.command_collect.specs.declared.receipts.remaking.Remade.{Remade}
 use Rattle.command_collect.specs.declared.receipts.remaking.RemakeFault.{RemakeFault}
 use Rattle.table_remaking.specs.declared.again.MadeBy.{MadeBy}
+use Rattle.table_remaking.specs.declared.again.TableThere.{TableThere}
 
 -- ---- what it is made by
 
@@ -59,6 +60,14 @@ pub record IsJobOf (by : MadeBy) (said : TableValue) (job : CollectJob) : Type 0
 -- the table from its receipt, and what was made again from both
 abbrev pub again_differs : ReceiptValue → List ℕ → ReceiptValue → List ℕ → List ℕ
 again_differs said table found text = table_differs said.table table ++ (remade_differs found said ++ text_differs text table)
+
+-- what the receipt of a table that is there says
+abbrev pub said_by : TableThere → ReceiptValue
+said_by there = receipt_value there.receipt.now
+
+-- what differs of such a table and of one that was made again
+abbrev pub remaking_differs : TableThere → Remade → List ℕ
+remaking_differs there remade = again_differs (said_by there) there.table.now (receipt_value remade.receipt) remade.text.items
 
 -- the table has the octets and the SHA-256 of its receipt; it was made again of these sources, of which the headline says what they
 -- gave, each with its exporter; of the receipt's inputs and these there is one of each for one of the other, by octets, SHA-256 and

@@ -9,6 +9,6 @@ use Rattle.table_remaking.specs.declared.again.MadeBy.{MadeBy}
 use Rattle.table_remaking.specs.declared.again.AgainFault.TheVariants.{NotMade, OutOfMemory}
 
 -- want of memory comes at any time
-abbrev pub IsFaultOf : {S : Type 0} → (S → SourceView) → MadeBy → ReceiptValue → List S → List Origin → AgainFault → Type 0
-IsFaultOf seen by said sources origins (NotMade fault) = IsNotMade seen by said sources origins fault
-IsFaultOf seen by said sources origins OutOfMemory = Unit {0}
+abbrev pub IsDue : {S : Type 0} → (S → SourceView) → MadeBy → ReceiptValue → List S → List Origin → AgainFault → Type 0
+IsDue seen by said sources origins (NotMade fault) = IsNotMade seen by said sources origins fault
+IsDue seen by said sources origins OutOfMemory = Unit {0}

@@ -2,10 +2,10 @@
 
 ghost use Rattle.std.specs.Prelude.{◌≡◌, IfErr, IfOk};
 ghost use Rattle.report_writing.specs.Writing.{Tells};
-ghost use Rattle.table_receipts.specs.Values.{receipt_value, table_value};
+ghost use Rattle.table_receipts.specs.Values.{table_value};
 ghost use Rattle.receipt_differences.specs.Orders.{IsOrderOf};
-ghost use Rattle.table_remaking.specs.Again.{IsCompared, IsJobOf, IsNotMade, again_differs, format_of as format};
-ghost use Rattle.table_remaking.specs.Faults.{IsFaultOf};
+ghost use Rattle.table_remaking.specs.Again.{IsCompared, IsJobOf, IsNotMade, format_of as format, remaking_differs, said_by};
+ghost use Rattle.table_remaking.specs.Faults.{IsDue};
 
 use command_collect::{CollectJob, Engine, MadeWith, Remade, RemakeFault, remake};
 use flow_export::Format;
@@ -63,10 +63,9 @@ pub fn compare_again<S: Source + Send + Drop, R: Threads + Wait + Sync>(
     by: &MadeBy,
     there: &TableThere,
 ) -> Result<Vec<u8>, AgainFault>
-    ensures compared { IfOk result (λ lines. IsCompared S.seen by.now
-        (receipt_value there.now.receipt.now) sources.items origins.now there.now.table.now lines.items) }
-    ensures fault { IfErr result (IsFaultOf S.seen by.now
-        (receipt_value there.now.receipt.now) sources.items origins.now) }
+    ensures compared { IfOk result (λ lines. IsCompared S.seen by.now (said_by there.now)
+        sources.items origins.now there.now.table.now lines.items) }
+    ensures fault { IfErr result (IsDue S.seen by.now (said_by there.now) sources.items origins.now) }
 {
     let job = collect_job(by, &there.receipt.table);
     match remake(rt, alloc, sources, origins, &job, made_with_nothing(alloc)) {
@@ -128,8 +127,7 @@ fn format_of(said: TableFormat) -> Format
 
 // The lines of what differs.
 fn lines_of(alloc: Global, there: &TableThere, remade: &Remade) -> Result<Vec<u8>, AllocError>
-    ensures { IfOk result (λ lines. lines.items ≡ again_differs (receipt_value there.now.receipt.now)
-        there.now.table.now (receipt_value remade.now.receipt) remade.now.text.items) }
+    ensures { IfOk result (λ lines. lines.items ≡ remaking_differs there.now remade.now) }
 {
     let inputs = in_order(alloc, &there.receipt.inputs)?;
     let files = in_order(alloc, &remade.receipt.inputs)?;
@@ -149,9 +147,7 @@ fn write_differences<E: WriteLines>(
 ) -> io::Result<()>
     requires of_inputs { IsOrderOf there.now.receipt.now.inputs.items inputs.now }
     requires of_files { IsOrderOf remade.now.receipt.inputs.items files.now }
-    ensures { Tells E.lines err.old err.new result (again_differs
-        (receipt_value there.now.receipt.now) there.now.table.now (receipt_value remade.now.receipt)
-        remade.now.text.items) }
+    ensures { Tells E.lines err.old err.new result (remaking_differs there.now remade.now) }
 {
     let said = there.receipt;
     write_table_differences(&said.table, there.table, err)?;

@@ -5,17 +5,13 @@ use Rattle.std.specs.declared.alloc.Global.{Global}
 use Rattle.std.specs.declared.string.String.{String}
 use Rattle.recording_names.specs.PeriodNames.{calendar_end}
 use Rattle.recording_names.specs.declared.period.Period.{Period}
-use Rattle.recording_periods.specs.PeriodFolders.{IsPeriodAt}
+use Rattle.recording_periods.specs.PeriodFolders.{HasNoPeriod, IsPeriodAt}
 
 -- what is found in each item of a list, in the order of the list; in some items there is nothing
 abbrev pub Finds : {A B : Type 0} → (A → Type 0) → (A → B → Type 0) → List A → List B → Type 0
 Finds HasNone Has [] found = found ≡ []
 Finds {A} {B} HasNone Has (a ∷ as') found =
     (HasNone a × Finds HasNone Has as' found) ⊎ ((b : B) × (rest : List B) × Has a b × (found ≡ b ∷ rest) × Finds HasNone Has as' rest)
-
--- these are the names of the folders of no period
-abbrev pub HasNoPeriod : List ℕ → List ℕ → Type 0
-HasNoPeriod day time = (begins : ℕ) → begins < calendar_end → ¬ IsPeriodAt begins day time
 
 -- the folder of a day has this name
 abbrev pub IsDayName : List ℕ → Type 0

@@ -1,8 +1,12 @@
 -- The name of a plan, and the paths of its tables.
-use Rattle.std.specs.Prelude.{◌≡◌, ◌≢◌, ◌⊎◌, ℕ, List, [], ◌++◌, codes}
+use Rattle.std.specs.Prelude.{◌≡◌, ◌≢◌, ◌⊎◌, ℕ, List, [], ◌++◌, codes, Option, MatchOption, string_bytes}
+use Rattle.std.specs.Borrow.{Bor}
+use Rattle.std.specs.declared.alloc.Global.{Global}
+use Rattle.std.specs.declared.string.String.{String}
 use Rattle.recording_names.specs.PeriodNames.{IsPeriodName}
 use Rattle.exporter_names.specs.Cuts.{HasNo, joined}
 use Rattle.exporter_names.specs.RecordedExporters.{IsFileName, slash}
+use Rattle.tables_folder.specs.declared.plan_names.TableName.{TableName}
 use Rattle.tables_folder.specs.declared.plan_names.TablesOf.{TablesOf}
 use Rattle.tables_folder.specs.declared.plan_names.TablesOf.TheVariants.{Periods, Days, Months}
 
@@ -19,6 +23,10 @@ pub record IsPlanName (path name : List ℕ) : Type 0 where
 abbrev pub hyphen : ℕ
 hyphen = 45
 
+-- a text is cut at its last octet of a value, or has none
+abbrev pub IsCutAtLast : ℕ → List ℕ → Option (Bor (List ℕ) × Bor (List ℕ)) → Type 0
+IsCutAtLast octet text cut = MatchOption cut (HasNo octet text) (λ parts. (text ≡ joined octet parts.0.now parts.1.now) × HasNo octet parts.1.now)
+
 -- what stands before the last octet of a value, or the whole text if it has none
 abbrev pub IsBefore : ℕ → List ℕ → List ℕ → Type 0
 IsBefore octet text front = (HasNo octet text × (front ≡ text)) ⊎ ((back : List ℕ) × (text ≡ joined octet front back) × HasNo octet back)
@@ -29,11 +37,14 @@ IsTableName Periods period folder name = (folder ≡ []) × (name ≡ period)
 IsTableName Days period folder name = (folder ≡ codes "days/") × IsBefore slash period name
 IsTableName Months period folder name = (folder ≡ codes "months/") × ((day : List ℕ) × IsBefore slash period day × IsBefore hyphen day name)
 
--- the path of the table of what begins then, in the folder of a plan's tables, with this ending
-pub record IsTablePath (of : TablesOf) (folder ending : List ℕ) (begins : ℕ) (path : List ℕ) : Type 0 where
+-- the path of a table of this name in the folder of a plan's tables, with this ending
+abbrev pub IsNamedPath : String Global → TableName → List ℕ → List ℕ → Type 0
+IsNamedPath folder table ending path = path ≡ string_bytes folder ++ (codes "/" ++ (table.folder.now ++ (table.name.now ++ (codes "." ++ ending))))
+
+-- the table of what begins then has this path in the folder of a plan's tables, with this ending
+pub record HasPath (of : TablesOf) (folder : String Global) (ending : List ℕ) (begins : ℕ) (path : List ℕ) : Type 0 where
   pub period : List ℕ
-  pub inner : List ℕ
-  pub name : List ℕ
+  pub table : TableName
   pub is_period : IsPeriodName begins period
-  pub is_name : IsTableName of period inner name
-  pub path_is : path ≡ folder ++ (codes "/" ++ (inner ++ (name ++ (codes "." ++ ending))))
+  pub is_name : IsTableName of period table.folder.now table.name.now
+  pub is_path : IsNamedPath folder table ending path

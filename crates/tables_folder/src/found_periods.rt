@@ -1,7 +1,8 @@
 //! The days and the periods among the names in folders.
 
-ghost use Rattle.std.specs.Prelude.{◌≡◌, ◌≢◌, ◌++◌, ℕ, List, codes, IfOk, MatchBool, MatchOption};
-ghost use Rattle.tables_folder.specs.FoundPeriods.{AreDaysOf, ArePeriodsOf, AreTablesOf, HasNoPeriod, HasNoTable, IsDayName, IsTableAt};
+ghost use Rattle.std.specs.Prelude.{◌≡◌, ◌≢◌, ◌++◌, ℕ, List, codes, IfNone, IfOk, IfSome, MatchBool};
+ghost use Rattle.recording_periods.specs.PeriodFolders.{HasNoPeriod};
+ghost use Rattle.tables_folder.specs.FoundPeriods.{AreDaysOf, ArePeriodsOf, AreTablesOf, HasNoTable, IsDayName, IsTableAt};
 
 use recording_names::Period;
 use recording_periods::read_period_at;
@@ -74,8 +75,8 @@ pub(crate) fn tables_among(
 
 // The period whose table has this name in the folder of a day.
 fn table_period(day: &str, name: &str) -> Option<Period>
-    ensures { MatchOption result (HasNoTable day.now name.now)
-        (λ period. IsTableAt period.begins day.now name.now) }
+    ensures none { IfNone result (HasNoTable day.now name.now) }
+    ensures table { IfSome result (λ period. IsTableAt period.begins day.now name.now) }
 {
     match time_of(name) {
         Some(time) => read_period_at(day, time),
@@ -84,8 +85,8 @@ fn table_period(day: &str, name: &str) -> Option<Period>
 }
 
 fn time_of(name: &str) -> Option<&str>
-    ensures { MatchOption result ((front : List ℕ) → name.now ≢ front ++ codes ".ipfix")
-        (λ time. name.now ≡ time.now ++ codes ".ipfix") }
+    ensures none { IfNone result ((front : List ℕ) → name.now ≢ front ++ codes ".ipfix") }
+    ensures time { IfSome result (λ time. name.now ≡ time.now ++ codes ".ipfix") }
 {
     name.strip_suffix(".ipfix")
 }

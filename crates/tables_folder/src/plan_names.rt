@@ -1,8 +1,7 @@
 //! The name of a plan, and the paths of its tables.
 
-ghost use Rattle.std.specs.Prelude.{◌≡◌, ◌≢◌, ◌++◌, [], codes, string_bytes, IfOk, MatchOption};
-ghost use Rattle.tables_folder.specs.PlanNames.{IsBefore, IsPlanName, IsShortName, IsTableName, IsTablePath, hyphen};
-ghost use Rattle.exporter_names.specs.Cuts.{HasNo, joined};
+ghost use Rattle.std.specs.Prelude.{◌≢◌, [], string_bytes, IfNone, IfOk, IfSome};
+ghost use Rattle.tables_folder.specs.PlanNames.{HasPath, IsBefore, IsCutAtLast, IsNamedPath, IsPlanName, IsShortName, IsTableName, hyphen};
 ghost use Rattle.exporter_names.specs.RecordedExporters.{slash};
 
 use exporter_names::file_name;
@@ -11,8 +10,9 @@ use std::alloc::{AllocError, Global};
 
 /// The name of the plan's file without `.toml` at its end, unless that is empty.
 pub fn plan_name(path: &str) -> Option<&str>
-    ensures { MatchOption result (IsPlanName path.now [])
-        (λ name. IsPlanName path.now name.now × (name.now ≢ [])) }
+    ensures none { IfNone result (IsPlanName path.now []) }
+    ensures name { IfSome result (λ name. IsPlanName path.now name.now) }
+    ensures some { IfSome result (λ name. name.now ≢ []) }
 {
     let name = short_name(file_name(path));
     if name.is_empty() { None } else { Some(name) }
@@ -45,8 +45,7 @@ pub(crate) fn table_path(
     period: Period,
     ending: &str,
 ) -> Result<String, AllocError>
-    ensures { IfOk result (λ path.
-        IsTablePath of (string_bytes folder.now) ending.now period.begins (string_bytes path)) }
+    ensures { IfOk result (λ path. HasPath of folder.now ending.now period.begins (string_bytes path)) }
 {
     let name = period_name(alloc, period)?;
     let path = path_of(alloc, folder, short_of(of, name.as_str()), ending)?;
@@ -88,8 +87,7 @@ fn day_in(name: &str) -> &str
 }
 
 fn at_slash(name: &str) -> Option<(&str, &str)>
-    ensures { MatchOption result (HasNo slash name.now)
-        (λ parts. (name.now ≡ joined slash parts.0.now parts.1.now) × HasNo slash parts.1.now) }
+    ensures { IsCutAtLast slash name.now result }
 {
     name.rsplit_once('/')
 }
@@ -105,8 +103,7 @@ fn month_in(day: &str) -> &str
 }
 
 fn at_hyphen(day: &str) -> Option<(&str, &str)>
-    ensures { MatchOption result (HasNo hyphen day.now)
-        (λ parts. (day.now ≡ joined hyphen parts.0.now parts.1.now) × HasNo hyphen parts.1.now) }
+    ensures { IsCutAtLast hyphen day.now result }
 {
     day.rsplit_once('-')
 }
@@ -117,8 +114,7 @@ fn path_of(
     table: TableName,
     ending: &str,
 ) -> Result<String, AllocError>
-    ensures { IfOk result (λ path. string_bytes path ≡ string_bytes folder.now
-        ++ (codes "/" ++ (table.entry.folder.now ++ (table.entry.name.now ++ (codes "." ++ ending.now))))) }
+    ensures { IfOk result (λ path. IsNamedPath folder.now table.entry ending.now (string_bytes path)) }
 {
     let TableName {
         folder: inner,

@@ -225,13 +225,13 @@ impl<'r> PlanTables<'r> {
 }
 
 impl<'r> TablePlace for PlanTables<'r> {
-    ghost use Rattle.std.specs.Prelude.{⊤, string_bytes};
-    ghost use Rattle.tables_folder.specs.PlanNames.{IsTablePath};
+    ghost use Rattle.std.specs.Prelude.{⊤};
+    ghost use Rattle.tables_folder.specs.PlanNames.{HasPath};
 
     ghost seen = { record {
       text_at = λ _ _ _. ⊤;
       receipt_at = λ _ _ _. ⊤;
-      path_at = λ tables begins path. IsTablePath tables.of (string_bytes tables.path) tables.ending.now begins path;
+      path_at = λ tables begins path. HasPath tables.of tables.path tables.ending.now begins path;
       refuses = λ _ _ _. ⊤;
     } };
 

@@ -1,8 +1,9 @@
 //! The files that a receipt names.
 
-ghost use Rattle.std.specs.Prelude.{◌≡◌, filter, map, string_bytes, IfErr, IfOk, MatchBool};
+ghost use Rattle.std.specs.Prelude.{◌≡◌, map, string_bytes, IfErr, IfOk};
+ghost use Rattle.std.specs.Bool.{OnFalse, OnTrue};
 ghost use Rattle.table_receipts.specs.Values.{input_value, receipt_value, table_value};
-ghost use Rattle.period_tables.specs.Standing.{names_in, was_read as was_input_read};
+ghost use Rattle.period_tables.specs.Standing.{names_in, names_read, was_read as was_input_read};
 ghost use Rattle.tables_folder.specs.ReceiptFiles.{AreFilesIn, AreNotIn, IsFilesOf, IsNotOf, IsNoReceiptOf, IsReceiptOf, tells_table};
 
 use report_writing::Reason;
@@ -62,7 +63,7 @@ fn all_names_of(alloc: Global, receipt: Receipt) -> Result<Vec<String>, AllocErr
 // The names of inputs that were read.
 fn names_of(alloc: Global, inputs: &[InputReceipt]) -> Result<Vec<String>, AllocError>
     ensures { IfOk result (λ names. map string_bytes names.items
-        ≡ map (λ i. i.file.name) (filter was_input_read (map input_value inputs.now))) }
+        ≡ names_read (map input_value inputs.now)) }
 {
     let mut names = Vec::new(alloc);
     let mut left = inputs;
@@ -87,8 +88,8 @@ fn was_read(input: &InputReceipt) -> bool
 
 /// Whether this text is the receipt of a table, by the table's octets and their SHA-256.
 pub(crate) fn is_receipt_of(alloc: Global, text: &str, table: &[u8]) -> Result<bool, AllocError>
-    ensures { IfOk result (λ is. MatchBool is (IsReceiptOf text.now table.now)
-        (IsNoReceiptOf text.now table.now)) }
+    ensures is { IfOk result (λ is. OnTrue is (IsReceiptOf text.now table.now)) }
+    ensures none { IfOk result (λ is. OnFalse is (IsNoReceiptOf text.now table.now)) }
 {
     match read_receipt(alloc, text) {
         Ok(receipt) => Ok(tells(&receipt.table, table)),

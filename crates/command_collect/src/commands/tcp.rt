@@ -1,12 +1,10 @@
 //! Collecting from connections.
 
-ghost use Rattle.std.specs.Prelude.{◌≡◌, ◌<◌, IfSome};
-ghost use Rattle.std.specs.Duration.{as_nanos};
+ghost use Rattle.std.specs.Prelude.{◌≡◌};
 ghost use Rattle.report_writing.specs.Lines.{StaysFailed};
 ghost use Rattle.report_writing.specs.Statuses.{number_of};
 ghost use Rattle.report_writing.specs.Told.{AreToldTo};
-ghost use Rattle.command_collect.specs.Engines.{fault_of_engine};
-ghost use Rattle.command_collect.specs.Collects.{CollectsConnections, CollectsConnectionsPlainly, IfFits, IfNoTime, RefusesEngine};
+ghost use Rattle.command_collect.specs.Collects.{CollectsConnections, CollectsConnectionsPlainly, IfFits, IfNoTime, IfNoTimeFor, IfUnfit, TellsUnfit};
 ghost use Rattle.command_collect.specs.declared.engine.Engine.TheVariants.{Links};
 
 use super::connections::run_connections;
@@ -67,8 +65,7 @@ pub fn run_tcp<
         (Links pool) output }
     ensures closed { L.is_closed listener.new }
     // No connection can have a limit of no time.
-    ensures no_time { IfSome idle
-        (λ limit. as_nanos limit ≡ 0 → 0 < count → result ≡ number_of Status.NotOpened) }
+    ensures no_time { IfNoTimeFor idle count (result ≡ number_of Status.NotOpened) }
     ensures kept { StaysFailed E.lines err.old err.new }
 {
     let elements = Elements::built_in(alloc);
@@ -114,11 +111,12 @@ pub fn run_tcp_with<
     ensures no_time { IfFits job.now.engine
         (IfNoTime connections.now (result ≡ Status.NotOpened)) }
     // An engine that has a fault is refused, and the fault that it has is told.
-    ensures engine { RefusesEngine job.now.engine connections.now.count (number_of result) (out.new ≡ out.old)
+    ensures engine { IfUnfit job.now.engine (result ≡ Status.Failed) }
+    ensures told { TellsUnfit job.now.engine connections.now.count
         (AreToldTo E.lines err.old err.new) }
-    // And then no connection was accepted.
-    ensures unaccepted { IfSome (fault_of_engine job.now.engine)
-        (λ any. L.coming listener.new ≡ L.coming listener.old) }
+    // And then nothing was written, and no connection was accepted.
+    ensures untouched { IfUnfit job.now.engine (out.new ≡ out.old) }
+    ensures unaccepted { IfUnfit job.now.engine (L.coming listener.new ≡ L.coming listener.old) }
     ensures kept { StaysFailed E.lines err.old err.new }
 {
     if let Some(fault) = refused_early(job.engine, connections.count) {

@@ -4,9 +4,9 @@ ghost use Rattle.std.specs.Prelude.{◌≡◌, None, IfErr, IfOk, length, map, v
 ghost use Rattle.flow_table.specs.Fitting.{FitsPlan};
 ghost use Rattle.command_collect.specs.Engines.{due_fault};
 ghost use Rattle.command_collect.specs.Exporters.{noting};
-ghost use Rattle.command_collect.specs.Jobs.{GathersJob, HasJobFaults, TellsJobLarge};
-ghost use Rattle.command_collect.specs.Digests.{AreOfSessions, StartAt};
-ghost use Rattle.command_collect.specs.HashedRuns.{HasDigestsOf};
+ghost use Rattle.command_collect.specs.Jobs.{HasJobFaults, TellsJobLarge};
+ghost use Rattle.command_collect.specs.Digests.{AreDigested, StartAt};
+ghost use Rattle.command_collect.specs.HashedRuns.{GathersHashed, HasDigestsOf};
 
 use crate::gathered::Gathered;
 use crate::job::CollectJob;
@@ -36,8 +36,7 @@ pub fn collect_hashed<S: Source + Send + Drop, R: Threads + Wait + Sync>(
     origins: &[Origin],
     job: &CollectJob,
 ) -> Result<HashedRun<S>, CollectFailure>
-    ensures ok { IfOk result (λ h.
-        GathersJob S.seen (noting job.now) sources.items origins.now h.gathered) }
+    ensures ok { IfOk result (GathersHashed S.seen (noting job.now) sources.items origins.now) }
     ensures digests { IfOk result (HasDigestsOf S.seen sources.items) }
     ensures fits { IfOk result (λ h. FitsPlan job.now.plan.now h.gathered.run.table) }
     ensures faults { HasJobFaults S.seen (noting job.now) sources origins.now result }
@@ -61,8 +60,7 @@ fn collect_from<S: Source + Send + Drop, R: Threads + Wait + Sync, T: Start + Se
 ) -> Result<HashedRun<S>, CollectFailure>
     requires start { StartAt S.seen T.texts 0 sources.items }
     requires fits { due_fault job.now.engine (vec_len sources) ≡ None }
-    ensures ok { IfOk result (λ h.
-        GathersJob S.seen job.now sources.items origins.now h.gathered) }
+    ensures ok { IfOk result (GathersHashed S.seen job.now sources.items origins.now) }
     ensures digests { IfOk result (HasDigestsOf S.seen sources.items) }
     ensures fits { IfOk result (λ h. FitsPlan job.now.plan.now h.gathered.run.table) }
     ensures faults { HasJobFaults S.seen job.now sources origins.now result }
@@ -95,8 +93,8 @@ fn finish_run<S: Source + Drop, T: Start>(
     ensures filtered { IfOk result (λ h. h.gathered.filtered ≡ gathered.filtered) }
     ensures sampling { IfOk result (λ h. h.gathered.sampling ≡ gathered.sampling) }
     ensures times { IfOk result (λ h. h.gathered.times ≡ gathered.times) }
-    ensures digests { IfOk result (λ h. AreOfSessions S.seen T.texts 0 h.gathered.run.sources.items
-        h.gathered.run.sessions.items h.digests.items) }
+    ensures digests { IfOk result (λ h. AreDigested S.seen T.texts h.gathered.run.sources
+        h.gathered.run.sessions.items h.digests) }
 {
     let Gathered {
         run,

@@ -1,10 +1,9 @@
 //! Writing a table whose text is hashed.
 
-ghost use Rattle.std.specs.Prelude.{◌≡◌, ◌↔◌, List, ℕ, Option, None, Some, IfOk, IsErrOf, length};
-ghost use Rattle.flow_export.specs.AnyTables.{intervals_of, rows_of, table_in};
+ghost use Rattle.std.specs.Prelude.{◌≡◌, ◌↔◌, List, ℕ, Option, None, IsErrOf};
+ghost use Rattle.flow_export.specs.AnyTables.{table_in};
 ghost use Rattle.flow_table.specs.Fitting.{FitsPlan};
-ghost use Rattle.output_tables.specs.TableTexts.{IsTooMany, WritesAny, export_text_in};
-ghost use Rattle.command_collect.specs.Digests.{IsDigestOfAppended};
+ghost use Rattle.command_collect.specs.HashedTables.{HasDigestOfTable, HasTooMany, WritesHashed};
 ghost use Rattle.command_collect.specs.Hashing.{HasWritten};
 
 use element_registry::Elements;
@@ -74,12 +73,9 @@ pub fn export_hashed<W: Write + Drop>(
     out: W,
 ) -> WrittenTable<W>
     requires { FitsPlan plan.now (table_in table.now) }
-    ensures ok { IfOk result.answer (λ text. WritesAny elements.now plan.now output
-        (W.contents out) (W.contents result.out) table.now) }
-    ensures digest { IfOk result.answer (λ text. IsDigestOfAppended (W.contents out) text
-        (export_text_in (intervals_of table.now) elements.now output plan.now (table_in table.now))) }
-    ensures many { IsErrOf result.answer ExportFault.TooManyRows
-        ↔ IsTooMany output.format (length (rows_of table.now)) }
+    ensures ok { WritesHashed W.contents elements.now plan.now output table.now out result }
+    ensures digest { HasDigestOfTable W.contents elements.now plan.now output table.now out result }
+    ensures many { IsErrOf result.answer ExportFault.TooManyRows ↔ HasTooMany output table.now }
     ensures untouched { IsErrOf result.answer ExportFault.TooManyRows → result.out ≡ out }
 {
     export_from::<W, Brand>(alloc, elements, plan, table, output, out)
@@ -96,12 +92,9 @@ fn export_from<W: Write + Drop, T: Held>(
 ) -> WrittenTable<W>
     requires fits { FitsPlan plan.now (table_in table.now) }
     requires held { W.contents out ≡ T.contents }
-    ensures ok { IfOk result.answer (λ text. WritesAny elements.now plan.now output
-        (W.contents out) (W.contents result.out) table.now) }
-    ensures digest { IfOk result.answer (λ text. IsDigestOfAppended (W.contents out) text
-        (export_text_in (intervals_of table.now) elements.now output plan.now (table_in table.now))) }
-    ensures many { IsErrOf result.answer ExportFault.TooManyRows
-        ↔ IsTooMany output.format (length (rows_of table.now)) }
+    ensures ok { WritesHashed W.contents elements.now plan.now output table.now out result }
+    ensures digest { HasDigestOfTable W.contents elements.now plan.now output table.now out result }
+    ensures many { IsErrOf result.answer ExportFault.TooManyRows ↔ HasTooMany output table.now }
     ensures untouched { IsErrOf result.answer ExportFault.TooManyRows → result.out ≡ out }
 {
     let mut hashed: HashedWriter<W, T> = HashedWriter {

@@ -1,7 +1,7 @@
 //! Sources whose octets are hashed as they are read, and what they gave.
 
 ghost use Rattle.std.specs.Prelude.{◌≡◌, IfOk, length, map};
-ghost use Rattle.command_collect.specs.Digests.{AreOfSessions, StartAt};
+ghost use Rattle.command_collect.specs.Digests.{AreDigested, StartAt};
 
 use input_digests::{FinishedSource, HashedSource, Start};
 use ipfix_session::{FullReport, Source};
@@ -41,8 +41,7 @@ pub fn finish_each<S: Source + Drop, T: Start>(
 ) -> Result<FinishedSources<S>, AllocError>
     requires { length sources.items ≡ length reports.now }
     ensures sources { IfOk result (λ f. f.sources.items ≡ map (λ h. h.source) sources.items) }
-    ensures digests { IfOk result (λ f. AreOfSessions S.seen T.texts 0 f.sources.items reports.now
-        f.digests.items) }
+    ensures digests { IfOk result (λ f. AreDigested S.seen T.texts f.sources reports.now f.digests) }
 {
     let mut waiting = VecDeque::from_vec(sources);
     let mut finished = Vec::with_capacity(alloc, reports.len())?;

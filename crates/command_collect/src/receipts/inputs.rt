@@ -4,7 +4,7 @@ ghost use Rattle.std.specs.Prelude.{◌≡◌, map, option_map, string_bytes, If
 ghost use Rattle.ipfix_session.specs.Faults.{name_of};
 ghost use Rattle.table_receipts.specs.Values.{exporter_value, file_value, input_value};
 ghost use Rattle.command_collect.specs.Exporters.{first_origin as first, other_origins as others};
-ghost use Rattle.command_collect.specs.Inputs.{domain_of as domain, domains_of as domains_in, file_of as file, input_at as first_input, input_of as input, inputs_of as inputs_of_job, name_of_input};
+ghost use Rattle.command_collect.specs.Inputs.{domain_of as domain, domains_of as domains_in, file_of as file, input_at, input_of as input, inputs_of, name_of_input};
 
 use crate::job::CollectJob;
 use crate::receipts::exporters::{exporter_receipt, first_told, others_told};
@@ -24,7 +24,7 @@ pub fn inputs_of(
     digests: &[[u8; 32]],
 ) -> Result<Vec<InputReceipt>, AllocError>
     ensures { IfOk result (λ all. map input_value all.items
-        ≡ inputs_of_job job.now origins.now reports.now digests.now) }
+        ≡ inputs_of job.now origins.now reports.now digests.now) }
 {
     let mut all = Vec::with_capacity(alloc, reports.len())?;
     let wanted = job.wanted;
@@ -55,7 +55,7 @@ fn input_at(
     sha256: [u8; 32],
 ) -> Result<InputReceipt, AllocError>
     ensures { IfOk result (λ i. input_value i
-        ≡ first_input wanted told.now origins.now full.now sha256) }
+        ≡ input_at wanted told.now origins.now full.now sha256) }
 {
     let origin = first_origin(origins);
     let exporter = exporter_receipt(alloc, wanted, first_told(told), &origin)?;

@@ -1,25 +1,24 @@
 //! The table of a run, and its receipt.
 
-ghost use Rattle.std.specs.Prelude.{◌≡◌, Err, IfErr, IfOk, OnOk, map};
+ghost use Rattle.std.specs.Prelude.{◌≡◌, Err, IfErr, IfOk, OnOk};
 ghost use Rattle.flow_table.specs.Fitting.{FitsPlan};
-ghost use Rattle.table_receipts.specs.Values.{input_value, receipt_value};
-ghost use Rattle.command_collect.specs.Made.{IsReceiptOf};
-ghost use Rattle.command_collect.specs.HashedRuns.{HasNoReceipt, IsReceiptOfRun, WritesRun};
+ghost use Rattle.command_collect.specs.Made.{IsReceiptWith};
+ghost use Rattle.command_collect.specs.HashedRuns.{IsMadeOfRun, NoneIsMade, WritesRun};
 ghost use Rattle.command_collect.specs.ReceiptedRuns.{IsOfReceipt};
 
 use crate::gathered::Gathered;
 use crate::job::CollectJob;
 use crate::receipts::collecting::HashedRun;
 use crate::receipts::fault::{ReceiptFault, RunFault};
-use crate::receipts::hashed_table::{TextDigest, WrittenTable, export_hashed};
+use crate::receipts::hashed_table::{WrittenTable, export_hashed};
 use crate::receipts::inputs::inputs_of;
-use crate::receipts::making::{MadeWith, make_receipt};
+use crate::receipts::making::{Contents, MadeWith, make_receipt};
 use flow_export::{AnyTable, Intervals};
 use receipt_merging::first_twice;
 use report_writing::Origin;
 use std::alloc::{AllocError, Global};
 use std::io::Write;
-use table_receipts::{InputReceipt, Receipt};
+use table_receipts::Receipt;
 
 /// Where the table of a run was written, and its receipt, or why it has none.
 #[derive(Drop)]
@@ -40,9 +39,9 @@ pub fn make_run<S: Drop, W: Write + Drop>(
     requires { FitsPlan job.now.plan.now run.now.gathered.run.table }
     ensures writes { OnOk result.answer (WritesRun job.now W.contents out result.out run.now) }
     ensures made { IfOk result.answer
-        (IsReceiptOfRun job.now made origins.now run.now (W.contents out)) }
+        (IsMadeOfRun job.now made origins.now run.now (W.contents out)) }
     ensures not_made { IfErr result.answer
-        (HasNoReceipt job.now origins.now run.now (result.out ≡ out)) }
+        (NoneIsMade job.now origins.now run.now (result.out ≡ out)) }
 {
     let collected = &run.gathered.run;
     let inputs = match inputs_of(alloc, job, origins, &collected.sessions, &run.digests) {
@@ -88,14 +87,6 @@ fn without_receipt<W>(out: W, fault: ReceiptFault) -> MadeRun<W>
     }
 }
 
-// What a receipt says beside what was collected.
-#[derive(Drop)]
-struct Contents {
-    made: MadeWith,
-    inputs: Vec<InputReceipt>,
-    text: TextDigest,
-}
-
 // The receipt of what was collected.
 fn receipt_of<S: Drop>(
     alloc: Global,
@@ -104,22 +95,10 @@ fn receipt_of<S: Drop>(
     contents: Contents,
 ) -> Result<Receipt, RunFault>
     requires { FitsPlan job.now.plan.now gathered.now.run.table }
-    ensures made { IfOk result (λ r. IsReceiptOf contents.made job.now (map input_value contents.inputs.items)
-        gathered.now.run.sessions.items gathered.now.sampling.items contents.text
-        gathered.now.run.table (receipt_value r)) }
+    ensures made { IfOk result (IsReceiptWith contents job.now gathered.now) }
     ensures fault { IfErr result IsOfReceipt }
 {
-    let Contents { made, inputs, text } = contents;
-    match make_receipt(
-        alloc,
-        made,
-        job,
-        inputs,
-        &gathered.run.sessions,
-        &gathered.sampling,
-        text,
-        &gathered.run.table,
-    ) {
+    match make_receipt(alloc, contents, job, gathered) {
         Ok(receipt) => Ok(receipt),
         Err(AllocError) => Err(RunFault::Receipt(ReceiptFault::OutOfMemory)),
     }

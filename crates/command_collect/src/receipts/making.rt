@@ -1,12 +1,11 @@
 //! Making the receipt of a run.
 
-ghost use Rattle.std.specs.Prelude.{◌≡◌, ◌↔◌, [], true, map, IfOk, IsTrue};
+ghost use Rattle.std.specs.Prelude.{◌↔◌, IfOk, IsTrue};
 ghost use Rattle.flow_table.specs.Fitting.{FitsPlan};
-ghost use Rattle.table_receipts.specs.Values.{input_value, receipt_value};
-ghost use Rattle.command_collect.specs.Runs.{WentWell};
-ghost use Rattle.command_collect.specs.Made.{IsReceiptOf};
+ghost use Rattle.command_collect.specs.Made.{IsComplete, IsReceiptWith};
 
 use crate::ending::leaves_nothing_out;
+use crate::gathered::Gathered;
 use crate::job::CollectJob;
 use crate::receipts::hashed_table::TextDigest;
 use crate::receipts::table_part::{counts_of, table_of};
@@ -31,21 +30,30 @@ pub struct MadeWith {
     pub left_out: Vec<String>,
 }
 
-/// The receipt of the table of these inputs, by the digest of its text.
-pub fn make_receipt(
+/// What a receipt says beside what was collected.
+#[derive(Drop)]
+pub struct Contents {
+    pub made: MadeWith,
+    /// What it was made of.
+    pub inputs: Vec<InputReceipt>,
+    /// The digest of its text.
+    pub text: TextDigest,
+}
+
+/// The receipt of the table of what was collected.
+pub fn make_receipt<S: Drop>(
     alloc: Global,
-    made: MadeWith,
+    contents: Contents,
     job: &CollectJob,
-    inputs: Vec<InputReceipt>,
-    reports: &[FullReport],
-    sampling: &[SamplingReport],
-    text: TextDigest,
-    table: &FlatTable,
+    gathered: &Gathered<S>,
 ) -> Result<Receipt, AllocError>
-    requires { FitsPlan job.now.plan.now table.now }
-    ensures { IfOk result (λ r. IsReceiptOf made job.now (map input_value inputs.items) reports.now
-        sampling.now text table.now (receipt_value r)) }
+    requires { FitsPlan job.now.plan.now gathered.now.run.table }
+    ensures { IfOk result (IsReceiptWith contents job.now gathered.now) }
 {
+    let Contents { made, inputs, text } = contents;
+    let reports = &gathered.run.sessions;
+    let sampling = &gathered.sampling;
+    let table = &gathered.run.table;
     let table_part = table_of(alloc, job.elements, job.plan, job.output, text, table)?;
     let MadeWith {
         collectd,
@@ -77,7 +85,7 @@ fn is_complete(
     table: &FlatTable,
     left_out: &[String],
 ) -> bool
-    ensures { IsTrue result ↔ (WentWell true is_scaled reports.now sampling.now table.now × (left_out.now ≡ [])) }
+    ensures { IsTrue result ↔ IsComplete is_scaled reports.now sampling.now table.now left_out.now }
 {
     if !leaves_nothing_out(is_scaled, reports, sampling, table) {
         return false;

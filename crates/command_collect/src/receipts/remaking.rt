@@ -3,7 +3,7 @@
 ghost use Rattle.std.specs.Prelude.{◌≡◌, IfErr, IfOk, [], Some};
 ghost use Rattle.flow_table.specs.Fitting.{FitsPlan};
 ghost use Rattle.command_collect.specs.Remade.{IsNotRemade, IsRemade};
-ghost use Rattle.command_collect.specs.HashedRuns.{HasNoReceipt, IsReceiptOfRun};
+ghost use Rattle.command_collect.specs.HashedRuns.{IsMadeOfRun, NoneIsMade};
 ghost use Rattle.command_collect.specs.Jobs.{job_text};
 
 use crate::job::CollectJob;
@@ -70,8 +70,8 @@ fn remake_run<S: Drop>(
     ensures text { IfOk result (λ m.
         m.text.items ≡ job_text job.now run.now.gathered.run.table) }
     ensures made { IfOk result (λ m.
-        IsReceiptOfRun job.now made origins.now run.now (Some []) m.receipt) }
-    ensures not_made { IfErr result (HasNoReceipt job.now origins.now run.now (Unit {0})) }
+        IsMadeOfRun job.now made origins.now run.now (Some []) m.receipt) }
+    ensures not_made { IfErr result (NoneIsMade job.now origins.now run.now (Unit {0})) }
 {
     let MadeRun { out, answer } = make_run(alloc, job, origins, run, Vec::new(alloc), made);
     match answer {

@@ -6,7 +6,7 @@ ghost use Rattle.report_writing.specs.Lines.{StaysFailed};
 ghost use Rattle.report_writing.specs.Told.{AreToldTo};
 ghost use Rattle.table_receipts.specs.Texts.{receipt_text};
 ghost use Rattle.table_receipts.specs.Values.{receipt_value};
-ghost use Rattle.command_collect.specs.HashedRuns.{HasNoReceipt, WritesRun};
+ghost use Rattle.command_collect.specs.HashedRuns.{NoneIsMade, WritesRun};
 ghost use Rattle.command_collect.specs.ReceiptedRuns.{Hinders, IsOfReceipt, IsPut, RunsReceipted, hindrance_in, hindrance_of};
 
 use crate::ending::{status_of, tell};
@@ -153,8 +153,8 @@ fn write_run<S: Drop, W: Write + Drop, P: ReceiptPlace + Drop>(
     ensures put { OnOk result.answer (IsPut (P.holds result.place) to.made job.now origins.now
         run.now.gathered.run.sessions.items run.now.gathered.sampling.items run.now.digests.items
         (W.contents to.out) run.now.gathered.run.table) }
-    ensures not_put { IfErr result.answer
-        (HasNoReceipt job.now origins.now run.now (result.out ≡ to.out)) }
+    ensures fault { IfErr result.answer
+        (NoneIsMade job.now origins.now run.now (result.out ≡ to.out)) }
 {
     let Receipted {
         out,

@@ -5,7 +5,7 @@ ghost use Rattle.element_registry.specs.Registries.{element_name};
 ghost use Rattle.flow_table.specs.AddedUp.{rows_in};
 ghost use Rattle.flow_table.specs.Fitting.{FitsPlan};
 ghost use Rattle.table_receipts.specs.Values.{sum_value, table_value};
-ghost use Rattle.command_collect.specs.Tables.{counts_of as counts, format_of as format, sum_at as sum_in, sums_from, table_of as table_in};
+ghost use Rattle.command_collect.specs.Tables.{counts_of as counts, format_of as format, sum_at as sum_in, sums_of, table_of as table_in};
 
 use crate::receipts::hashed_table::TextDigest;
 use element_registry::Elements;
@@ -28,7 +28,7 @@ pub fn table_of(
 ) -> Result<TableReceipt, AllocError>
     requires { FitsPlan plan.now table.now }
     ensures { IfOk result (λ t. table_value t
-        ≡ table_in elements.now plan.now.counters output text table.now) }
+        ≡ table_in elements.now plan.now output text table.now) }
 {
     Ok(TableReceipt {
         format: format_of(output.format),
@@ -73,8 +73,8 @@ fn sums_of(
     counters: &[ElementId],
     table: &FlatTable,
 ) -> Result<Vec<CounterSum>, AllocError>
-    ensures { IfOk result (λ all. map sum_value all.items
-        ≡ sums_from elements.now (rows_in table.now) 0 counters.now) }
+    ensures { IfOk result (λ s. map sum_value s.items
+        ≡ sums_of elements.now counters.now table.now) }
 {
     let mut all = Vec::with_capacity(alloc, counters.len())?;
     let mut left = counters;

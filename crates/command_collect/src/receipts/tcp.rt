@@ -1,11 +1,10 @@
 //! Collecting from connections, with a receipt.
 
-ghost use Rattle.std.specs.Prelude.{◌≡◌, IfSome};
+ghost use Rattle.std.specs.Prelude.{◌≡◌};
 ghost use Rattle.report_writing.specs.Lines.{StaysFailed};
-ghost use Rattle.report_writing.specs.Statuses.{number_of};
 ghost use Rattle.report_writing.specs.Told.{AreToldTo};
-ghost use Rattle.command_collect.specs.Collects.{IfFits, IfNoTime, RefusesEngine};
-ghost use Rattle.command_collect.specs.Engines.{fault_of_engine};
+ghost use Rattle.report_writing.specs.declared.status.Status.TheVariants.{NotOpened};
+ghost use Rattle.command_collect.specs.Collects.{IfFits, IfNoTime, IfUnfit, TellsUnfit};
 ghost use Rattle.command_collect.specs.ReceiptedRuns.{ReceiptedConnections};
 
 use crate::collect_fault::write_collect_fault;
@@ -51,13 +50,14 @@ pub fn run_tcp_receipted<
     ensures closed { L.is_closed listener.new }
     // No connection can have a limit of no time.
     ensures no_time { IfFits job.now.engine
-        (IfNoTime connections.now (result.status ≡ Status.NotOpened)) }
+        (IfNoTime connections.now (result.status ≡ NotOpened)) }
     // An engine that has a fault is refused, and the fault that it has is told.
-    ensures engine { RefusesEngine job.now.engine connections.now.count (number_of result.status)
-        (result.out ≡ to.out) (AreToldTo E.lines err.old err.new) }
-    // And then no connection was accepted.
-    ensures unaccepted { IfSome (fault_of_engine job.now.engine)
-        (λ any. L.coming listener.new ≡ L.coming listener.old) }
+    ensures engine { IfUnfit job.now.engine (result.status ≡ Status.Failed) }
+    ensures told { TellsUnfit job.now.engine connections.now.count
+        (AreToldTo E.lines err.old err.new) }
+    // And then nothing was written, and no connection was accepted.
+    ensures untouched { IfUnfit job.now.engine (result.out ≡ to.out) }
+    ensures unaccepted { IfUnfit job.now.engine (L.coming listener.new ≡ L.coming listener.old) }
     ensures kept { StaysFailed E.lines err.old err.new }
 {
     if let Some(fault) = refused_early(job.engine, connections.count) {
@@ -97,7 +97,7 @@ fn run_connections<
         job.now L.gives L.is_of L.refuses L.coming listener.old listener.new connections.now
         (AreToldTo E.lines err.old err.new) }
     ensures closed { L.is_closed listener.new }
-    ensures no_time { IfNoTime connections.now (result.status ≡ Status.NotOpened) }
+    ensures no_time { IfNoTime connections.now (result.status ≡ NotOpened) }
     ensures kept { StaysFailed E.lines err.old err.new }
 {
     let Connections {

@@ -1,9 +1,9 @@
 //! The tables of periods and their receipts, by the names of the periods.
 
-ghost use Rattle.std.specs.Prelude.{◌≡◌, ◌≢◌, ◌++◌, ℕ, List, Some, IfErr, IfOk, MatchOption, codes};
-ghost use Rattle.exporter_names.specs.Cuts.{HasNo, joined};
+ghost use Rattle.std.specs.Prelude.{◌≡◌, ◌≢◌, ◌++◌, ℕ, List, IfErr, IfNone, IfOk, IfSome, MatchOption, codes};
 ghost use Rattle.exporter_names.specs.RecordedExporters.{slash};
-ghost use Rattle.command_tables.specs.TextsByName.{NamesNone, NamesPeriod, RefusesNamed};
+ghost use Rattle.tables_folder.specs.PlanNames.{IsCutAtLast};
+ghost use Rattle.command_tables.specs.TextsByName.{IsReceiptText, IsTableText, NamesNone, NamesPeriod, RefusesNamed};
 
 use input_files::ReadText;
 use period_tables::TablePlace;
@@ -36,15 +36,15 @@ impl<'t, T: TablePlace> ReadText for ByName<'t, T> {
 
 // The name of the table whose receipt has this path.
 fn receipt_of(path: &str) -> Option<&str>
-    ensures { MatchOption result ((name : List ℕ) → path.now ≢ name ++ codes ".receipt")
-        (λ name. path.now ≡ name.now ++ codes ".receipt") }
+    ensures none { IfNone result ((name : List ℕ) → path.now ≢ name ++ codes ".receipt") }
+    ensures name { IfSome result (λ name. path.now ≡ name.now ++ codes ".receipt") }
 {
     path.strip_suffix(".receipt")
 }
 
 // The text of the receipt of the period of this name.
 fn read_receipt<T: TablePlace>(tables: &T, name: &str) -> Result<Vec<u8>, Reason>
-    ensures text { IfOk result (λ text. (begins : ℕ) × NamesPeriod begins name.now × T.seen.receipt_at tables.now begins (Some text.items)) }
+    ensures text { IfOk result (λ text. IsReceiptText T.seen tables.now name.now text.items) }
     ensures refused { IfErr result
         (RefusesNamed T.seen tables.now name.now) }
 {
@@ -60,7 +60,7 @@ fn read_receipt<T: TablePlace>(tables: &T, name: &str) -> Result<Vec<u8>, Reason
 
 // The text of its table.
 fn read_table<T: TablePlace>(tables: &T, name: &str) -> Result<Vec<u8>, Reason>
-    ensures text { IfOk result (λ text. (begins : ℕ) × NamesPeriod begins name.now × T.seen.text_at tables.now begins text.items) }
+    ensures text { IfOk result (λ text. IsTableText T.seen tables.now name.now text.items) }
     ensures refused { IfErr result
         (RefusesNamed T.seen tables.now name.now) }
 {
@@ -80,8 +80,7 @@ fn period_named(name: &str) -> Option<Period>
 
 // What stands before and after the last slash.
 fn split_name(name: &str) -> Option<(&str, &str)>
-    ensures { MatchOption result (HasNo slash name.now)
-        (λ parts. (name.now ≡ joined slash parts.0.now parts.1.now) × HasNo slash parts.1.now) }
+    ensures { IsCutAtLast slash name.now result }
 {
     name.rsplit_once('/')
 }

@@ -7,7 +7,6 @@ use super::day_job::DayJob;
 use super::placing::{PlacedPeriod, is_due, periods_of};
 use super::taking::take_day;
 use crate::texts::{TextJob, take_text, tell_text, write_text_path};
-use ipfix_session::{FromReader, Source};
 use period_tables::{Round, TablePlace, Work, tell_outcome, write_paths};
 use recording_names::Period;
 use report_writing::{Status, WriteLines};
@@ -39,9 +38,7 @@ pub fn take_day_of<F, M, T: TablePlace + Drop, P: WriteLines, L: WriteLines>(
     placed: &[PlacedPeriod],
     day: Period,
 ) -> Status
-    ensures { TakesDay T.seen
-        ⟦<FromReader<&'static [u8]> as Source>⟧.seen
-        P.lines L.lines
+    ensures { TakesDay
         round.entry placed.now day.begins result work.old work.new made.old made.new }
 {
     let hour_ago = day_of(&made.calendar, round.now.saturating_sub(PAUSE));
@@ -62,10 +59,7 @@ fn take_and_tell<F, M, T: TablePlace + Drop, P: WriteLines, L: WriteLines>(
     periods: &[Period],
     day: Period,
 ) -> Status
-    ensures { TakesOneDay T.seen
-        ⟦<FromReader<&'static [u8]> as Source>⟧.seen
-        P.lines L.lines
-        periods.now day.begins result work.old work.new made.old made.new }
+    ensures { TakesOneDay periods.now day.begins result work.old work.new made.old made.new }
 {
     let Ok(path) = made.place.table_path(day) else {
         return Status::Failed;
@@ -93,9 +87,7 @@ pub fn take_day_text<F, M, T: TablePlace, P: WriteLines, L: WriteLines>(
     round: Round,
     day: Period,
 ) -> Status
-    ensures { TakesDayText T.seen
-        ⟦<FromReader<&'static [u8]> as Source>⟧.seen
-        P.lines L.lines
+    ensures { TakesDayText
         day.begins result work.old work.new made.now texts.old texts.new }
 {
     let Ok(table) = made.place.table_path(day) else {

@@ -11,7 +11,6 @@ use command_merge::MergeJob;
 use command_merge_receipts::{MergedEnd, MergedTo, PartsJob, run_merge_parts};
 use flow_export::Intervals;
 use input_files::ReadText;
-use ipfix_session::{FromReader, Source};
 use period_collect::KeptReceipt;
 use receipt_merging::Allowed;
 use report_writing::{Status, WriteLines};
@@ -41,11 +40,9 @@ pub(crate) fn merge_of<X: ReadText, E: WriteLines>(
     parts: &[PartFiles],
     err: &mut E,
 ) -> Result<MergedTable, Status>
-    ensures merged { IfOk result (λ made. IsMergeOf ⟦<FromReader<&'static [u8]> as Source>⟧.seen
-        (X.has texts.now) (X.refuses texts.now) job.now parts.entry (AreToldTo E.lines err.old err.new)
+    ensures merged { IfOk result (λ made. IsMergeOf (X.has texts.now) (X.refuses texts.now) job.now parts.entry (AreToldTo E.lines err.old err.new)
         (merged_value made)) }
-    ensures err { IfErr result (IsNotMerged ⟦<FromReader<&'static [u8]> as Source>⟧.seen
-        (X.has texts.now) (X.refuses texts.now) job.now parts.entry (AreToldTo E.lines err.old err.new)) }
+    ensures err { IfErr result (IsNotMerged (X.has texts.now) (X.refuses texts.now) job.now parts.entry (AreToldTo E.lines err.old err.new)) }
 {
     merged_table(run_merge(texts, alloc, job, parts, err))
 }
@@ -58,8 +55,7 @@ fn run_merge<X: ReadText, E: WriteLines>(
     parts: &[PartFiles],
     err: &mut E,
 ) -> MergedEnd<Vec<u8>, KeptReceipt>
-    ensures { IsRun ⟦<FromReader<&'static [u8]> as Source>⟧.seen
-        (X.has texts.now) (X.refuses texts.now) job.now parts.entry (AreToldTo E.lines err.old err.new) result }
+    ensures { IsRun (X.has texts.now) (X.refuses texts.now) job.now parts.entry (AreToldTo E.lines err.old err.new) result }
 {
     let to = MergedTo {
         out: Vec::new(alloc),

@@ -18,8 +18,7 @@ use table_receipts::{InputReceipt, Receipt, write_receipt};
 
 /// How the receipt of this text stands to those that say this together.
 pub(crate) fn settle(alloc: Global, own: &[u8], merged: MergedParts) -> Result<Standing, Reason>
-    ensures ok { (parts : List PartValue) → AreMerged parts merged
-        → IfOk result (IsSettled own.now parts) }
+    ensures ok { (all : List PartValue) → AreMerged all merged → IfOk result (IsSettled own.now all) }
     ensures reason { IfErr result (IsNoReceiptFor own.now) }
 {
     let receipt = receipt_in(alloc, own)?;

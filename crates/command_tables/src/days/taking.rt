@@ -9,7 +9,6 @@ use super::day_job::DayJob;
 use super::merging::merge_of;
 use super::names::{files_of, names_of};
 use super::standing::{Standing, stands_for};
-use ipfix_session::{FromReader, Source};
 use period_tables::{Outcome, TablePlace};
 use recording_names::Period;
 use report_writing::{Reason, Status, WriteLines};
@@ -29,8 +28,7 @@ pub fn take_day<T: TablePlace + Drop, E: WriteLines>(
     periods: &[Period],
     err: &mut E,
 ) -> Outcome
-    ensures { IsDayOutcome T.seen
-        ⟦<FromReader<&'static [u8]> as Source>⟧.seen E.lines
+    ensures { IsDayOutcome T.seen E.lines
         job.now periods.now day.begins result tables.now days.old days.new err.old err.new }
 {
     let Ok(names) = names_of(alloc, periods) else {
@@ -53,8 +51,7 @@ fn take_parts<T: TablePlace + Drop, E: WriteLines>(
     parts: &[PartFiles],
     err: &mut E,
 ) -> Outcome
-    ensures { IsPartsOutcome T.seen
-        ⟦<FromReader<&'static [u8]> as Source>⟧.seen E.lines
+    ensures { IsPartsOutcome T.seen E.lines
         job.now parts.entry day.begins result texts.now.tables.now days.old days.new err.old err.new }
 {
     match standing_of(alloc, job, texts, days, day, parts) {
@@ -74,8 +71,8 @@ fn standing_of<T: TablePlace + Drop>(
     day: Period,
     parts: &[PartFiles],
 ) -> Result<Standing, Reason>
-    ensures ok { IfOk result (StandsAs T.seen job.now parts.entry
-        day.begins texts.now.tables.now days.now) }
+    ensures ok { IfOk result
+        (StandsAs T.seen job.now parts.entry day texts.now.tables.now days.now) }
     ensures reason { IfErr result
         (IsNotSettled T.seen day.begins days.now) }
 {
@@ -96,7 +93,6 @@ fn make_due<T: TablePlace + Drop, E: WriteLines>(
     err: &mut E,
 ) -> Outcome
     ensures { IsDueOutcome T.seen
-        ⟦<FromReader<&'static [u8]> as Source>⟧.seen
         job.now parts.entry day.begins (AreToldTo E.lines err.old err.new)
         result texts.now.tables.now days.old days.new }
 {

@@ -3,11 +3,9 @@
 ghost use Rattle.std.specs.Prelude.{◌≡◌, ◌↔◌, IfErr, IfOk, IsErrOf, IsTrue, length};
 ghost use Rattle.flow_table.specs.AddedUp.{rows_in};
 ghost use Rattle.flow_table.specs.Fitting.{FitsPlan};
-ghost use Rattle.ipfix_session.specs.Sources.{SourceView};
-ghost use Rattle.output_tables.specs.TableTexts.{IsTooMany, export_text};
-ghost use Rattle.table_receipts.specs.Texts.{receipt_text};
+ghost use Rattle.output_tables.specs.TableTexts.{IsTooMany};
 ghost use Rattle.table_receipts.specs.Values.{receipt_value, table_value};
-ghost use Rattle.command_tables.specs.Texts.{IsNotMade, IsSaid, IsTextOf, receipt_with};
+ghost use Rattle.command_tables.specs.Texts.{IsNotMade, IsSaid, IsTextOf, receipt_with, table_text};
 
 use super::at_hand::has_plan;
 use super::fault::TextFault;
@@ -17,7 +15,6 @@ use command_collect::{TextDigest, table_of};
 use flow_export::{AnyTable, ExportFault, Intervals};
 use flow_merge::MergeFault;
 use flow_table::FlatTable;
-use ipfix_session::{FromReader, Source};
 use output_tables::export;
 use sha2::{Digest, Sha256};
 use std::alloc::{AllocError, Global};
@@ -37,10 +34,8 @@ pub(crate) fn make_text(
     own: Receipt,
     octets: &[u8],
 ) -> Result<MadeText, TextFault>
-    ensures ok { IfOk result (λ made.
-        IsTextOf job.now (receipt_value own) octets.now made.text.items made.receipt.items) }
-    ensures fault { IfErr result (IsNotMade ⟦<FromReader<&'static [u8]> as Source>⟧.seen
-        job.now (receipt_value own) octets.now) }
+    ensures ok { IfOk result (IsTextOf job.now (receipt_value own) octets.now) }
+    ensures fault { IfErr result (IsNotMade job.now (receipt_value own) octets.now) }
 {
     if !has_plan(&job.at_hand, &own) {
         return Err(TextFault::OtherPlan);
@@ -73,8 +68,7 @@ fn is_said(said: &TableReceipt, octets: &[u8]) -> bool
 // The text of a table.
 fn text_of(alloc: Global, job: &TextJob, table: &FlatTable) -> Result<Vec<u8>, ExportFault>
     requires { FitsPlan job.now.plan.now table.now }
-    ensures ok { IfOk result (λ text. text.items
-        ≡ export_text job.now.elements.now job.now.output job.now.plan.now table.now) }
+    ensures ok { IfOk result (λ text. text.items ≡ table_text job.now table.now) }
     ensures many { IsErrOf result ExportFault.TooManyRows
         ↔ IsTooMany job.now.output.format (length (rows_in table.now)) }
 {
@@ -95,8 +89,7 @@ fn receipt_of(
     table: &FlatTable,
 ) -> Result<Vec<u8>, AllocError>
     requires { FitsPlan job.now.plan.now table.now }
-    ensures { IfOk result (λ receipt. receipt.items
-        ≡ receipt_text (receipt_with job.now text.now table.now (receipt_value own))) }
+    ensures { IfOk result (λ r. r.items ≡ receipt_with job.now text.now table.now (receipt_value own)) }
 {
     let digest = TextDigest {
         octets: text.len() as u64,

@@ -1,12 +1,11 @@
 //! The table that an export is.
 
-ghost use Rattle.std.specs.Prelude.{◌≡◌, ℕ, List, Some, IfErr, IfOk};
-ghost use Rattle.flow_export.specs.declared.intervals.Intervals.TheVariants.{OfPlan};
-ghost use Rattle.flow_merge.specs.Merging.{CannotAdd, StandsFor, merging_intervals, merging_plan};
+ghost use Rattle.std.specs.Prelude.{◌≡◌, IfErr, IfOk};
+ghost use Rattle.std.specs.Option.{ForSome};
+ghost use Rattle.flow_merge.specs.Merging.{merging_plan};
 ghost use Rattle.flow_table.specs.Fitting.{FitsPlan};
-ghost use Rattle.flow_table.specs.SameTables.{RowValue};
-ghost use Rattle.ipfix_session.specs.declared.driver.TheConstants.{READ_LIMIT};
-ghost use Rattle.command_tables.specs.Texts.{AddsRows, CannotMerge, IsTableOf};
+ghost use Rattle.command_merge_receipts.specs.Tables.{Adds, CannotAddFrom};
+ghost use Rattle.command_tables.specs.Texts.{CannotMerge, IsTableOf};
 
 use flow_export::Intervals;
 use flow_merge::{MergeFault, Merging};
@@ -18,8 +17,7 @@ use std::alloc::Global;
 pub fn table_in(alloc: Global, plan: &Plan, octets: &[u8]) -> Result<FlatTable, MergeFault>
     ensures ok { IfOk result (IsTableOf plan.now octets.now) }
     ensures fits { IfOk result (FitsPlan plan.now) }
-    ensures fault { IfErr result (CannotMerge ⟦<FromReader<&'static [u8]> as Source>⟧.seen
-        plan.now octets.now) }
+    ensures fault { IfErr result (CannotMerge plan.now octets.now) }
 {
     let merging = Merging::new(alloc, plan, Intervals::OfPlan)?;
     let mut source = FromReader::new(octets);
@@ -33,10 +31,8 @@ fn add_source<'b, S: Source>(
     source: &mut S,
 ) -> Result<Merging<'b>, MergeFault>
     ensures plan { IfOk result (λ m. merging_plan m ≡ merging_plan merging.entry) }
-    ensures adds { (text : List ℕ) → (S.seen source.old).text ≡ Some text → (rows : List RowValue)
-        → StandsFor merging.entry rows → IfOk result (AddsRows merging.entry text rows) }
-    ensures fault { (rows : List RowValue) → StandsFor merging.entry rows
-        → IfErr result (CannotAdd S.seen READ_LIMIT merging.entry rows source.old source.new) }
+    ensures adds { ForSome (S.seen source.old).text (λ text. IfOk result (Adds merging.entry text)) }
+    ensures fault { IfErr result (CannotAddFrom S.seen merging.entry source.old source.new) }
 {
     merging.read(source, READ_LIMIT)
 }

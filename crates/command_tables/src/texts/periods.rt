@@ -6,7 +6,6 @@ ghost use Rattle.command_tables.specs.Taking.{TakesOneText, TakesText};
 use super::job::TextJob;
 use super::taking::take_text;
 use super::telling::{tell_text, write_text_path};
-use ipfix_session::{FromReader, Source};
 use period_tables::{Round, Rounds, TablePlace, Work, label_of};
 use recording_names::{Period, period_name};
 use report_writing::{Status, WriteLines};
@@ -26,9 +25,7 @@ pub fn take_text_of<F, M, T: TablePlace, P: WriteLines, L: WriteLines>(
     round: Round,
     period: Period,
 ) -> Status
-    ensures { TakesText T.seen
-        ⟦<FromReader<&'static [u8]> as Source>⟧.seen
-        P.lines L.lines
+    ensures { TakesText
         job.now round.entry period result work.old work.new texts.old texts.new }
 {
     if !work.rounds.has_settled(period) || texts.rounds.has_settled(period) {
@@ -47,10 +44,8 @@ fn take_and_tell<F, M, T: TablePlace, P: WriteLines, L: WriteLines>(
     round: Round,
     period: Period,
 ) -> Status
-    ensures { TakesOneText T.seen
-        ⟦<FromReader<&'static [u8]> as Source>⟧.seen
-        P.lines L.lines
-        job.now round.entry period.begins result work.old work.new texts.old texts.new }
+    ensures { TakesOneText
+        job.now round.entry period result work.old work.new texts.old texts.new }
 {
     let Ok(name) = period_name(round.alloc, period) else {
         return Status::Failed;

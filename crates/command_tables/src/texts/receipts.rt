@@ -1,6 +1,7 @@
 //! What the receipts of a table and of its text say.
 
-ghost use Rattle.std.specs.Prelude.{◌≡◌, IfErr, IfOk, MatchBool};
+ghost use Rattle.std.specs.Prelude.{◌≡◌, IfErr, IfOk};
+ghost use Rattle.std.specs.Bool.{OnFalse, OnTrue};
 ghost use Rattle.table_receipts.specs.Texts.{receipt_text};
 ghost use Rattle.table_receipts.specs.Values.{FitsReceipt, ReceiptValue, receipt_value};
 ghost use Rattle.command_tables.specs.Receipts.{IsNoReceiptFor, IsNotCompared, SaysOther, SaysTheSame};
@@ -28,8 +29,8 @@ pub fn receipt_in(alloc: Global, octets: &[u8]) -> Result<Receipt, Reason>
 
 /// Whether the receipt of a text says what that of a table does, but for its table and who made it.
 pub(crate) fn says_the_same(alloc: Global, table: &[u8], text: &[u8]) -> Result<bool, Reason>
-    ensures ok { IfOk result (λ same. MatchBool same (SaysTheSame table.now text.now)
-        (SaysOther table.now text.now)) }
+    ensures same { IfOk result (λ same. OnTrue same (SaysTheSame table.now text.now)) }
+    ensures other { IfOk result (λ same. OnFalse same (SaysOther table.now text.now)) }
     ensures reason { IfErr result (IsNotCompared table.now text.now) }
 {
     let own = receipt_in(alloc, table)?;

@@ -1,6 +1,7 @@
 //! The text of the table of a period.
 
-ghost use Rattle.std.specs.Prelude.{◌≡◌, IfErr, IfOk, MatchBool, Some, None, MatchOption};
+ghost use Rattle.std.specs.Prelude.{◌≡◌, IfErr, IfOk, Some, None, MatchOption};
+ghost use Rattle.std.specs.Bool.{OnFalse, OnTrue};
 ghost use Rattle.table_receipts.specs.Texts.{receipt_text};
 ghost use Rattle.table_receipts.specs.Values.{receipt_value};
 ghost use Rattle.command_tables.specs.Outcomes.{IsDueOutcome, IsMadeOf, IsNotMadeOf, IsNotSettled, IsTextOutcome, StandsFor, StandsNot};
@@ -9,7 +10,6 @@ use super::fault::TextFault;
 use super::job::TextJob;
 use super::making::{MadeText, make_text};
 use super::receipts::{receipt_in, says_the_same};
-use ipfix_session::{FromReader, Source};
 use period_tables::TablePlace;
 use recording_names::Period;
 use report_writing::Reason;
@@ -41,7 +41,6 @@ pub fn take_text<T: TablePlace>(
     period: Period,
 ) -> TextOutcome
     ensures { IsTextOutcome T.seen
-        ⟦<FromReader<&'static [u8]> as Source>⟧.seen
         job.now period.begins result tables.now texts.old texts.new }
 {
     let own = match tables.standing_receipt(period) {
@@ -63,9 +62,8 @@ fn is_up_to_date<T: TablePlace>(
     texts: &T,
     period: Period,
 ) -> Result<bool, Reason>
-    ensures ok { IfOk result (λ is. MatchBool is
-        (StandsFor T.seen own.now period.begins texts.now)
-        (StandsNot T.seen own.now period.begins texts.now)) }
+    ensures is { IfOk result (λ is. OnTrue is (StandsFor T.seen own.now period.begins texts.now)) }
+    ensures other { IfOk result (λ is. OnFalse is (StandsNot T.seen own.now period.begins texts.now)) }
     ensures reason { IfErr result
         (IsNotSettled T.seen own.now period.begins texts.now) }
 {
@@ -85,7 +83,6 @@ fn make_due<T: TablePlace>(
     period: Period,
 ) -> TextOutcome
     ensures { IsDueOutcome T.seen
-        ⟦<FromReader<&'static [u8]> as Source>⟧.seen
         job.now own.now period.begins result tables.now texts.old texts.new }
 {
     let made = match make_of(alloc, job, own, tables, period) {
@@ -106,10 +103,8 @@ fn make_of<T: TablePlace>(
     tables: &T,
     period: Period,
 ) -> Result<MadeText, TextFault>
-    ensures ok { IfOk result (λ made. IsMadeOf T.seen
-        job.now own.now period.begins tables.now made.text.items made.receipt.items) }
-    ensures fault { IfErr result (IsNotMadeOf T.seen
-        ⟦<FromReader<&'static [u8]> as Source>⟧.seen job.now own.now period.begins tables.now) }
+    ensures ok { IfOk result (IsMadeOf T.seen job.now own.now period.begins tables.now) }
+    ensures fault { IfErr result (IsNotMadeOf T.seen job.now own.now period.begins tables.now) }
 {
     let receipt = match receipt_in(alloc, own) {
         Ok(receipt) => receipt,

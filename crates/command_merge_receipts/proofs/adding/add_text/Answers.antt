@@ -10,7 +10,7 @@ returns-in-Ok-clause-added c = record {
 }
 
 pub returns-in-Err-clause-against : goal.returns-in-Err-clause-against
-returns-in-Err-clause-against c = λ rows stands. (
+returns-in-Err-clause-against c = (
   search rules,
-  record { before = c.new-source.result; after = c.add_source.new.source; holds = c.new-source.ensures.unread; due = c.in-Err.ensures.fault rows stands },
+  λ rows stands. record { before = c.new-source.result; after = c.add_source.new.source; holds = c.new-source.ensures.unread; due = c.in-Err.ensures.fault rows stands },
 )

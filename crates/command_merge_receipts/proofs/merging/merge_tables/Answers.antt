@@ -23,7 +23,7 @@ loop-index-preserved g c =
 pub returns-in-Ok-finish-clause-merged : goal.returns-in-Ok-finish-clause-merged
 returns-in-Ok-finish-clause-merged g c =
     let so_far = c.loop-index.invariant.stands in
-    all_merged _ c.args.job.now.intervals c.args.job.now.plan.now c.args.tables.now c.loop-index.index c.loop-index.merging c.in-Ok-finish.table c.loop-index-test.false so_far (c.in-Ok-finish.ensures.rows (rows_of so_far.exports) so_far.stands)
+    all_merged _ c.args.job.now c.args.tables.now c.loop-index.index c.loop-index.merging c.in-Ok-finish.table c.loop-index-test.false so_far (c.in-Ok-finish.ensures.rows (rows_of so_far.exports) so_far.stands)
 
 pub returns-in-Ok-finish-clause-told : goal.returns-in-Ok-finish-clause-told
 returns-in-Ok-finish-clause-told g c = all_told c.args.tables.now c.loop-index.index c.args.job.now.verbosity _ _ _ c.loop-index-test.false c.loop-index.invariant.told
@@ -38,5 +38,5 @@ pub returns-in_err-merging-clause-stops : goal.returns-in_err-merging-clause-sto
 returns-in_err-merging-clause-stops g c =
     let so_far = c.loop-index.invariant in
     passed_on c.from_residual.result c.in_err-merging.field-0.0 _ c.from_residual.ensures.1
-    (stops_tables (g.T.ReadText.has c.args.texts.now) c.args.job.now.intervals c.args.job.now.plan.now c.args.tables.now c.loop-index.index _ _ c.loop-index-test.true refl _ (g.T.ReadText.refuses c.args.texts.now) c.loop-index.merging c.args.job.now.verbosity _ _ _ _ _ _
+    (stops_tables (g.T.ReadText.has c.args.texts.now) c.args.job.now.intervals c.args.job.now.plan.now c.args.tables.now c.loop-index.index _ _ c.loop-index-test.true refl (g.T.ReadText.refuses c.args.texts.now) c.loop-index.merging c.args.job.now.verbosity _ _ _ _ _ _
     so_far.told c.in_err-merging.ensures.stops c.add_table.ensures.kept so_far.stands)

@@ -5,4 +5,4 @@ use Rattle.command_tables.proofs.plans.open_plans.Given as goal
 
 -- the first are worked on
 abbrev pub invariant-loop-plan : goal.invariant-loop-plan
-invariant-loop-plan l = AllZip (λ read plan. IsWorkOf read l.arguments l.zone plan) (take l.plan-index l.read) l.plans.items
+invariant-loop-plan l = AllZip (IsWorkOf l.arguments l.zone) (take l.plan-index l.read) l.plans.items

@@ -24,8 +24,8 @@ loop-place-preserved g c =
     let same = c.in_ok-rows.ensures.job ∙ inv.4 in
     let has_rows = subst (λ j. HasRows j.collect.plan.now has.alone rows) inv.4 has.has in (
       inv.0 ++ has.alone ∷ [],
-      subst (λ (ps : List (List ℕ)). AreAlone g.S.Source.seen g.O.OpenSource.opens g.O.OpenSource.sizes g.O.OpenSource.coming g.E.WriteLines.lines c.args.maker.now c.own_rows.new.maker ps (inv.0 ++ has.alone ∷ [])) more
-          (alone_more g.S.Source.seen g.O.OpenSource.opens g.O.OpenSource.sizes g.O.OpenSource.coming g.E.WriteLines.lines c.args.maker.now c.loop-place.maker c.own_rows.new.maker _ inv.0 _ has.alone inv.1 has.is_alone),
+      subst (λ (ps : List (List ℕ)). AreAlone c.args.maker.now c.own_rows.new.maker ps (inv.0 ++ has.alone ∷ [])) more
+          (alone_more c.args.maker.now c.loop-place.maker c.own_rows.new.maker _ inv.0 _ has.alone inv.1 has.is_alone),
       omega (arith, inv.2, length-append inv.0 (has.alone ∷ [])),
       elim c.if-rows-maker.branch [
         | then-rows-maker+in-Ok w ↦ subst (λ v. AreLarge plan limit (inv.0 ++ has.alone ∷ []) v.items) (sym w.large-is)

@@ -9,7 +9,7 @@ use Rattle.period_collect.proofs.large_files.large_files.Given as goal
 abbrev pub invariant-loop-place : goal.invariant-loop-place
 invariant-loop-place g l =
     (alone : List Alone)
-    × AreAlone g.S.Source.seen g.O.OpenSource.opens g.O.OpenSource.sizes g.O.OpenSource.coming g.E.WriteLines.lines l.initial.maker l.maker (map (λ (w : Bor (List ℕ)). w.now) (take l.place l.paths)) alone
+    × AreAlone l.initial.maker l.maker (map (λ (w : Bor (List ℕ)). w.now) (take l.place l.paths)) alone
     × (l.place ≡ length alone)
     × AreLarge l.initial.maker.job.collect.plan.now l.initial.maker.job.rows_of_a_session alone l.large.items
     × (l.maker.job ≡ l.initial.maker.job)

@@ -23,7 +23,7 @@ returns-clause-lot g c =
       collected = c.large_files.new.maker;
       large = large;
       are_paths = c.in-Ok.ensures;
-      finds = subst (λ (ps : List (List ℕ)). FindsLarge g.S.Source.seen g.O.OpenSource.opens g.O.OpenSource.sizes g.O.OpenSource.coming g.E.WriteLines.lines c.args.maker.now c.large_files.new.maker ps large) kept c.in_ok-large.ensures.large;
+      finds = subst (λ (ps : List (List ℕ)). FindsLarge c.args.maker.now c.large_files.new.maker ps large) kept c.in_ok-large.ensures.large;
       are = c.in-Ok-add_places.ensures
           ∙ ap (λ (a : List ℕ). a ++ map (λ i. slice_index_or c.deref-4.result.now i 0) c.deref-5.result.now) c.new.ensures.items
           ∙ ap (λ (ps : List ℕ). map (λ i. slice_index_or ps i 0) c.deref-5.result.now) (c.deref-4.ensures.value ∙ c.in-Ok-kept_places.ensures ∙ ap (places_kept out) count)

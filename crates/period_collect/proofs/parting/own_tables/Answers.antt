@@ -18,8 +18,8 @@ loop-place-preserved g c =
     let more = sym (ap texts (take_more c.args.paths.now at _ c.loop-place-test.true) ∙ map-append (λ (w : Bor (List ℕ)). w.now) (take at c.args.paths.now) _) in
     let is_table = subst (λ j. IsOwnTable j.collect.plan.now has.alone c.in_ok-table.table) inv.4 has.is_table in (
       inv.0 ++ has.alone ∷ [],
-      subst (λ (ps : List (List ℕ)). AreAlone g.S.Source.seen g.O.OpenSource.opens g.O.OpenSource.sizes g.O.OpenSource.coming g.E.WriteLines.lines c.args.maker.now c.own_table.new.maker ps (inv.0 ++ has.alone ∷ [])) more
-          (alone_more g.S.Source.seen g.O.OpenSource.opens g.O.OpenSource.sizes g.O.OpenSource.coming g.E.WriteLines.lines c.args.maker.now c.loop-place.maker c.own_table.new.maker _ inv.0 _ has.alone inv.1 has.is_alone),
+      subst (λ (ps : List (List ℕ)). AreAlone c.args.maker.now c.own_table.new.maker ps (inv.0 ++ has.alone ∷ [])) more
+          (alone_more c.args.maker.now c.loop-place.maker c.own_table.new.maker _ inv.0 _ has.alone inv.1 has.is_alone),
       omega (arith, inv.2, length-append inv.0 (has.alone ∷ [])),
       own_more plan inv.0 has.alone c.in_ok-table.table at c.loop-place.own c.keep.new.own inv.2 inv.3 is_table c.in-Ok.ensures,
       c.in_ok-table.ensures.job ∙ inv.4,

@@ -8,7 +8,7 @@ use Rattle.period_collect.proofs.parting.own_tables.Given as goal
 abbrev pub invariant-loop-place : goal.invariant-loop-place
 invariant-loop-place g l =
     (alone : List Alone)
-    × AreAlone g.S.Source.seen g.O.OpenSource.opens g.O.OpenSource.sizes g.O.OpenSource.coming g.E.WriteLines.lines l.initial.maker l.maker (map (λ (w : Bor (List ℕ)). w.now) (take l.place l.paths)) alone
+    × AreAlone l.initial.maker l.maker (map (λ (w : Bor (List ℕ)). w.now) (take l.place l.paths)) alone
     × (l.place ≡ length alone)
     × AreOwn l.initial.maker.job.collect.plan.now alone l.own
     × (l.maker.job ≡ l.initial.maker.job)

@@ -15,7 +15,7 @@ returns-clause-out g c =
       paths = c.in-Ok.paths.items;
       collected = c.files_left_out.new.maker;
       are_paths = c.in-Ok.ensures;
-      leaves_out = subst (λ (ps : List (List ℕ)). LeavesOut g.S.Source.seen g.O.OpenSource.opens g.O.OpenSource.sizes g.O.OpenSource.coming g.E.WriteLines.lines c.args.maker.now c.files_left_out.new.maker ps out) (ap texts c.deref-2.ensures.value ∙ words) c.in_ok-out.ensures.out;
+      leaves_out = subst (λ (ps : List (List ℕ)). LeavesOut c.args.maker.now c.files_left_out.new.maker ps out) (ap texts c.deref-2.ensures.value ∙ words) c.in_ok-out.ensures.out;
       told = subst (λ (ps : List (List ℕ)). told (left_out_lines (paths_at out ps))) (ap texts c.deref-3.ensures.value ∙ words)
           (subst (λ (o : List ℕ). told (left_out_lines (paths_at o (texts c.deref-3.result.now)))) c.deref-4.ensures.value c.tell_left_out.ensures.told);
       same_opening = refl;

@@ -5,7 +5,7 @@ use Rattle.period_collect.proofs.table_maker.make_table.Given as goal
 -- so far
 abbrev pub invariant-loop-out : goal.invariant-loop-out
 invariant-loop-out g l =
-    LeftOut g.S.Source.seen g.S.Source.failure g.O.OpenSource.opens g.O.OpenSource.sizes g.O.OpenSource.refuses g.O.OpenSource.coming g.E.WriteLines.lines l.period.begins l.files l.initial.maker l.maker l.out.items
+    LeftOut l.period.begins l.files l.initial.maker l.maker l.out.items
     × (l.maker.job ≡ l.initial.maker.job)
 
 abbrev pub decreases-loop-out : goal.decreases-loop-out

@@ -6,12 +6,10 @@ pub returns-clause-outcome : goal.returns-clause-outcome
 returns-clause-outcome g c =
     let Left = IsPutOrKept g.T.TablePlace.seen c.args.period.begins c.args.desk.now.tables c.put.new.self in
     record {
-      text = c.in-Ok.made.text.items;
-      receipt = c.in-Ok.made.receipt.items;
-      fault = c.in-Ok.made.had_fault;
+      table = c.in-Ok.made;
       made = c.in-Ok.ensures.table;
       left = subst (Left c.in-Ok.made.text.items) c.deref-2.ensures.value (subst (λ t. Left t c.deref-2.result.now) c.deref.ensures.value c.in-Err-put.ensures.err);
       others = c.in-Err-put.ensures.others;
-      as_before = c.in-Ok.ensures.job;
+      same_job = c.in-Ok.ensures.job;
       why = c.in-Err-put.ensures.reason;
     }

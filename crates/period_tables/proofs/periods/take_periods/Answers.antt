@@ -1,5 +1,4 @@
 use Rattle.std.proofs.Common.{inl, inr, refl, subst}
-use Rattle.period_tables.specs.Outcomes.{views}
 use Rattle.period_tables.specs.Taking.{TakesEach}
 use Rattle.period_tables.proofs.periods.take_periods.Goals as goal
 
@@ -11,7 +10,7 @@ returns-in-Ok g c =
       begun = begun;
       lists = c.in-Ok.ensures.ok;
       rest = refl;
-      takes = subst (λ names. TakesEach (views g.F.Recordings.listed g.F.Recordings.refuses g.S.Source.seen g.S.Source.failure g.O.OpenSource.opens g.O.OpenSource.sizes g.O.OpenSource.refuses g.O.OpenSource.coming g.E.WriteLines.lines g.T.TablePlace.seen) g.P.WriteLines.lines g.L.WriteLines.lines
+      takes = subst (λ names. TakesEach g.F.Recordings
           c.args.round names c.args.periods.now c.take_each.result begun c.take_each.new.work) c.deref.ensures.value c.take_each.ensures;
     })
 

@@ -1,5 +1,6 @@
 use Rattle.std.proofs.Common.{◌≡◌, [], ◌∷◌, ◌++◌, codes, length, ap, refl, string_bytes, subst, rules}
-use Rattle.tables_folder.specs.FoundPeriods.{AreDaysOf, HasNoPeriod, IsDayName}
+use Rattle.recording_periods.specs.PeriodFolders.{HasNoPeriod}
+use Rattle.tables_folder.specs.FoundPeriods.{AreDaysOf, IsDayName}
 use Rattle.tables_folder.proofs.Found.{found_all, found_none, found_one}
 use Rattle.tables_folder.proofs.found_periods.days_among.Goals as goal
 

@@ -1,6 +1,7 @@
 use Rattle.std.proofs.Common.{◌≡◌, codes, string_bytes}
 use Rattle.std.specs.VecDeque.{deque_len}
-use Rattle.tables_folder.specs.FoundPeriods.{HasNoPeriod, IsDayName}
+use Rattle.recording_periods.specs.PeriodFolders.{HasNoPeriod}
+use Rattle.tables_folder.specs.FoundPeriods.{IsDayName}
 use Rattle.tables_folder.proofs.Found.{SoFar}
 use Rattle.tables_folder.proofs.found_periods.days_among.Given as goal
 

@@ -1,6 +1,5 @@
 use Rattle.std.proofs.Common.{◌≡◌, [], ◌∷◌, ◌++◌, length, string_bytes, subst, arith, rules}
-use Rattle.recording_periods.specs.PeriodFolders.{IsPeriodAt}
-use Rattle.tables_folder.specs.FoundPeriods.{HasNoPeriod}
+use Rattle.recording_periods.specs.PeriodFolders.{HasNoPeriod, IsPeriodAt}
 use Rattle.tables_folder.proofs.Found.{found_all, found_one}
 use Rattle.tables_folder.proofs.found_periods.periods_among.Goals as goal
 
@@ -11,7 +10,7 @@ loop-name-preserved-in_ok-push c =
     found_one (λ name. HasNoPeriod c.args.day.now (string_bytes name)) (λ name period. IsPeriodAt period.begins c.args.day.now (string_bytes name))
     c.args.names.now c.loop-name.left.now c.in-Some.rest.now c.loop-name.periods.items c.in-Some.name.now split c.loop-name.invariant
     c.push.new.self.items c.in-Some-read_period_at.period
-    (subst (IsPeriodAt c.in-Some-read_period_at.period.begins c.args.day.now) c.as_str.ensures.value c.in-Some-read_period_at.ensures) longer
+    (subst (IsPeriodAt c.in-Some-read_period_at.period.begins c.args.day.now) c.as_str.ensures.value c.in-Some-read_period_at.ensures.read) longer
 
 pub returns : goal.returns
 returns c =

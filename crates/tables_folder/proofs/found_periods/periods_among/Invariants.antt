@@ -1,6 +1,5 @@
 use Rattle.std.proofs.Common.{length, string_bytes}
-use Rattle.recording_periods.specs.PeriodFolders.{IsPeriodAt}
-use Rattle.tables_folder.specs.FoundPeriods.{HasNoPeriod}
+use Rattle.recording_periods.specs.PeriodFolders.{HasNoPeriod, IsPeriodAt}
 use Rattle.tables_folder.proofs.Found.{SoFar}
 use Rattle.tables_folder.proofs.found_periods.periods_among.Given as goal
 

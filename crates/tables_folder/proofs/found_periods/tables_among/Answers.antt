@@ -10,14 +10,14 @@ loop-name-preserved-in_ok-push c =
     found_one (λ name. HasNoTable c.args.day.now (string_bytes name)) (λ name period. IsTableAt period.begins c.args.day.now (string_bytes name))
     c.args.names.now c.loop-name.left.now c.in-Some.rest.now c.loop-name.periods.items c.in-Some.name.now split c.loop-name.invariant
     c.push.new.self.items c.in-Some-table_period.period
-    (subst (IsTableAt c.in-Some-table_period.period.begins c.args.day.now) c.as_str.ensures.value c.in-Some-table_period.ensures) longer
+    (subst (IsTableAt c.in-Some-table_period.period.begins c.args.day.now) c.as_str.ensures.value c.in-Some-table_period.ensures.table) longer
 
 pub loop-name-preserved : goal.loop-name-preserved
 loop-name-preserved c =
     let split : c.loop-name.left.now ≡ c.in-Some.name.now ∷ c.in-Some.rest.now = search rules in
     found_none (λ name. HasNoTable c.args.day.now (string_bytes name)) (λ name period. IsTableAt period.begins c.args.day.now (string_bytes name))
     c.args.names.now c.loop-name.left.now c.in-Some.rest.now c.loop-name.periods.items c.in-Some.name.now split c.loop-name.invariant
-    (subst (HasNoTable c.args.day.now) c.as_str.ensures.value c.in_default-table_period.ensures)
+    (subst (HasNoTable c.args.day.now) c.as_str.ensures.value c.in_default-table_period.ensures.none)
 
 pub returns : goal.returns
 returns c =

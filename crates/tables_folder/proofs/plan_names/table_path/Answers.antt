@@ -5,9 +5,8 @@ use Rattle.tables_folder.proofs.plan_names.table_path.Goals as goal
 pub returns : goal.returns
 returns c = record {
   period = string_bytes c.in_ok-name.name;
-  inner = c.short_of.result.folder.now;
-  name = c.short_of.result.name.now;
+  table = c.short_of.result;
   is_period = c.in_ok-name.ensures;
   is_name = subst (λ period. IsTableName c.args.of period c.short_of.result.folder.now c.short_of.result.name.now) c.as_str.ensures.value c.short_of.ensures;
-  path_is = c.in_ok-path.ensures;
+  is_path = c.in_ok-path.ensures;
 }

@@ -11,7 +11,7 @@ returns-in-Some-clause-ok g c =
     let sees = g.T.TablePlace.seen in
     let has = HasText sees c.args.texts.now.tables.now in
     let refuses = RefusesText sees c.args.texts.now.tables.now in
-    settled sees c.args.job.now c.args.parts c.args.day.begins c.args.texts.now.tables.now c.args.days.now c.in-Some.own.items
+    settled sees c.args.job.now c.args.parts c.args.day c.args.texts.now.tables.now c.args.days.now c.in-Some.own.items
     (subst (λ text. g.T.TablePlace.seen.receipt_at c.args.days.now c.args.day.begins (option_map (λ v. v.items) text)) c.in-Some.is c.in_ok-own.ensures.ok)
     c.stands_for.result
     (subst (λ (own : List ℕ). IfOk c.stands_for.result (IsStanding has refuses c.args.job.now.text.at_hand c.args.parts.now own)) c.deref.ensures.value c.stands_for.ensures.ok)

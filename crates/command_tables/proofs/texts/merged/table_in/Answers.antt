@@ -9,7 +9,7 @@ use Rattle.command_tables.proofs.texts.merged.table_in.Goals as goal
 pub returns-in_err-merging-2-clause-fault : goal.returns-in_err-merging-2-clause-fault
 returns-in_err-merging-2-clause-fault c =
     passed_on c.from_residual-in_err-merging-2.result c.in_err-merging-2.field-0.0 _ c.from_residual-in_err-merging-2.ensures.1
-    (cannot_merge _ c.args.plan.now c.args.octets.now c.in_ok-merging.merging c.new-source.result c.add_source.new.source c.in_err-merging-2.field-0.0 c.in_ok-merging.ensures.plan
+    (cannot_merge c.args.plan.now c.args.octets.now c.in_ok-merging.merging c.new-source.result c.add_source.new.source c.in_err-merging-2.field-0.0 c.in_ok-merging.ensures.plan
     c.in_ok-merging.ensures.intervals c.new-source.ensures.unread (c.in_err-merging-2.ensures.fault [] c.in_ok-merging.ensures.empty))
 
 pub returns-clause-ok : goal.returns-clause-ok
