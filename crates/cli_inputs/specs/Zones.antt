@@ -1,5 +1,6 @@
 -- The borders between local days or months, in a time zone.
-use Rattle.std.specs.Prelude.{◌≡◌, ℕ, List, codes, Option, Some, None, option_map}
+use Rattle.std.specs.Prelude.{◌≡◌, ℕ, List, codes, Option, Some, None, option_map, Vec}
+use Rattle.std.specs.declared.alloc.Global.{Global}
 use Rattle.std.specs.Borrow.{Bor}
 use Rattle.jiff_tz.specs.Database.{lower, IsZoneNamed}
 use Rattle.jiff_tz.specs.declared.db.TimeZoneDatabase.{TimeZoneDatabase}
@@ -32,11 +33,11 @@ pub record IsZoneOf (rules : TimeZoneDatabase) (name : List ℕ) (zone : TimeZon
   pub named : IsZoneNamed rules name zone
 
 -- there are borders exactly if local intervals were asked for, and then those of these
-abbrev pub AreBordersFor : Option LocalInterval → List ℕ → Option (List ℕ) → Type 0
+abbrev pub AreBordersFor : Option LocalInterval → List ℕ → Option (Vec ℕ Global) → Type 0
 AreBordersFor None name None = Unit {0}
 AreBordersFor None name (Some borders) = ⊥
 AreBordersFor (Some interval) name None = ⊥
-AreBordersFor (Some interval) name (Some borders) = AreOfZone interval name borders
+AreBordersFor (Some interval) name (Some borders) = AreOfZone interval name borders.items
 
 abbrev pub merged_interval : LocalInterval → MergedInterval
 merged_interval Day = merged.Day

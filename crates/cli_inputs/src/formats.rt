@@ -40,8 +40,8 @@ pub fn table_format(word: &str) -> Option<Format>
 /// The local intervals that a word names.
 pub fn merge_interval(word: &str) -> Option<LocalInterval>
     ensures names { IfSome result (λ interval. word.now ≡ interval_word interval) }
-    ensures each { (interval : LocalInterval)
-        → word.now ≡ interval_word interval → result ≡ Some interval }
+    ensures each { (into : LocalInterval)
+        → word.now ≡ interval_word into → result ≡ Some into }
     // The parser lets through no word that names none.
     ensures known { All (λ w. word.now ≡ w.now → IsSome result) MERGE_INTERVALS }
 {

@@ -37,8 +37,8 @@ pub fn collect_job<'a>(
     ensures estimates { option_map (λ e. e.now) result.estimates ≡ loaded.now.estimates }
     ensures refuses { result.refuses_sampled ≡ is_refusing loaded.now.read }
     // Of times it tells what is to be told under the plan, which is more if it is verbose.
-    ensures times { result.times ≡ noted_under loaded.now.read.plan.choices.times
-        table.now.verbosity.verbose }
+    ensures times { result.times ≡ noted_under result.plan.now.choices.times
+        result.verbosity.verbose }
     // Of the plan's counters it is noted whether one is above 2^63, if it is verbose.
     ensures great { option_map (λ c. c.now) result.great_counters ≡
         noted_counters table.now.verbosity loaded.now.read.plan }

@@ -1,7 +1,7 @@
 //! The maps of a plan, from the texts of their files.
 
 ghost use Rattle.std.specs.Prelude.{◌≡◌, ◌++◌, IfErr, IfOk, OnOk, map, string_bytes};
-ghost use Rattle.std.specs.Option.{option_map};
+ghost use Rattle.std.specs.Option.{option_copied, option_map};
 ghost use Rattle.std.specs.Path.{rsplit_once, slash};
 ghost use Rattle.report_writing.specs.Lines.{StaysFailed};
 ghost use Rattle.report_writing.specs.Told.{AreToldTo};
@@ -125,8 +125,7 @@ fn push_folder(path: &str, text: &mut String) -> Result<(), AllocError>
 }
 
 fn folder(path: &str) -> Option<&str>
-    ensures { option_map (λ f. f.now) result
-        ≡ option_map (λ split. split.0) (rsplit_once slash path.now) }
+    ensures { option_copied result ≡ option_map (λ split. split.0) (rsplit_once slash path.now) }
 {
     match path.rsplit_once('/') {
         Some((folder, _)) => Some(folder),

@@ -1,6 +1,7 @@
 //! The place of the receipt of a merged table, which is no file of a part.
 
-ghost use Rattle.std.specs.Prelude.{⊤, All, MatchBool};
+ghost use Rattle.std.specs.Prelude.{⊤, All};
+ghost use Rattle.std.specs.Bool.{OnFalse, OnTrue};
 ghost use Rattle.std.specs.List.{Any};
 ghost use Rattle.cli_inputs.specs.ReceiptPlaces.{HasFileOf, HasNoFileOf};
 
@@ -10,7 +11,8 @@ use table_parts::PartFiles;
 
 /// Compares the files of paths.
 pub trait CompareFiles {
-    ghost use Rattle.std.specs.Prelude.{◌≡◌, ℕ, List, IsTrue, MatchBool};
+    ghost use Rattle.std.specs.Prelude.{◌≡◌, ℕ, List, IsTrue};
+    ghost use Rattle.std.specs.Bool.{OnFalse, OnTrue};
 
     /// Whether two paths are of one file.
     ghost same: { Self → List ℕ → List ℕ → Type 0 };
@@ -20,8 +22,8 @@ pub trait CompareFiles {
 
     /// Whether two paths are of one file. Each is of its own.
     fn are_same(&self, path: &str, other: &str) -> bool
-        ensures said { MatchBool result (same self.now path.now other.now)
-            (differ self.now path.now other.now) }
+        ensures one { OnTrue result (same self.now path.now other.now) }
+        ensures two { OnFalse result (differ self.now path.now other.now) }
         ensures own { path.now ≡ other.now → IsTrue result };
 }
 
@@ -48,8 +50,8 @@ fn have_one_file<R: Files>(rt: &R, path: &str, other: &str) -> bool {
 
 /// Whether the file of a path is the table of one of these parts, or the receipt of one.
 pub fn is_of_part<F: CompareFiles>(files: &F, path: &str, parts: &[PartFiles]) -> bool
-    ensures { MatchBool result (Any (HasFileOf (F.same files.now path.now)) parts.now)
-        (All (HasNoFileOf (F.differ files.now path.now)) parts.now) }
+    ensures some { OnTrue result (Any (HasFileOf (F.same files.now path.now)) parts.now) }
+    ensures none { OnFalse result (All (HasNoFileOf (F.differ files.now path.now)) parts.now) }
 {
     for part in parts {
         if is_file_of(files, path, part) {
@@ -60,8 +62,8 @@ pub fn is_of_part<F: CompareFiles>(files: &F, path: &str, parts: &[PartFiles]) -
 }
 
 fn is_file_of<F: CompareFiles>(files: &F, path: &str, part: &PartFiles) -> bool
-    ensures { MatchBool result (HasFileOf (F.same files.now path.now) part.now)
-        (HasNoFileOf (F.differ files.now path.now) part.now) }
+    ensures one { OnTrue result (HasFileOf (F.same files.now path.now) part.now) }
+    ensures none { OnFalse result (HasNoFileOf (F.differ files.now path.now) part.now) }
 {
     files.are_same(path, part.table) || files.are_same(path, part.receipt)
 }

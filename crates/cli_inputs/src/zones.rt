@@ -31,8 +31,7 @@ pub fn zone_borders(
     zone: Option<&str>,
     err: &mut Stderr,
 ) -> Result<Option<Vec<u64>>, Status>
-    ensures are { IfOk result (λ found.
-        AreBordersFor into (name_of zone.entry) (option_map (λ borders. borders.items) found)) }
+    ensures are { IfOk result (AreBordersFor into (name_of zone.entry)) }
     ensures ordered { IfOk result (λ found. ForSome found (λ borders. AreOrdered borders.items)) }
 {
     let Some(interval) = into else {
@@ -54,8 +53,8 @@ pub fn merged_into(
     into: Option<LocalInterval>,
     zone: Option<&str>,
 ) -> Result<Option<MergedInto>, AllocError>
-    ensures told { IfOk result (λ found.
-        option_map into_value found ≡ into_told into (name_of zone.entry)) }
+    ensures told { IfOk result
+        (λ to. option_map into_value to ≡ into_told into (name_of zone.entry)) }
     // The receipt has the word that is given.
     ensures word { IfOk result (λ found.
         option_map (λ i. interval_name i.interval) found ≡ option_map interval_word into) }
@@ -128,8 +127,8 @@ pub fn zone_of_days<'z>(
     name: &str,
     err: &mut Stderr,
 ) -> Result<TimeZone<'z>, Status>
-    ensures zone { IfOk result (λ zone.
-        IsZoneOf (plain_database zones.now) name.now (plain_zone zone)) }
+    ensures zone { IfOk result
+        (λ one. IsZoneOf (plain_database zones.now) name.now (plain_zone one)) }
     ensures err { IfErr result (λ status. status ≡ Status.NotOpened) }
 {
     match zones.get(name) {

@@ -14,7 +14,7 @@ use Rattle.command_collect.specs.declared.receipts.fault.ReceiptFault.TheVariant
 use Rattle.command_explain.specs.declared.run_faults.RunFault.{RunFault}
 use Rattle.command_explain.specs.declared.run_faults.RunFault.TheVariants.{PlanText, Plan, Elements, Collect, Merge, Row, Part, Export, Dump, Receipt}
 use Rattle.command_explain.specs.declared.run_faults.TheConstants.{RUN_FAULTS}
-use Rattle.command_explain.specs.Explained.{IsSameWord}
+use Rattle.command_explain.specs.Explained.{IsNameOf}
 use Rattle.command_explain.specs.RunFaults.{IsListed, listed_of, name_of, run_fault_of}
 
 -- the fault that a word names, of the word in lower case
@@ -36,6 +36,6 @@ by_name (Receipt receipts.OutOfMemory) listed = absurd (listed refl)
 by_name (Part parts.Receipt) listed = refl
 by_name fault listed = refl
 
-pub each : (word : List ℕ) (fault : RunFault) → IsListed fault → IsSameWord word (name_of fault) → run_fault_of word ≡ Some (listed_of fault)
+pub each : (word : List ℕ) (fault : RunFault) → IsNameOf word fault → run_fault_of word ≡ Some (listed_of fault)
 unfolding found run_fault_of
-each word fault listed is = subst (λ (lower : List ℕ). found lower ≡ Some (listed_of fault)) (sym is) (by_name fault listed)
+each word fault is = subst (λ (lower : List ℕ). found lower ≡ Some (listed_of fault)) (sym is.1) (by_name fault is.0)

@@ -1,5 +1,6 @@
 -- The text that explains a fault, and the list of all.
 use Rattle.std.specs.Prelude.{◌≡◌, ◌⊎◌, ℕ, List, ◌++◌, ◌||◌, codes, decimal, find, Bool, Option, Some, None}
+use Rattle.std.specs.Borrow.{Bor}
 use Rattle.std.specs.List.{flat_map}
 use Rattle.std.specs.Option.{option_map, option_or}
 use Rattle.std.specs.Str.{str_to_ascii_lowercase, str_eq_ignore_ascii_case}
@@ -11,7 +12,8 @@ use Rattle.command_explain.specs.EndingFaults.{number_of, name_of}
 use Rattle.command_explain.specs.declared.faults.TheConstants.{FAULTS}
 use Rattle.command_explain.specs.declared.run_faults.TheConstants.{RUN_FAULTS}
 use Rattle.command_explain.specs.Guide.{texts_of}
-use Rattle.command_explain.specs.RunFaults.{run_fault_of, run_fault_line, run_fault_text}
+use Rattle.command_explain.specs.RunFaults.{IsListed, name_of as run_name_of, run_fault_of, run_fault_line, run_fault_text}
+use Rattle.command_explain.specs.declared.run_faults.RunFault.{RunFault}
 
 -- two texts differ in the case of letters at most
 abbrev pub IsSameWord : List ℕ → List ℕ → Type 0
@@ -21,7 +23,11 @@ IsSameWord a b = str_to_ascii_lowercase a ≡ str_to_ascii_lowercase b
 abbrev pub IsWordOf : List ℕ → EndingFault → Type 0
 IsWordOf word fault = IsSameWord word (decimal (number_of fault)) ⊎ IsSameWord word (name_of fault)
 
--- the same as a test
+-- a word is the name of a fault that ends a run and is listed, in any letter case
+abbrev pub IsNameOf : List ℕ → RunFault → Type 0
+IsNameOf word fault = IsListed fault × IsSameWord word (run_name_of fault)
+
+-- a word of a fault as a test
 abbrev pub names : List ℕ → EndingFault → Bool
 names word fault = str_eq_ignore_ascii_case word (decimal (number_of fault)) || str_eq_ignore_ascii_case word (name_of fault)
 
@@ -45,9 +51,9 @@ abbrev pub list_text : List ℕ
 list_text = flat_map fault_line FAULTS ++ flat_map run_fault_line RUN_FAULTS
 
 -- what is written for a word, or without one; nothing for a word that names no fault
-abbrev pub answer : Option (List ℕ) → Option (List ℕ)
+abbrev pub answer : Option (Bor (List ℕ)) → Option (List ℕ)
 answer None = Some list_text
-answer (Some word) = option_or (option_map explanation_text (named word)) (option_map run_fault_text (run_fault_of word))
+answer (Some word) = option_or (option_map explanation_text (named word.now)) (option_map run_fault_text (run_fault_of word.now))
 
 -- ---- what is told where nothing was written
 

@@ -170,9 +170,13 @@ names_run_fault word fault = str_eq_ignore_ascii_case word (name_of fault)
 unfoldable pub run_fault_of : List ℕ → Option RunFault
 run_fault_of word = find (names_run_fault word) RUN_FAULTS
 
+-- how the lines begin that have the fault, and those that have its namesakes
+abbrev pub places_of : RunFault → List ℕ
+places_of fault = place_of fault ++ flat_map further_place (namesakes fault)
+
 -- a fault's name, the lines that have it, and what was found
 unfoldable pub run_fault_line : RunFault → List ℕ
-run_fault_line fault = name_of fault ++ (codes " (" ++ (place_of fault ++ (flat_map further_place (namesakes fault) ++ (codes "): " ++ ((guide_of fault).found ++ codes "\n")))))
+run_fault_line fault = name_of fault ++ (codes " (" ++ (places_of fault ++ (codes "): " ++ ((guide_of fault).found ++ codes "\n"))))
 
 -- then what to do about it
 unfoldable pub advice_lines : RunFault → List ℕ

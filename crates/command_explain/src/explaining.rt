@@ -2,12 +2,12 @@
 
 ghost use Rattle.std.specs.Prelude.{◌≡◌, ◌⊎◌, ◌↔◌, find, None, Some, IsOk, IsSomeAnd, OnOk};
 ghost use Rattle.std.specs.List.{flat_map};
-ghost use Rattle.std.specs.Option.{option_map};
-ghost use Rattle.std.specs.Io.KnownBytes.{Appends};
+ghost use Rattle.ipfix_elements.specs.Writers.{Writes};
 ghost use Rattle.command_explain.specs.declared.ending_fault.EndingFault.{EndingFault};
 ghost use Rattle.command_explain.specs.Explained.{IsWordOf, answer, explanation_text, failed_line, fault_line, list_text, named, names, none_line, rule_lines};
 ghost use Rattle.report_writing.specs.Lines.{StaysFailed};
 ghost use Rattle.report_writing.specs.Told.{AreToldTo};
+ghost use Rattle.report_writing.specs.declared.status.Status.TheVariants.{Failed, NotOpened, Well};
 ghost use Rattle.report_writing.specs.Writing.{Tells};
 
 use crate::ending_fault::EndingFault;
@@ -58,7 +58,7 @@ fn is_named(fault: EndingFault, word: &str) -> bool
 
 /// Writes the explanation of a fault, and flushes the writer.
 pub fn explain<W: Write>(fault: EndingFault, out: &mut W) -> io::Result<()>
-    ensures { OnOk result (Appends (W.contents out.old) (W.contents out.new)
+    ensures { OnOk result (Writes W.contents out.old out.new
         (explanation_text fault)) }
 {
     write!(out, "fault ")?;
@@ -69,7 +69,7 @@ pub fn explain<W: Write>(fault: EndingFault, out: &mut W) -> io::Result<()>
 
 #[tactic(auto, unfolding(crate::specs::Explained::fault_line))]
 fn write_fault_line<W: Write>(fault: EndingFault, out: &mut W) -> io::Result<()>
-    ensures { OnOk result (Appends (W.contents out.old) (W.contents out.new) (fault_line fault)) }
+    ensures { OnOk result (Writes W.contents out.old out.new (fault_line fault)) }
 {
     let (number, name) = (fault.number(), fault.name());
     let found = Explanation::of(fault).found;
@@ -78,7 +78,7 @@ fn write_fault_line<W: Write>(fault: EndingFault, out: &mut W) -> io::Result<()>
 
 #[tactic(auto, unfolding(crate::specs::Explained::rule_lines))]
 fn write_rule_lines<W: Write>(fault: EndingFault, out: &mut W) -> io::Result<()>
-    ensures { OnOk result (Appends (W.contents out.old) (W.contents out.new) (rule_lines fault)) }
+    ensures { OnOk result (Writes W.contents out.old out.new (rule_lines fault)) }
 {
     let Explanation { rule, advice, .. } = Explanation::of(fault);
     writeln!(out, "rule: {rule}\n{advice}")
@@ -87,7 +87,7 @@ fn write_rule_lines<W: Write>(fault: EndingFault, out: &mut W) -> io::Result<()>
 /// Writes a line for each fault that ends a session, in the order of their numbers, and then for each that
 /// ends a run, and flushes the writer.
 pub fn list_faults<W: Write>(out: &mut W) -> io::Result<()>
-    ensures { OnOk result (Appends (W.contents out.old) (W.contents out.new) list_text) }
+    ensures { OnOk result (Writes W.contents out.old out.new list_text) }
 {
     write_fault_lines(&FAULTS, out)?;
     write_run_fault_lines(&RUN_FAULTS, out)?;
@@ -95,7 +95,7 @@ pub fn list_faults<W: Write>(out: &mut W) -> io::Result<()>
 }
 
 fn write_fault_lines<W: Write>(faults: &[EndingFault], out: &mut W) -> io::Result<()>
-    ensures { OnOk result (Appends (W.contents out.old) (W.contents out.new)
+    ensures { OnOk result (Writes W.contents out.old out.new
         (flat_map fault_line faults.now)) }
 {
     for fault in faults {
@@ -109,19 +109,16 @@ fn write_fault_lines<W: Write>(faults: &[EndingFault], out: &mut W) -> io::Resul
 /// written; `Failed` if it couldn't be written. Unless all was well it writes a line to `err`, whose
 /// own faults are passed over.
 pub fn run_explain<W: Write, E: WriteLines>(word: Option<&str>, out: &mut W, err: &mut E) -> Status
-    ensures statuses { (result ≡ Status.Well) ⊎ (result ≡ Status.NotOpened)
-        ⊎ (result ≡ Status.Failed) }
-    ensures written { result ≡ Status.Well
-        → IsSomeAnd (answer (option_map (λ w. w.now) word.entry))
-        (Appends (W.contents out.old) (W.contents out.new)) }
-    ensures unknown { (result ≡ Status.NotOpened)
-        ↔ (answer (option_map (λ w. w.now) word.entry) ≡ None) }
-    ensures untouched { result ≡ Status.NotOpened → out.new ≡ out.old }
+    ensures statuses { (result ≡ Well) ⊎ (result ≡ NotOpened) ⊎ (result ≡ Failed) }
+    ensures well { result ≡ Well
+        → IsSomeAnd (answer word.entry) (Writes W.contents out.old out.new) }
+    ensures unknown { (result ≡ NotOpened) ↔ (answer word.entry ≡ None) }
+    ensures untouched { result ≡ NotOpened → out.new ≡ out.old }
     // What was told: nothing, or one line.
-    ensures untold { result ≡ Status.Well → err.new ≡ err.old }
-    ensures none_told { result ≡ Status.NotOpened
+    ensures untold { result ≡ Well → err.new ≡ err.old }
+    ensures none_told { result ≡ NotOpened
         → AreToldTo E.lines err.old err.new none_line }
-    ensures failed { result ≡ Status.Failed
+    ensures failed { result ≡ Failed
         → AreToldTo E.lines err.old err.new failed_line }
     ensures kept { StaysFailed E.lines err.old err.new }
 {
@@ -140,10 +137,10 @@ pub fn run_explain<W: Write, E: WriteLines>(word: Option<&str>, out: &mut W, err
 
 // The exit status of what was written.
 fn status_of<E: WriteLines>(written: io::Result<()>, err: &mut E) -> Status
-    ensures statuses { (result ≡ Status.Well) ⊎ (result ≡ Status.Failed) }
-    ensures well { result ≡ Status.Well → IsOk written }
-    ensures untold { result ≡ Status.Well → err.new ≡ err.old }
-    ensures failed { result ≡ Status.Failed
+    ensures statuses { (result ≡ Well) ⊎ (result ≡ Failed) }
+    ensures well { result ≡ Well → IsOk written }
+    ensures untold { result ≡ Well → err.new ≡ err.old }
+    ensures failed { result ≡ Failed
         → AreToldTo E.lines err.old err.new failed_line }
     ensures kept { StaysFailed E.lines err.old err.new }
 {

@@ -1,11 +1,11 @@
 //! Finding a fault that ends a run, and writing its explanation.
 
-ghost use Rattle.std.specs.Prelude.{◌≡◌, ◌++◌, find, Some, OnOk};
+ghost use Rattle.std.specs.Prelude.{◌≡◌, find, Some, OnOk};
 ghost use Rattle.std.specs.List.{flat_map};
-ghost use Rattle.std.specs.Io.KnownBytes.{Appends};
+ghost use Rattle.ipfix_elements.specs.Writers.{Writes};
 ghost use Rattle.command_explain.specs.declared.run_faults.RunFault.{RunFault};
-ghost use Rattle.command_explain.specs.Explained.{IsSameWord};
-ghost use Rattle.command_explain.specs.RunFaults.{IsListed, advice_lines, further_place, listed_of, name_of, names_run_fault, namesakes, place, place_of, run_fault_line, run_fault_of, run_fault_text};
+ghost use Rattle.command_explain.specs.Explained.{IsNameOf};
+ghost use Rattle.command_explain.specs.RunFaults.{advice_lines, further_place, listed_of, names_run_fault, place, place_of, places_of, run_fault_line, run_fault_of, run_fault_text};
 
 use crate::run_faults::{RUN_FAULTS, RunFault};
 use flow_merge::MergeFault;
@@ -15,8 +15,7 @@ use std::io::{self, Write};
 /// The fault that a word names, of those that end a run: by its name in any letter case.
 pub fn run_fault_named(word: &str) -> Option<RunFault>
     // Each fault of the enums is found, but OutOfMemory, which is a session's.
-    ensures each { (fault : RunFault) → IsListed fault → IsSameWord word.now (name_of fault)
-        → result ≡ Some (listed_of fault) }
+    ensures each { (fault : RunFault) → IsNameOf word.now fault → result ≡ Some (listed_of fault) }
     ensures exact { result ≡ run_fault_of word.now }
 {
     named_run_fault(word)
@@ -49,7 +48,7 @@ fn is_named(fault: RunFault, word: &str) -> bool
 
 /// Writes the explanation of a fault that ends a run, and flushes the writer.
 pub fn explain_run_fault<W: Write>(fault: RunFault, out: &mut W) -> io::Result<()>
-    ensures { OnOk result (Appends (W.contents out.old) (W.contents out.new)
+    ensures { OnOk result (Writes W.contents out.old out.new
         (run_fault_text fault)) }
 {
     write!(out, "fault ")?;
@@ -60,7 +59,7 @@ pub fn explain_run_fault<W: Write>(fault: RunFault, out: &mut W) -> io::Result<(
 
 #[tactic(auto, unfolding(crate::specs::RunFaults::run_fault_line))]
 fn write_run_fault_line<W: Write>(fault: RunFault, out: &mut W) -> io::Result<()>
-    ensures { OnOk result (Appends (W.contents out.old) (W.contents out.new)
+    ensures { OnOk result (Writes W.contents out.old out.new
         (run_fault_line fault)) }
 {
     let (name, found) = (fault.name(), fault.found());
@@ -70,15 +69,15 @@ fn write_run_fault_line<W: Write>(fault: RunFault, out: &mut W) -> io::Result<()
 }
 
 fn write_places<W: Write>(fault: RunFault, out: &mut W) -> io::Result<()>
-    ensures { OnOk result (Appends (W.contents out.old) (W.contents out.new)
-        (place_of fault ++ flat_map further_place (namesakes fault))) }
+    ensures { OnOk result (Writes W.contents out.old out.new
+        (places_of fault)) }
 {
     write_place(fault, out)?;
     write_further_places(fault.namesakes(), out)
 }
 
 fn write_further_places<W: Write>(faults: &[RunFault], out: &mut W) -> io::Result<()>
-    ensures { OnOk result (Appends (W.contents out.old) (W.contents out.new)
+    ensures { OnOk result (Writes W.contents out.old out.new
         (flat_map further_place faults.now)) }
 {
     for fault in faults {
@@ -88,7 +87,7 @@ fn write_further_places<W: Write>(faults: &[RunFault], out: &mut W) -> io::Resul
 }
 
 fn write_further_place<W: Write>(fault: RunFault, out: &mut W) -> io::Result<()>
-    ensures { OnOk result (Appends (W.contents out.old) (W.contents out.new) (further_place fault)) }
+    ensures { OnOk result (Writes W.contents out.old out.new (further_place fault)) }
 {
     write!(out, "; ")?;
     write_place(fault, out)
@@ -96,7 +95,7 @@ fn write_further_place<W: Write>(fault: RunFault, out: &mut W) -> io::Result<()>
 
 // Writes how the lines on standard error begin that have the fault, with its number there.
 fn write_place<W: Write>(fault: RunFault, out: &mut W) -> io::Result<()>
-    ensures { OnOk result (Appends (W.contents out.old) (W.contents out.new) (place_of fault)) }
+    ensures { OnOk result (Writes W.contents out.old out.new (place_of fault)) }
 {
     match fault {
         RunFault::PlanText(fault) => write_number("plan", fault.number(), out),
@@ -133,7 +132,7 @@ fn write_place<W: Write>(fault: RunFault, out: &mut W) -> io::Result<()>
 /// Writes how the lines of a family begin that have a fault of this number.
 #[tactic(auto, unfolding(crate::specs::RunFaults::place))]
 fn write_number<W: Write>(family: &str, number: u8, out: &mut W) -> io::Result<()>
-    ensures { OnOk result (Appends (W.contents out.old) (W.contents out.new)
+    ensures { OnOk result (Writes W.contents out.old out.new
         (place family.now number)) }
 {
     write!(out, "{family}: fault {number}")
@@ -141,7 +140,7 @@ fn write_number<W: Write>(family: &str, number: u8, out: &mut W) -> io::Result<(
 
 #[tactic(auto, unfolding(crate::specs::RunFaults::advice_lines))]
 fn write_advice_lines<W: Write>(fault: RunFault, out: &mut W) -> io::Result<()>
-    ensures { OnOk result (Appends (W.contents out.old) (W.contents out.new) (advice_lines fault)) }
+    ensures { OnOk result (Writes W.contents out.old out.new (advice_lines fault)) }
 {
     let advice = fault.advice();
     writeln!(out, "{advice}")
@@ -149,7 +148,7 @@ fn write_advice_lines<W: Write>(fault: RunFault, out: &mut W) -> io::Result<()>
 
 /// Writes a line for each of these faults.
 pub fn write_run_fault_lines<W: Write>(faults: &[RunFault], out: &mut W) -> io::Result<()>
-    ensures { OnOk result (Appends (W.contents out.old) (W.contents out.new)
+    ensures { OnOk result (Writes W.contents out.old out.new
         (flat_map run_fault_line faults.now)) }
 {
     for fault in faults {

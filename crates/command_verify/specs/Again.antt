@@ -6,7 +6,7 @@ use Rattle.flow_plan_fields.specs.declared.named.NamedKey.{NamedKey}
 use Rattle.input_sources.specs.Had.{IsUnread, PathsAreOpened}
 use Rattle.input_sources.specs.MapsLoaded.{AreMapsOf, TellsNoMaps}
 use Rattle.input_sources.specs.Origins.{AreFiles}
-use Rattle.input_sources.specs.PlansTold.{IsLoaded, TellsNoText, table_of}
+use Rattle.input_sources.specs.PlansTold.{IsLoadedPlan, TellsNoText}
 use Rattle.input_sources.specs.declared.maps.LoadedMap.{LoadedMap}
 use Rattle.input_sources.specs.declared.loaded_plan.LoadedPlan.{LoadedPlan}
 use Rattle.ipfix_session.specs.Sources.{SourceView}
@@ -160,7 +160,7 @@ module _ {S O : Type 0} (seen : S → SourceView) (job : VerifyJob) (there : The
   -- it is that of a plan, with these elements
   pub record HasPlan (known : List Known) : Type 0 where
     pub loaded : LoadedPlan
-    pub is_loaded : IsLoaded known there.said.plan loaded.maps (table_of loaded)
+    pub is_loaded : IsLoadedPlan known there.said.plan loaded
     pub compares : ComparesLoaded loaded
 
   -- with other files of elements than it was made with it isn't made again; else by the plan of the receipt

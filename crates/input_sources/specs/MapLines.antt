@@ -31,10 +31,18 @@ map_words NoName = codes "\"name\" missing, or not letters, digits, _ and -"
 map_words NoFile = codes "\"file\" missing, or not a text"
 map_words NameTwice = codes "an earlier one has its name"
 
+-- the maps are no array of tables
+abbrev pub no_maps_lines : List ℕ
+no_maps_lines = map_fault ++ key_line (codes "map") (codes "not an array of tables")
+
+-- which one it is, and what is wrong with it
+abbrev pub map_line : ℕ → MapTableFault → List ℕ
+map_line place fault = map_start place ++ words_end (map_words fault)
+
 abbrev pub map_lines : List Known → PlanMapsError → List ℕ
 map_lines known (Document error) = plan_lines known error
-map_lines known NoMaps = map_fault ++ key_line (codes "map") (codes "not an array of tables")
-map_lines known (Map place fault) = map_fault ++ (map_start place ++ words_end (map_words fault))
+map_lines known NoMaps = no_maps_lines
+map_lines known (Map place fault) = map_fault ++ map_line place fault
 
 -- ---- of its keys, which are added to the elements of files
 
@@ -55,5 +63,9 @@ abbrev pub line_of : MapFault → ℕ → List ℕ
 line_of OutOfMemory line = []
 line_of fault line = line_text line
 
+-- the fault, at the end of a line
+abbrev pub fault_end : MapFault → List ℕ
+fault_end fault = fault_text (files.number_of fault) (files.name_of fault)
+
 abbrev pub file_line : List ℕ → MapError → List ℕ
-file_line path error = file_start path ++ (line_of error.fault error.line ++ fault_text (files.number_of error.fault) (files.name_of error.fault))
+file_line path error = file_start path ++ (line_of error.fault error.line ++ fault_end error.fault)

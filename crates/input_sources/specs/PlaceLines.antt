@@ -20,10 +20,17 @@ use Rattle.report_writing.specs.Quoting.{octet_shown, quoted}
 
 -- ---- the fault
 
--- the fault of a plan's text, and the plan's own after it
-abbrev pub plan_fault_text : PlanTextFault → List ℕ
-plan_fault_text (texts.Plan fault) = codes ": fault 6 Plan" ++ fault_text (plan.number_of fault) (plan.name_of fault)
-plan_fault_text fault = fault_text (text.number_of fault) (text.name_of fault)
+-- of a plan's text, by its own number
+abbrev pub text_fault_line : PlanTextFault → List ℕ
+text_fault_line fault = codes "collectd: plan" ++ fault_text (text.number_of fault) (text.name_of fault)
+
+-- of the plan that a text says, after that of the text
+abbrev pub rule_fault_line : PlanFault → List ℕ
+rule_fault_line fault = codes "collectd: plan: fault 6 Plan" ++ fault_text (plan.number_of fault) (plan.name_of fault)
+
+abbrev pub plan_fault_line : PlanTextFault → List ℕ
+plan_fault_line (texts.Plan fault) = rule_fault_line fault
+plan_fault_line fault = text_fault_line fault
 
 -- ---- what is wrong
 
@@ -113,4 +120,4 @@ place_line known errors.OutOfMemory = []
 
 -- the fault of a plan's text, and its place
 abbrev pub plan_lines : List Known → PlanTextError → List ℕ
-plan_lines known error = (codes "collectd: plan" ++ plan_fault_text (fault_of error)) ++ place_line known error
+plan_lines known error = plan_fault_line (fault_of error) ++ place_line known error

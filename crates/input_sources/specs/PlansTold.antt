@@ -1,5 +1,5 @@
 -- What is told of a path that has no plan, and what is loaded of one that has.
-use Rattle.std.specs.Prelude.{◌≡◌, ◌⊎◌, ℕ, List, map, codes, Ok}
+use Rattle.std.specs.Prelude.{◌≡◌, ◌⊎◌, ℕ, List, codes, Ok}
 use Rattle.element_registry.specs.Faults.{Fails}
 use Rattle.element_registry.specs.Registries.{Known}
 use Rattle.element_registry.specs.declared.fault.ElementsFault.{ElementsFault}
@@ -11,7 +11,7 @@ use Rattle.flow_plan_fields.specs.Tables.{IsNoTablePlan, IsTablePlan}
 use Rattle.flow_plan_fields.specs.declared.scaling.ScalingFault.{ScalingFault}
 use Rattle.flow_plan_fields.specs.declared.table_plans.TablePlan.{TablePlan}
 use Rattle.flow_plan_fields.specs.Errors.{AreNoPlanMaps, ArePlanMaps}
-use Rattle.flow_plan_fields.specs.Keys.{KeyValue, key_value}
+use Rattle.flow_plan_fields.specs.Keys.{KeyValue, keys_in}
 use Rattle.flow_plan_fields.specs.Known.{with_keys}
 use Rattle.flow_plan_fields.specs.declared.error.PlanMapsError.{PlanMapsError}
 use Rattle.flow_plan_fields.specs.declared.named.PlanMaps.{PlanMaps}
@@ -24,7 +24,7 @@ use Rattle.report_writing.specs.declared.verbosity.Verbosity.{Verbosity}
 use Rattle.input_sources.specs.declared.loaded_plan.LoadedPlan.{LoadedPlan}
 
 abbrev pub keys_of : PlanMaps → List KeyValue
-keys_of maps = map key_value maps.keys.items
+keys_of maps = keys_in maps.keys
 
 -- the maps of a text, and the plan of its table: the plan that it says is read with the keys of the maps beside the elements
 pub record IsLoaded (known : List Known) (octets : List ℕ) (maps : PlanMaps) (table : TablePlan) : Type 0 where
@@ -38,6 +38,10 @@ pub record IsLoaded (known : List Known) (octets : List ℕ) (maps : PlanMaps) (
 -- what it holds as the plan of a table
 abbrev pub table_of : LoadedPlan → TablePlan
 table_of loaded = record { elements = loaded.elements; read = loaded.read; estimates = loaded.estimates }
+
+-- the same of a plan that was loaded, which has these maps and is that of this table
+abbrev pub IsLoadedPlan : List Known → List ℕ → LoadedPlan → Type 0
+IsLoadedPlan known octets loaded = IsLoaded known octets loaded.maps (table_of loaded)
 
 -- why a text is no plan, which is told: by what it says of maps; by their keys; by what it says of the plan; or since its
 -- counters can't be scaled

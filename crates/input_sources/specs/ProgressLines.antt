@@ -1,5 +1,10 @@
 -- The line that says what a session has read.
-use Rattle.std.specs.Prelude.{ℕ, ◌*◌, ◌/◌, min, List, ◌++◌, codes, decimal, Option, Some, None}
+use Rattle.std.specs.Prelude.{ℕ, ◌*◌, ◌/◌, min, List, ◌++◌, codes, decimal, Option, Some, None, OnOk, Result}
+use Rattle.std.specs.Io.KnownBytes.{Appends}
+
+-- on Ok this line was written after what was there, and nothing else
+abbrev pub Writes : {W A E : Type 0} → (W → Option (List ℕ)) → W → W → Result A E → List ℕ → Type 0
+Writes contents old new result line = OnOk result (Appends (contents old) (contents new) line)
 
 -- at the end of a line
 abbrev pub message_count : ℕ → List ℕ

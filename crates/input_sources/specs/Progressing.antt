@@ -1,5 +1,5 @@
 -- How a session tells what it has read.
-use Rattle.std.specs.Prelude.{◌≡◌, ℕ, ◌+◌, ◌-◌, ◌^◌, ◌≤◌, min, List, [], ◌++◌, length, Option}
+use Rattle.std.specs.Prelude.{◌≡◌, ℕ, ◌+◌, ◌-◌, ◌^◌, ◌<◌, ◌≤◌, min, List, [], ◌++◌, length, Option, IfSome}
 use Rattle.std.specs.Io.KnownBytes.{Appends}
 use Rattle.std.specs.Time.{instant_nanos}
 use Rattle.std.specs.declared.time.Instant.{Instant}
@@ -26,9 +26,24 @@ pub record ProgressView : Type 0 where
 abbrev pub second : ℕ
 second = 1_000_000_000
 
--- a second or more has gone by since it told last
+-- when it tells again: a second after it told last
+abbrev pub due : ProgressView → ℕ
+due progress = progress.last + second
+
+-- a second or more has gone by since then
 abbrev pub IsDue : ProgressView → Instant → Type 0
-IsDue progress now = progress.last + second ≤ instant_nanos now
+IsDue progress now = due progress ≤ instant_nanos now
+
+-- its numbers are of 64 bits
+pub record IsOf64Bits (progress : ProgressView) : Type 0 where
+  pub session : progress.session < 2 ^ 64
+  pub read : progress.read < 2 ^ 64
+  pub messages : progress.counter.messages < 2 ^ 64
+  pub size : IfSome progress.size (λ octets. octets < 2 ^ 64)
+
+-- the line of what it has read by now
+abbrev pub line_of : ProgressView → List ℕ
+line_of progress = progress_line progress.session progress.read progress.counter.messages progress.size
 
 -- nothing was told
 pub record IsSilent (old new : ProgressView) : Type 0 where
@@ -38,8 +53,8 @@ pub record IsSilent (old new : ProgressView) : Type 0 where
 
 -- the line of what was read by then was told, a second or more after the one before, and nothing is kept back
 pub record TellsLine (old new : ProgressView) : Type 0 where
-  pub in_time : old.last + second ≤ new.last
-  pub line : Appends old.written new.written (progress_line new.session new.read new.counter.messages new.size)
+  pub in_time : due old ≤ new.last
+  pub line : Appends old.written new.written (line_of new)
   pub given : new.kept ≡ []
 
 -- these octets were read next by the same session: they are counted, and so are the messages that they

@@ -43,9 +43,17 @@ where_end (Count side count) = where_key (side_key side) ++ count_end count
 where_end (Text side text) = where_key (side_key side) ++ text_end (string_bytes text)
 where_end OutOfMemory = words_end (codes "out of memory")
 
+-- which one it is, and what is wrong with it
+abbrev pub where_line : ℕ → WhereFault → List ℕ
+where_line place fault = where_start place ++ where_end fault
+
+-- the conditions are no array of tables
+abbrev pub no_conditions_lines : List ℕ
+no_conditions_lines = filter_fault ++ key_line (codes "where") (codes "not an array of tables")
+
 -- the fault of a plan with a filter, and its place
 abbrev pub filtered_lines : List Known → FilteredPlanError → List ℕ
 filtered_lines known (Plan error) = plan_lines known error
-filtered_lines known NoConditions = filter_fault ++ key_line (codes "where") (codes "not an array of tables")
-filtered_lines known (Where place fault) = filter_fault ++ (where_start place ++ where_end fault)
+filtered_lines known NoConditions = no_conditions_lines
+filtered_lines known (Where place fault) = filter_fault ++ where_line place fault
 filtered_lines known NoSampling = sampling_lines

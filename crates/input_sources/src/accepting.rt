@@ -59,7 +59,7 @@ pub trait Listener<S: Source> {
         ensures unread { IfOk result (λ accepted. IsUnread S.seen accepted.source) }
         // It is the next one that was to come.
         ensures came { IfOk result
-            (λ accepted. ComesNext (coming self.old) (coming self.new) accepted.source) }
+            (λ had. ComesNext (coming self.old) (coming self.new) had.source) }
         ensures none_came { OnErr result (coming self.new ≡ coming self.old) }
         ensures no_time { IfSome idle (λ limit. as_nanos limit ≡ 0 → IsErr result) }
         ensures closed { is_closed self.old → IsErr result }

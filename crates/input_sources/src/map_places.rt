@@ -1,12 +1,9 @@
 //! The lines of a fault of a plan's maps, and of a file of one.
 
-ghost use Rattle.std.specs.Prelude.{◌≡◌, ◌++◌, codes};
-ghost use Rattle.element_registry.specs.Faults as elements_faults;
-ghost use Rattle.prefix_numbers.specs.Faults as files;
+ghost use Rattle.std.specs.Prelude.{◌≡◌, ◌++◌};
 ghost use Rattle.report_writing.specs.FaultLines.{fault_text};
 ghost use Rattle.report_writing.specs.Writing.{Tells};
 ghost use Rattle.input_sources.specs.MapLines as lines;
-ghost use Rattle.input_sources.specs.PlaceLines.{key_line, words_end};
 
 use crate::places::{write_key_line, write_words_end};
 use crate::plan_fault::write_plan_fault;
@@ -35,7 +32,7 @@ pub fn write_map_fault<W: WriteLines>(
 
 fn write_no_maps<W: WriteLines>(out: &mut W) -> io::Result<()>
     ensures { Tells W.lines out.old out.new result
-        (lines.map_fault ++ key_line (codes "map") (codes "not an array of tables")) }
+        lines.no_maps_lines }
 {
     write_map_fault_line(out)?;
     write_key_line("map", "not an array of tables", out)
@@ -43,7 +40,7 @@ fn write_no_maps<W: WriteLines>(out: &mut W) -> io::Result<()>
 
 fn write_no_map<W: WriteLines>(place: usize, fault: MapTableFault, out: &mut W) -> io::Result<()>
     ensures { Tells W.lines out.old out.new result
-        (lines.map_fault ++ (lines.map_start place ++ words_end (lines.map_words fault))) }
+        (lines.map_fault ++ lines.map_line place fault) }
 {
     write_map_fault_line(out)?;
     write_map_place(place, fault, out)
@@ -57,7 +54,7 @@ fn write_map_fault_line<W: WriteLines>(out: &mut W) -> io::Result<()>
 
 fn write_map_place<W: WriteLines>(place: usize, fault: MapTableFault, out: &mut W) -> io::Result<()>
     ensures { Tells W.lines out.old out.new result
-        (lines.map_start place ++ words_end (lines.map_words fault)) }
+        (lines.map_line place fault) }
 {
     write_map_start(place, out)?;
     write_words_end(words_of(fault), out)
@@ -126,7 +123,7 @@ fn write_line_number<W: WriteLines>(line: u64, out: &mut W) -> io::Result<()>
 #[tactic(auto, unfolding(report_writing::specs::FaultLines::fault_text))]
 fn write_fault_end<W: WriteLines>(fault: MapFault, out: &mut W) -> io::Result<()>
     ensures { Tells W.lines out.old out.new result
-        (fault_text (files.number_of fault) (files.name_of fault)) }
+        (lines.fault_end fault) }
 {
     write_number_and_name(fault.number(), fault.name(), out)
 }

@@ -1,6 +1,7 @@
 //! Reading the files of maps.
 
-ghost use Rattle.std.specs.Prelude.{◌≡◌, ℕ, List, map, IfNone, IfSome};
+ghost use Rattle.std.specs.Prelude.{◌≡◌, ℕ, List, IfNone, IfSome};
+ghost use Rattle.flow_plan.specs.Shown.{shown_all};
 ghost use Rattle.prefix_numbers.specs.Maps.{IsMapOf};
 ghost use Rattle.report_writing.specs.Lines.{StaysFailed};
 ghost use Rattle.report_writing.specs.Told.{AreToldTo};
@@ -35,21 +36,22 @@ pub struct LoadedMap {
 pub fn load_maps<T: ReadText, E: WriteLines>(
     files: &T,
     alloc: Global,
-    mut paths: &[&str],
+    paths: &[&str],
     verbosity: Verbosity,
     err: &mut E,
 ) -> Option<Vec<LoadedMap>>
     // Each map, and the number and the digest of its octets, are of one text that the path has.
-    ensures maps { IfSome result (λ maps. AreMapsOf (T.has files.now)
-        (map (λ path. path.now) paths.entry.now) maps.items) }
+    ensures maps { IfSome result
+        (λ all. AreMapsOf (T.has files.now) (shown_all paths.now) all.items) }
     // Nothing is told if all were read.
     ensures silent { IfSome result (λ _. err.new ≡ err.old) }
     ensures told { IfNone result (TellsNoMaps (T.has files.now) (T.refuses files.now) verbosity
-        (map (λ path. path.now) paths.entry.now) (AreToldTo E.lines err.old err.new)) }
+        (shown_all paths.now) (AreToldTo E.lines err.old err.new)) }
     ensures kept { StaysFailed E.lines err.old err.new }
 {
     let mut maps = Vec::new(alloc);
-    while let [path, rest @ ..] = paths {
+    let mut left = paths;
+    while let [path, rest @ ..] = left {
         let Some(map) = load_map(files, alloc, path, verbosity, err) else {
             return None;
         };
@@ -57,7 +59,7 @@ pub fn load_maps<T: ReadText, E: WriteLines>(
             let _ = write_file_fault(path, WITHOUT_MEMORY, err);
             return None;
         };
-        paths = rest;
+        left = rest;
     }
     Some(maps)
 }

@@ -42,8 +42,8 @@ pub trait OpenSource<S: Source> {
     /// The source of a path, of which nothing was read; or why it can't be opened.
     fn open_source(&mut self, path: &str) -> Result<Opened<S>, Reason>
         ensures named { IfOk result (λ opened. opens self.old path.now opened.source) }
-        ensures sized { IfOk result (λ opened.
-            sizes self.old path.now (option_map non_zero_u64_get opened.size)) }
+        ensures sized { IfOk result
+            (λ it. sizes self.old path.now (option_map non_zero_u64_get it.size)) }
         ensures refused { IfErr result (refuses self.old path.now) }
         ensures unread { IfOk result (λ opened. IsUnread S.seen opened.source) }
         // It is the next one that was to come.

@@ -61,7 +61,7 @@ pub fn open_all<
         (λ stopped. StopsAt (O.sizes files.old) (map (λ path. path.now) paths.now) verbosity
         (AreToldTo E.lines err.old err.new) stopped.path.now) }
     ensures reason { IfErr result
-        (λ stopped. IsReasonOf (O.refuses files.old stopped.path.now) stopped.reason) }
+        (λ last. IsReasonOf (O.refuses files.old last.path.now) last.reason) }
     ensures kept { StaysFailed E.lines err.old err.new }
 {
     let mut sources = UnreadSources::new(alloc);

@@ -6,7 +6,7 @@ ghost use Rattle.flow_table.specs.Plans.{IsPlan};
 ghost use Rattle.flow_plan_fields.specs.Tables.{IsSaid};
 ghost use Rattle.report_writing.specs.Lines.{StaysFailed};
 ghost use Rattle.report_writing.specs.Told.{AreToldTo};
-ghost use Rattle.input_sources.specs.PlansTold.{IsLoaded, TellsNoPlan, TellsNoText, table_of};
+ghost use Rattle.input_sources.specs.PlansTold.{IsLoadedPlan, TellsNoPlan, TellsNoText, table_of};
 
 use crate::loaded_plan::LoadedPlan;
 use crate::map_places::{write_key_fault, write_map_fault};
@@ -35,7 +35,7 @@ pub fn load_plan<T: ReadText, E: WriteLines>(
     // added to the elements, where counters are scaled their estimates, and nothing else.
     ensures text { ForSome result (λ loaded. (octets : List ℕ)
         × T.has files.now path.now octets
-        × IsLoaded elements octets loaded.maps (table_of loaded)) }
+        × IsLoadedPlan elements octets loaded) }
     // Its numbers are in their ranges, its keys can be compared and its keys and counters are no times of flows, and
     // no element stands twice.
     ensures sound { ForSome result (λ loaded. IsPlan loaded.read.plan) }
@@ -65,8 +65,7 @@ pub fn load_plan_text<E: WriteLines>(
     octets: &[u8],
     err: &mut E,
 ) -> Option<LoadedPlan>
-    ensures text { ForSome result
-        (λ loaded. IsLoaded elements octets.now loaded.maps (table_of loaded)) }
+    ensures text { ForSome result (IsLoadedPlan elements octets.now) }
     ensures sound { ForSome result (λ loaded. IsPlan loaded.read.plan) }
     ensures silent { IfSome result (λ _. err.new ≡ err.old) }
     ensures told { IfNone result (TellsNoText elements octets.now

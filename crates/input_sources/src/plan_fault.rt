@@ -1,11 +1,8 @@
 //! The lines of a fault of a plan.
 
-ghost use Rattle.std.specs.Prelude.{◌++◌, codes};
-ghost use Rattle.flow_table.specs.PlanFaults as plan;
-ghost use Rattle.flow_plan.specs.Faults as text;
-ghost use Rattle.report_writing.specs.FaultLines.{fault_text};
-ghost use Rattle.input_sources.specs.PlaceLines.{key_line, plan_fault_text, plan_lines};
-ghost use Rattle.input_sources.specs.WhereLines.{filter_fault, filtered_lines, where_end, where_start};
+ghost use Rattle.std.specs.Prelude.{◌++◌};
+ghost use Rattle.input_sources.specs.PlaceLines.{plan_fault_line, plan_lines, rule_fault_line, text_fault_line};
+ghost use Rattle.input_sources.specs.WhereLines.{filter_fault, filtered_lines, no_conditions_lines, where_line};
 ghost use Rattle.report_writing.specs.Writing.{Tells};
 
 use crate::places::{write_key_line, write_place};
@@ -52,7 +49,7 @@ pub fn write_filtered_fault<W: WriteLines>(
 
 fn write_no_conditions<W: WriteLines>(out: &mut W) -> io::Result<()>
     ensures { Tells W.lines out.old out.new result
-        (filter_fault ++ key_line (codes "where") (codes "not an array of tables")) }
+        no_conditions_lines }
 {
     write_filter_fault(out)?;
     write_key_line("where", "not an array of tables", out)
@@ -64,7 +61,7 @@ fn write_no_condition<W: WriteLines>(
     out: &mut W,
 ) -> io::Result<()>
     ensures { Tells W.lines out.old out.new result
-        (filter_fault ++ (where_start place ++ where_end fault.now)) }
+        (filter_fault ++ where_line place fault.now) }
 {
     write_filter_fault(out)?;
     write_where(place, fault, out)
@@ -78,7 +75,7 @@ fn write_filter_fault<W: WriteLines>(out: &mut W) -> io::Result<()>
 
 fn write_plan_fault_line<W: WriteLines>(fault: PlanTextFault, out: &mut W) -> io::Result<()>
     ensures { Tells W.lines out.old out.new result
-        (codes "collectd: plan" ++ plan_fault_text fault) }
+        (plan_fault_line fault) }
 {
     match fault {
         PlanTextFault::Plan(inner) => write_inner_fault(inner, out),
@@ -88,15 +85,14 @@ fn write_plan_fault_line<W: WriteLines>(fault: PlanTextFault, out: &mut W) -> io
 
 fn write_text_fault<W: WriteLines>(fault: PlanTextFault, out: &mut W) -> io::Result<()>
     ensures { Tells W.lines out.old out.new result
-        (codes "collectd: plan" ++ fault_text (text.number_of fault) (text.name_of fault)) }
+        (text_fault_line fault) }
 {
     write_fault("plan", fault.number(), fault.name(), out)
 }
 
 fn write_inner_fault<W: WriteLines>(fault: PlanFault, out: &mut W) -> io::Result<()>
     ensures { Tells W.lines out.old out.new result
-        (codes "collectd: plan: fault 6 Plan"
-        ++ fault_text (plan.number_of fault) (plan.name_of fault)) }
+        (rule_fault_line fault) }
 {
     write_fault("plan: fault 6 Plan", fault.number(), fault.name(), out)
 }

@@ -4,10 +4,9 @@ ghost use Rattle.std.specs.Prelude.{◌≡◌, ◌≤◌, ◌<◌, ◌+◌, [], 
 ghost use Rattle.std.specs.Int.NonZero.{non_zero_u64_get};
 ghost use Rattle.std.specs.Time.{instant_nanos};
 ghost use Rattle.std.specs.Io.Buffered.{writer_capacity, writer_contents};
-ghost use Rattle.std.specs.Io.KnownBytes.{Appends};
 ghost use Rattle.ipfix_session.specs.MessageCounts.{HasRead};
-ghost use Rattle.input_sources.specs.ProgressLines.{percent_of, progress_line, read_line, share_line};
-ghost use Rattle.input_sources.specs.Progressing.{second, CountsOctets, IsDue, IsSilent, TellsLine};
+ghost use Rattle.input_sources.specs.ProgressLines.{percent_of, progress_line, read_line, share_line, Writes};
+ghost use Rattle.input_sources.specs.Progressing.{due, second, CountsOctets, IsDue, IsSilent, TellsLine};
 ghost use Rattle.input_sources.specs.declared.progress.TheConstants.{LINE};
 
 use ipfix_session::MessageCounter;
@@ -97,7 +96,7 @@ impl<'a, C: Clock, P: Write + Drop> Progress<'a, C, P> {
         ensures last { IfSome now (λ time. IsDue self.old time
             → self.new.last ≡ instant_nanos time) }
         ensures early { IfSome now
-            (λ time. instant_nanos time < self.old.last + second → IsSilent self.old self.new) }
+            (λ now. instant_nanos now < due self.old → IsSilent self.old self.new) }
         ensures no_time { IfNone now (IsSilent self.old self.new) }
     {
         self.read = self.read.saturating_add(octets.len() as u64);
@@ -142,8 +141,8 @@ fn write_progress<W: Write>(
     size: Option<NonZeroU64>,
     out: &mut W,
 ) -> io::Result<()>
-    ensures { OnOk result (Appends (W.contents out.old) (W.contents out.new)
-        (progress_line session read messages (option_map non_zero_u64_get size))) }
+    ensures { Writes W.contents out.old out.new result
+        (progress_line session read messages (option_map non_zero_u64_get size)) }
 {
     match size {
         None => write_read(session, read, messages, out),
@@ -168,8 +167,7 @@ fn percent(read: u64, size: NonZeroU64) -> u8
 
 #[tactic(auto, unfolding(crate::specs::ProgressLines::read_line))]
 fn write_read<W: Write>(session: usize, read: u64, messages: u64, out: &mut W) -> io::Result<()>
-    ensures { OnOk result (Appends (W.contents out.old) (W.contents out.new)
-        (read_line session read messages)) }
+    ensures { Writes W.contents out.old out.new result (read_line session read messages) }
 {
     writeln!(
         out,
@@ -186,8 +184,8 @@ fn write_share<W: Write>(
     messages: u64,
     out: &mut W,
 ) -> io::Result<()>
-    ensures { OnOk result (Appends (W.contents out.old) (W.contents out.new)
-        (share_line session read size percent messages)) }
+    ensures { Writes W.contents out.old out.new result
+        (share_line session read size percent messages) }
 {
     writeln!(
         out,

@@ -32,7 +32,7 @@ impl SystemListener {
         ensures closed { self.now.listener ≡ None → IsErr result }
         ensures no_time { IfSome idle (λ limit. as_nanos limit ≡ 0 → IsErr result) }
         ensures unread { IfOk result
-            (λ accepted. IsUnread ⟦<FromReader<TcpStream> as Source>⟧.seen accepted.source) }
+            (λ had. IsUnread ⟦<FromReader<TcpStream> as Source>⟧.seen had.source) }
     {
         let Some(listener) = &self.listener else {
             return Err(Reason::Other);

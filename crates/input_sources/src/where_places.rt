@@ -2,7 +2,7 @@
 
 ghost use Rattle.std.specs.Prelude.{◌++◌, codes};
 ghost use Rattle.input_sources.specs.PlaceLines.{name_end, words_end};
-ghost use Rattle.input_sources.specs.WhereLines.{count_end, text_end, where_end, where_key, where_start};
+ghost use Rattle.input_sources.specs.WhereLines.{count_end, text_end, where_end, where_key, where_line, where_start};
 ghost use Rattle.report_writing.specs.Writing.{Tells};
 
 use crate::places::{write_name_end, write_words_end};
@@ -13,7 +13,7 @@ use std::io;
 /// Writes which `[[where]]` has the fault, and what is wrong with it.
 pub fn write_where<W: WriteLines>(place: usize, fault: &WhereFault, out: &mut W) -> io::Result<()>
     ensures { Tells W.lines out.old out.new result
-        (where_start place ++ where_end fault.now) }
+        (where_line place fault.now) }
 {
     write_where_start(place, out)?;
     write_where_end(fault, out)

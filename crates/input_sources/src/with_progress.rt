@@ -1,6 +1,6 @@
 //! A source that tells what was read from it.
 
-ghost use Rattle.std.specs.Prelude.{◌≡◌, take, MatchResult};
+ghost use Rattle.std.specs.Prelude.{◌≡◌, take, IfOk, OnErr};
 ghost use Rattle.ipfix_session.specs.Sources.{IsRead};
 ghost use Rattle.input_sources.specs.Progressing.{CountsOctets};
 
@@ -72,9 +72,9 @@ fn read_and_tell<S: Source, C: Clock, P: Write + Drop>(
     buffer: &mut [u8],
 ) -> Result<usize, ReadError>
     ensures read { IsRead (S.seen source.old) result (S.seen source.new) buffer.new }
-    ensures told { MatchResult result
-        (λ count. CountsOctets progress.old (take count buffer.new) progress.new)
-        (λ e. progress.new ≡ progress.old) }
+    ensures told { IfOk result
+        (λ n. CountsOctets progress.old (take n buffer.new) progress.new) }
+    ensures silent { OnErr result (progress.new ≡ progress.old) }
 {
     let answer = source.read(buffer);
     if let Ok(count) = answer {

@@ -7,7 +7,7 @@ use Rattle.recording_files.specs.declared.file_report.FileReport.{FileReport}
 use Rattle.recording_folder.specs.declared.session_files.FilesEnd.{FilesEnd}
 use Rattle.recording_peers.specs.Calls.{TakesTurn}
 use Rattle.recording_peers.specs.Steps.{GoesOn, LastIsHeard, ended_by, first_by}
-use Rattle.recording_peers.specs.Table.{others_than_last}
+use Rattle.recording_peers.specs.Table.{without_last}
 use Rattle.recording_peers.specs.declared.in_turn.InTurn.{InTurn}
 use Rattle.recording_peers.specs.declared.peer_state.PeerState.{PeerState}
 use Rattle.recording_peers.specs.declared.turn.Turn.{Turn}
@@ -70,7 +70,7 @@ module _ {F : Type 0} (seen : F → FilesView) (finishes : F → FileReport → 
   pub record EndsOneSilent (before after : List (SocketAddr × PeerState F)) (lines : List ℕ) : Type 0 where
     pub gone : SocketAddr × PeerState F
     pub last : last_entry before ≡ Some gone
-    pub others : after ≡ others_than_last before
+    pub others : after ≡ without_last before
     pub is_silent : IsSilent gone lines
 
   -- all of these, the last one first

@@ -4,7 +4,9 @@ use Rattle.std.specs.Map.{lookup}
 use Rattle.indexmap.specs.IndexMap.{insert_entry}
 use Rattle.ipfix_wire.specs.declared.header.Header.{Header}
 use Rattle.ipfix_message.specs.Domains.{DomainsView, Message, StandsFor}
+use Rattle.ipfix_message.specs.Outcome.{Fails}
 use Rattle.ipfix_message.specs.TemplateLimits.{IsWithin, message_within}
+use Rattle.ipfix_message.specs.declared.fault.MessageFault.{MessageFault}
 use Rattle.ipfix_session.specs.Given.{known_after, octets_of, records_in}
 use Rattle.ipfix_session.specs.Ledger.{count_in}
 use Rattle.ipfix_session.specs.Feeding.{Counts, Tells}
@@ -46,6 +48,10 @@ ForKept s P = (limit : Option ℕ) (before here : List Message) → KeepsWithin 
 abbrev pub ForMessages : State → (List Message → List Message → Type 0) → Type 0
 ForMessages s P = ForKept s (λ limit before here. P before here)
 
+-- and without one
+abbrev pub ForKeeps : State → (List Message → List Message → Type 0) → Type 0
+ForKeeps s P = (before here : List Message) → Keeps s before here → P before here
+
 -- what is written at the head of a file, if a message with this header is its first
 pub record Heading (h : Header) (old new : List ℕ) (before here : List Message) : Type 0 where
   pub head : List (List ℕ)
@@ -73,6 +79,10 @@ pub record RecordsWithin (limit : Option ℕ) (before here : List Message) (s : 
   pub octets_are : octets ≡ octets_of lead ++ m
   pub keeps : KeepsWithin limit s before (here ++ given ∷ [])
   pub counts : IsCountOf count given
+
+-- or this is why it couldn't be read
+abbrev pub FailsOn : MessageFault → List ℕ → Option ℕ → List Message → List Message → Type 0
+FailsOn fault m limit before here = Fails fault (message_within limit (known_after [] (before ++ here)) m)
 
 abbrev pub Records : List Message → List Message → State → List ℕ → List ℕ → MessageCount → Type 0
 Records before here s m octets count = RecordsWithin None before here s m octets count

@@ -3,7 +3,7 @@
 ghost use Rattle.std.specs.Prelude.{◌≡◌, ◌≤◌, ◌∷◌, [], OnOk, Some, length};
 ghost use Rattle.recording_files.specs.Heads as head;
 ghost use Rattle.recording_files.specs.Heads.{count_at, is_written_at, stamp_before};
-ghost use Rattle.recording_files.specs.Histories.{ByHistory, ForHistory};
+ghost use Rattle.recording_files.specs.Histories.{ByHistory, OnOkFor};
 
 use crate::kept_options::KeptOptions;
 use indexmap::IndexMap;
@@ -144,9 +144,9 @@ fn append_first(
     body: &mut Vec<u8>,
     out: &mut Vec<u8>,
 ) -> Result<(), AllocError>
-    ensures { ForHistory domains.now (λ ds.
-        OnOk result (head.AppendsFirst ds (head.number_at due.now.entries start)
-        start.export_time kept.now others.now out.old.items out.new.items)) }
+    ensures { OnOkFor domains.now result (λ ds.
+        head.AppendsFirst ds (head.number_at due.now.entries start)
+        start.export_time kept.now others.now out.old.items out.new.items) }
 {
     match stamp_for(domains, due, start, kept, others) {
         Some(stamp) => append_options(stamp, kept, body, out),
@@ -165,9 +165,9 @@ pub fn append_head(
     body: &mut Vec<u8>,
     out: &mut Vec<u8>,
 ) -> Result<(), AllocError>
-    ensures { ForHistory domains.now (λ ds.
-        OnOk result (head.AppendsHead ds (head.number_at due.now.entries start)
-        start.export_time kept.now out.old.items out.new.items)) }
+    ensures { OnOkFor domains.now result (λ ds.
+        head.AppendsHead ds (head.number_at due.now.entries start)
+        start.export_time kept.now out.old.items out.new.items) }
 {
     let mut left = kept;
     while let Some((first, others)) = left.split_first() {

@@ -1,8 +1,8 @@
 //! Options records that are kept of a session (RFC 7011, section 3.4.2).
 
-ghost use Rattle.std.specs.Prelude.{◌≡◌, IfOk, OnOk};
+ghost use Rattle.std.specs.Prelude.{◌≡◌, ◌∷◌, [], IfOk, OnOk};
 ghost use Rattle.std.specs.Option.{option_map};
-ghost use Rattle.recording_files.specs.Histories.{ForHistory};
+ghost use Rattle.recording_files.specs.Histories.{OkByHistory, OnOkFor};
 ghost use Rattle.recording_files.specs.KeptOptions as options;
 ghost use Rattle.recording_files.specs.KeptOptions.{AllKept, short_under};
 
@@ -101,8 +101,7 @@ fn kept_telling(
     item: &DataRecord,
     told: Told,
 ) -> Result<Option<KeptOptions>, AllocError>
-    ensures { ForHistory domains.now (λ ds.
-        IfOk result (λ k. k ≡ options.kept_telling ds item.now told)) }
+    ensures { OkByHistory domains.now (λ ds. options.kept_telling ds item.now told) result }
 {
     if !tells_some(&told) {
         return Ok(None);
@@ -131,7 +130,7 @@ fn kept_of(
     domains: &Domains,
     item: &DataRecord,
 ) -> Result<Option<KeptOptions>, AllocError>
-    ensures { ForHistory domains.now (λ ds. IfOk result (λ k. k ≡ options.kept_of ds item.now)) }
+    ensures { OkByHistory domains.now (λ ds. options.kept_of ds item.now) result }
 {
     match told_by(item) {
         Some(told) => kept_telling(alloc, domains, item, told),
@@ -167,8 +166,8 @@ fn keep_one(
     item: &DataRecord,
     kept: &mut Vec<KeptOptions>,
 ) -> Result<(), AllocError>
-    ensures { ForHistory domains.now (λ ds.
-        OnOk result (kept.new.items ≡ options.kept_with ds kept.old.items item.now)) }
+    ensures { OnOkFor domains.now result
+        (AllKept (item.now ∷ []) kept.old.items kept.new.items) }
 {
     match kept_of(alloc, domains, item)? {
         Some(new) => keep(kept, new),
@@ -183,8 +182,7 @@ pub fn keep_options(
     records: &[DataRecord],
     kept: &mut Vec<KeptOptions>,
 ) -> Result<(), AllocError>
-    ensures { OnOk result
-        (ForHistory domains.now (AllKept records.now kept.old.items kept.new.items)) }
+    ensures { OnOkFor domains.now result (AllKept records.now kept.old.items kept.new.items) }
 {
     let mut left = records;
     while let Some((item, others)) = left.split_first() {

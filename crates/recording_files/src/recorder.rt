@@ -2,15 +2,12 @@
 
 ghost use Rattle.std.specs.Prelude.{◌≡◌, ◌≢◌, ◌++◌, [], Ok, OnOk, IfOk, IfErr, MatchBool, true};
 ghost use Rattle.ipfix_message.specs.Domains.{message_header};
-ghost use Rattle.ipfix_message.specs.Outcome.{Fails};
-ghost use Rattle.ipfix_message.specs.TemplateLimits.{message_within};
-ghost use Rattle.ipfix_session.specs.Given.{known_after};
 ghost use Rattle.recording_files.specs.Heads as head;
 ghost use Rattle.recording_files.specs.Heads.{due_in};
-ghost use Rattle.recording_files.specs.Histories.{ForHistory};
+ghost use Rattle.recording_files.specs.Histories.{OnOkFor};
 ghost use Rattle.recording_files.specs.KeptOptions.{AllKept};
 ghost use Rattle.recording_files.specs.Preambles.{IsStamp};
-ghost use Rattle.recording_files.specs.Recorders.{ForKept, ForMessages, Heading, Keeps, KeepsWithin, Leading, RecordsWithin, due_for, with_entry};
+ghost use Rattle.recording_files.specs.Recorders.{FailsOn, ForKept, ForMessages, Heading, Keeps, KeepsWithin, Leading, RecordsWithin, due_for, with_entry};
 
 use crate::head::append_head;
 use crate::kept_options::{KeptOptions, keep_options};
@@ -175,8 +172,8 @@ impl Recorder {
     // Keeps the options records of a message, after which the domains are these.
     fn keep_options(&mut self, alloc: Global, records: &[DataRecord]) -> Result<(), AllocError>
         ensures others { self.new ≡ record self.old { kept = self.new.kept } }
-        ensures kept { OnOk result
-            (ForHistory self.old.domains (AllKept records.now self.old.kept self.new.kept)) }
+        ensures kept { OnOkFor self.old.domains result
+            (AllKept records.now self.old.kept self.new.kept) }
     {
         keep_options(alloc, &self.domains, records, &mut self.kept)
     }
@@ -198,8 +195,7 @@ impl Recorder {
         ensures records { ForKept self.old (λ limit before here.
             IfOk result (λ count. RecordsWithin limit before here
             self.new message.now (lead.new.items ++ message.now) count)) }
-        ensures fails { ForKept self.old (λ limit before here. IfErr result (λ fault.
-            Fails fault (message_within limit (known_after [] (before ++ here)) message.now))) }
+        ensures fails { IfErr result (λ fault. ForKept self.old (FailsOn fault message.now)) }
     {
         lead.clear();
         self.append_head(header, lead)?;

@@ -9,9 +9,9 @@ use Rattle.ipfix_session.specs.declared.report.FullReport.{FullReport}
 use Rattle.ipfix_session.specs.Given.{records_in}
 use Rattle.ipfix_session.specs.Ledger.{capped, count_in, lost_between, backward_between, sum_neighbours, messages_of, domains_of, domain_report}
 use Rattle.ipfix_session.specs.Balances.{unaccounted_between, domain_balance}
-use Rattle.ipfix_session.specs.Places.{CountsInFull}
 use Rattle.recording_files.specs.declared.file_report.FileReport.{FileReport}
 use Rattle.recording_files.specs.FileReports.{in_ledger, in_ledger_from, file_report}
+use Rattle.recording_folder.specs.FullReports.{CountsAll}
 
 -- a sum of numbers that stop stops as that of the numbers does
 sum_stops : {X : Type 0} (report : ℕ → X) (field : X → ℕ) (e : ℕ → ℕ) → ((k : ℕ) → field (report k) ≡ capped (e k)) → (ks : List ℕ) → capped (sum_by field (map report ks)) ≡ capped (sum_by e ks)
@@ -41,7 +41,7 @@ report messages records lost backward unknown_sets unaccounted =
 same_report : (a b c d e f g h i j k l : ℕ) → a ≡ g → b ≡ h → c ≡ i → d ≡ j → e ≡ k → f ≡ l → report a b c d e f ≡ report g h i j k l
 same_report a b c d e f g h i j k l o p q r s t = rw (o, p, q, r, s, t) refl
 
-pub report_is : (ms : List Message) (full : FullReport) (lost backward unaccounted : ℕ) → CountsInFull full ms (length (records_in ms))
+pub report_is : (ms : List Message) (full : FullReport) (lost backward unaccounted : ℕ) → CountsAll full ms
     → lost ≡ capped (sum_by (λ d. d.lost) full.report.domains.items) → backward ≡ capped (sum_by (λ d. d.backward) full.report.domains.items)
     → unaccounted ≡ capped (sum_by (λ b. b.unaccounted) full.balances.items)
     → report full.report.messages full.report.delivered lost backward full.report.unknown_sets unaccounted ≡ file_report [] ms

@@ -1,14 +1,13 @@
 -- What an earlier run left of its peers, by the files that were noted.
-use Rattle.std.specs.Prelude.{◌≡◌, ℕ, Bool, true, bytes_eq, decimal, if◌then◌else◌, List, Option, Some, None, nat_eq}
+use Rattle.std.specs.Prelude.{◌≡◌, ℕ, Bool, true, bytes_eq, decimal, if◌then◌else◌, List, Option, Some, None}
 use Rattle.std.specs.Ordering.{nat_cmp, is_lt}
 use Rattle.std.specs.Net.Socket.{socket_ip, socket_port}
 use Rattle.std.specs.declared.net.socket_addr.SocketAddr.{SocketAddr}
 use Rattle.std.specs.BTreeMap.{BTreeMap, get, get_by_text}
 use Rattle.std.specs.Cmp.Lexicographic.{slice_cmp}
-use Rattle.indexmap.specs.IndexMap.{get as index_get}
 use Rattle.ipfix_message.specs.Domains.{DomainsView}
 use Rattle.recording_names.specs.SessionNames.{address_name, hyphened}
-use Rattle.recording_resumption.specs.EarlierFiles.{LeavesEach, LeavesOnly}
+use Rattle.recording_resumption.specs.EarlierFiles.{LeavesEach, LeavesNone, LeftBy}
 use Rattle.recording_resumption.specs.declared.earlier_domain.EarlierDomain.{EarlierDomain}
 use Rattle.recording_resumption.specs.declared.earlier_session.EarlierSession.{EarlierSession}
 use Rattle.recording_folder.specs.PeerFiles.{Note, IsLastOf, rank}
@@ -26,9 +25,9 @@ is_of peer n = bytes_eq (peer_of n.file) peer
 
 -- what a file left, by what it has: of each domain with a message in it its templates, if no message has a fault
 pub record IsLeftBy (s : EarlierSession) (left : BTreeMap ℕ EarlierDomain) : Type 0 where
-  pub none : s.full.domains ≡ None → (domain : ℕ) → get nat_cmp left domain ≡ None
-  pub only : (d : DomainsView) → s.full.domains ≡ Some d → LeavesOnly (index_get nat_eq s.last) d left
-  pub each : (d : DomainsView) → s.full.domains ≡ Some d → LeavesEach (index_get nat_eq s.last) left
+  pub none : s.full.domains ≡ None → LeavesNone left
+  pub only : (d : DomainsView) → s.full.domains ≡ Some d → LeftBy s.last d left
+  pub each : (d : DomainsView) → s.full.domains ≡ Some d → LeavesEach s.last left
 
 -- what is kept of a peer
 abbrev pub kept_of : EarlierPeers → List ℕ → Option EarlierPeer

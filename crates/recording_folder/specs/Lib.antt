@@ -13,3 +13,4 @@ pub mod Failures
 pub mod Codes
 pub mod FileReadings
 pub mod PeriodFolders
+pub mod FullReports

@@ -1,19 +1,17 @@
 //! The report of a file that is a session by itself.
 
-ghost use Rattle.std.specs.Prelude.{◌≡◌, [], List, length, sum_by};
+ghost use Rattle.std.specs.Prelude.{◌≡◌, [], List, sum_by};
 ghost use Rattle.ipfix_message.specs.Domains.{Message};
-ghost use Rattle.ipfix_session.specs.Given.{records_in};
 ghost use Rattle.ipfix_session.specs.Ledger.{capped};
-ghost use Rattle.ipfix_session.specs.Places.{CountsInFull};
 ghost use Rattle.recording_files.specs.FileReports.{file_report};
+ghost use Rattle.recording_folder.specs.FullReports.{CountsAll};
 
 use ipfix_session::{DomainBalance, DomainReport, FullReport};
 use recording_files::FileReport;
 
 /// The report of a file of a session's messages, in all its domains.
 pub(crate) fn report_of(full: &FullReport) -> FileReport
-    ensures { (ms : List Message) → CountsInFull full.now ms (length (records_in ms))
-        → result ≡ file_report [] ms }
+    ensures { (ms : List Message) → CountsAll full.now ms → result ≡ file_report [] ms }
 {
     FileReport {
         messages: full.report.messages,

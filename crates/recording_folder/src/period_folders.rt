@@ -1,8 +1,7 @@
 //! The periods of folders, by their names.
 
 ghost use Rattle.std.specs.Prelude.{IfOk, IfSome};
-ghost use Rattle.recording_names.specs.PeriodNames.{IsPeriodName};
-ghost use Rattle.recording_folder.specs.PeriodFolders.{in_day};
+ghost use Rattle.recording_folder.specs.PeriodFolders.{IsPeriodOf};
 
 use jiff_core::civil::Date;
 use recording_names::{CALENDAR_END, Period, period_name};
@@ -24,8 +23,7 @@ fn second_at(day: &str, time: &str) -> Option<u64> {
 
 /// The period whose folder has this name, in the folder of a day.
 pub(crate) fn period_at(alloc: Global, day: &str, time: &str) -> Result<Option<Period>, AllocError>
-    ensures { IfOk result (λ found.
-        IfSome found (λ period. IsPeriodName period.begins (in_day day.now time.now))) }
+    ensures { IfOk result (λ found. IfSome found (IsPeriodOf day.now time.now)) }
 {
     let Some(begins) = second_at(day, time) else {
         return Ok(None);

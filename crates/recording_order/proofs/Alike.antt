@@ -17,7 +17,7 @@ use Rattle.recording_order.specs.declared.numbering.Numbering.{Numbering}
 use Rattle.recording_order.specs.declared.numbering.Standing.{Standing}
 use Rattle.recording_order.specs.declared.numbering.Standing.TheVariants.{AtOnce, Ahead, Afar}
 use Rattle.recording_order.specs.declared.offer.Offer.TheVariants.{Write, Waits, Doubled, First, Anew}
-use Rattle.recording_order.specs.Windows.{WindowView, numbering, renumbered, due_number, is_due, counted, one_doubled, one_reordered, with_doubled, with_reordered, passing, least, without, leaving, if_ripe, ripe, next_of, is_late, late_domain, least_in, last_of, with_last, is_doubled, has_room, held, Offered, now, first_or, offered_full, offered_ahead, offered_as, offered, noted, after_writing}
+use Rattle.recording_order.specs.Windows.{WindowView, numbering, renumbered, due_number, is_due, counted, one_doubled, one_reordered, with_doubled, with_reordered, passing, least, without, leaving, if_ripe, ripe, next_of, is_late, late_domain, least_in, last_of, with_last, is_doubled, has_room, held, Offered, now, first_or, offered_full, if_ahead, offered_as, offered, noted, after_writing}
 
 -- the counts of a domain begin anew
 abbrev plain : Numbering → Numbering
@@ -175,7 +175,7 @@ full-alike w v a alike = by (least w a.header.domain) ∙ ap (λ o. begun_offer 
         by_test l (nat_le l.place (place (due_number w a.header.domain) a.header.sequence))
         ∙ ap (λ n. begun_offer (cond (nat_le l.place (place n a.header.sequence)) (first_or (now v a.header.domain) (leaving v (Some l))) (now v a.header.domain))) due
 
-ahead-alike : (w v : WindowView) (a : Arrival) → begun w ≡ begun v → begun_offer (offered_ahead w a) ≡ begun_offer (offered_ahead v a)
+ahead-alike : (w v : WindowView) (a : Arrival) → begun w ≡ begun v → begun_offer (if_ahead w a) ≡ begun_offer (if_ahead v a)
 ahead-alike w v a alike =
     by (has_room w a.header.domain (length a.octets))
     ∙ ap (λ (u : WindowView). begun_offer (cond (has_room u a.header.domain (length a.octets)) (Waits, held v a) (offered_full v a.header (least v a.header.domain)))) alike

@@ -10,7 +10,7 @@ use Rattle.std.proofs.lemmas.List.Elements.{filter-append}
 use Rattle.indexmap.specs.IndexMap.{insert_entry}
 use Rattle.recording_order.specs.Arrivals.{Arrival, is_in}
 use Rattle.recording_order.specs.DataSets.{has_data}
-use Rattle.recording_order.specs.Domains.{KeepsDomain, LeavesDomain}
+use Rattle.recording_order.specs.Domains.{KeepsDomain, LeavesDomain, LeavesOthers}
 use Rattle.recording_order.specs.Leasts.{lesser, found_at, one_more, least_from}
 use Rattle.recording_order.specs.Numbers.{standing_of, is_at_due, numbers_after, place}
 use Rattle.recording_order.specs.declared.datagram_counts.DatagramCounts.{DatagramCounts}
@@ -247,7 +247,7 @@ take_with-leaves e says a (suc fuel) r apart =
     let o = offered r.window a in
     take_offered-leaves e says a (take_with says a fuel) r o.0 o.1 apart (offered-offers e r.window a apart) (λ s. take_with-leaves e says a fuel s apart)
 
-pub step-leaves : (says : Says) (r : Run) (a : Arrival) (e : ℕ) → e ≢ a.header.domain → LeavesDomain e r (step says r (Came a))
+pub step-leaves : (says : Says) (r : Run) (a : Arrival) → LeavesOthers a.header.domain r (step says r (Came a))
 step-leaves says r a e apart =
     let s = take_run says a r in
     leaves-both e r s (settle says a.header.domain a.second s) (take_with-leaves e says a (suc (length r.window.waiting)) r apart) (settle_with-leaves e a.header.domain a.second says (length s.window.waiting) s apart)

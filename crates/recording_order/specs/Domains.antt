@@ -1,5 +1,5 @@
 -- What a run has of one domain.
-use Rattle.std.specs.Prelude.{◌≡◌, ℕ, filter}
+use Rattle.std.specs.Prelude.{◌≡◌, ◌≢◌, ℕ, filter}
 use Rattle.recording_order.specs.Arrivals.{is_in}
 use Rattle.recording_order.specs.Releases.{Run}
 use Rattle.recording_order.specs.Windows.{WindowView, numbering}
@@ -14,3 +14,7 @@ pub record LeavesDomain (domain : ℕ) (before after : Run) : Type 0 where
   pub window : KeepsDomain domain before.window after.window
   pub handed_on : filter (is_in domain) after.handed_on ≡ filter (is_in domain) before.handed_on
   pub doubled : filter (is_in domain) after.doubled ≡ filter (is_in domain) before.doubled
+
+-- and so is every other domain than this
+abbrev pub LeavesOthers : ℕ → Run → Run → Type 0
+LeavesOthers own before after = (domain : ℕ) → domain ≢ own → LeavesDomain domain before after

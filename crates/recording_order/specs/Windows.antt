@@ -180,12 +180,12 @@ offered_full w h None = now w h.domain
 offered_full w h (Some l) =
     if nat_le l.place (place (due_number w h.domain) h.sequence) then first_or (now w h.domain) (leaving w (Some l)) else now w h.domain
 
-abbrev pub offered_ahead : WindowView → Arrival → Offered
-offered_ahead w a = if has_room w a.header.domain (length a.octets) then (Waits, held w a) else offered_full w a.header (least w a.header.domain)
+abbrev pub if_ahead : WindowView → Arrival → Offered
+if_ahead w a = if has_room w a.header.domain (length a.octets) then (Waits, held w a) else offered_full w a.header (least w a.header.domain)
 
 abbrev pub offered_as : WindowView → Arrival → Standing → Offered
 offered_as w a AtOnce = now w a.header.domain
-offered_as w a Ahead = offered_ahead w a
+offered_as w a Ahead = if_ahead w a
 offered_as w a Afar = (Anew, w)
 
 -- what is to be done with it, and what is kept then

@@ -1,13 +1,13 @@
 //! Laws of the definitions. Each is a function that does nothing, and its contract is the theorem: a
 //! call brings that to the proof of its caller.
 
-ghost use Rattle.std.specs.Prelude.{◌≡◌, ◌≢◌, ◌++◌, ◌<◌, ℕ, true, List, All, Some, None, Contains, length};
+ghost use Rattle.std.specs.Prelude.{◌≡◌, ◌++◌, ◌<◌, ℕ, true, List, All, Some, None, Contains, length};
 ghost use Rattle.recording_order.specs.Alike.{SameButCounts, StayAlike};
 ghost use Rattle.recording_order.specs.Arrivals.{Arrival, HaveSame};
 ghost use Rattle.recording_order.specs.Bounds.{IsBounded};
 ghost use Rattle.recording_order.specs.Counts.{with_counts_begun};
 ghost use Rattle.recording_order.specs.DataSets.{has_data};
-ghost use Rattle.recording_order.specs.Domains.{LeavesDomain};
+ghost use Rattle.recording_order.specs.Domains.{LeavesOthers};
 ghost use Rattle.recording_order.specs.Doubles.{IsSameAsOne};
 ghost use Rattle.recording_order.specs.InOrder.{AreInOrder};
 ghost use Rattle.recording_order.specs.Releases.{AsksOnlyFrom, Came, Course, Event, HandsOnEach, Run, Says, StaysHandedOn, all_of, came, empty, finish, hand_on, released, released_of, run, run_of, settle, settle_late, step, take_run, tick};
@@ -51,8 +51,8 @@ pub fn with_no_seconds_nothing_changes()
 /// A datagram of one domain changes nothing of another: neither what was handed on of it, nor what waits, nor
 /// what was doubled, nor its numbers. Only the room, and with it the last datagrams, are of the peer.
 pub fn domains_stay_apart()
-    ensures { (says : Says) (r : Run) (a : Arrival) (domain : ℕ) → domain ≢ a.header.domain
-        → LeavesDomain domain r (step says r (Came a)) }
+    ensures { (says : Says) (r : Run) (a : Arrival)
+        → LeavesOthers a.header.domain r (step says r (Came a)) }
 {}
 
 /// Those that wait and the last ones take at most 65,536 octets together; of a domain at most 32 wait, and at

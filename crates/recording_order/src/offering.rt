@@ -3,7 +3,7 @@
 ghost use Rattle.std.specs.Prelude.{◌≡◌, OnOk, OnErr};
 ghost use Rattle.recording_order.specs.Arrivals.{arrival};
 ghost use Rattle.recording_order.specs.Windows as specs;
-ghost use Rattle.recording_order.specs.Windows.{IsOffer, least, offered, offered_ahead, offered_full};
+ghost use Rattle.recording_order.specs.Windows.{IsOffer, least, offered, if_ahead, offered_full};
 
 use crate::data_sets::has_data;
 use crate::datagram::Datagram;
@@ -66,7 +66,7 @@ impl Window {
         second: u64,
     ) -> Result<Offer, AllocError>
         ensures ok { IsOffer result self.new
-            (offered_ahead self.old (arrival header.now second datagram.now)) }
+            (if_ahead self.old (arrival header.now second datagram.now)) }
         ensures err { OnErr result (self.new ≡ self.old) }
     {
         if !self.has_room(header.domain, datagram.len()) {

@@ -1,5 +1,5 @@
 -- What a recorder takes for a datagram.
-use Rattle.std.proofs.Common.{◌≡◌, ℕ, ◌≤◌, List, [], ◌∷◌, ◌++◌, take, drop, length, Ok, refl, sym, ap, ap₂, subst, ◌∙◌, append_assoc, arith, inl, inr, Bool, true, false, eqb, ltb}
+use Rattle.std.proofs.Common.{◌≡◌, ℕ, ◌≤◌, List, [], ◌∷◌, ◌++◌, take, drop, length, None, Ok, refl, sym, ap, ap₂, subst, ◌∙◌, append_assoc, arith, inl, inr, Bool, true, false, eqb, ltb}
 use Rattle.std.specs.Prelude.{◌≢◌, All, min, Result, Err, IfOk, IfErr, MatchResult}
 use Rattle.std.proofs.lemmas.Bool.{eqb-true, ltb-true, ltb-false}
 use Rattle.std.proofs.lemmas.List.{append-nil, map-append, take_min, take-append-drop}
@@ -23,7 +23,7 @@ use Rattle.ipfix_message.specs.declared.stamp.Stamp.{Stamp}
 use Rattle.ipfix_message.specs.TemplateMessages.{IsStamp, sets_octets, stamped, templates_message}
 use Rattle.ipfix_message.proofs.TemplateMessages.{header_is}
 use Rattle.recording_files.specs.Recordings.{Writes}
-use Rattle.recording_files.specs.Recorders.{State, Keeps, IsCountOf}
+use Rattle.recording_files.specs.Recorders.{FailsOn, ForKeeps, State, Keeps, IsCountOf}
 use Rattle.recording_files.proofs.Growing.{writes_more}
 use Rattle.ipfix_datagrams.specs.declared.reading.DatagramReading.{DatagramReading}
 use Rattle.ipfix_datagrams.specs.declared.withdrawn_template.WithdrawnTemplate.{WithdrawnTemplate}
@@ -351,3 +351,9 @@ taken_front {before} {here} {s} {h} {vs} {ws} {octets} same f = subst (λ (us : 
 pub answered : {A E : Type 0} (result : Result A E) (P : A → Type 0) (Q : E → Type 0) (R : A → Type 0) (S : E → Type 0) → IfOk result P → IfErr result Q → ((a : A) → P a → R a) → ((e : E) → Q e → S e) → MatchResult result R S
 answered (Ok a) P Q R S ok err f g = f a ok
 answered (Err e) P Q R S ok err f g = g e err
+
+-- why a message couldn't be read, after these messages
+pub fails_after : {A : Type 0} (s : State) (m : List ℕ) (result : Result A MessageFault) (before here : List Message) → Keeps s before here → IfErr result (λ fault. ForKeeps s (FailsOn fault m None))
+    → IfErr result (λ fault. Fails fault (message_gives (domains_after before here) m))
+fails_after s m (Ok x) before here keeps fails = tt
+fails_after s m (Err e) before here keeps fails = fails before here keeps

@@ -8,7 +8,7 @@ use Rattle.std.specs.BTreeMap.{BTreeMap, get}
 use Rattle.ipfix_wire.specs.declared.header.Header.{Header}
 use Rattle.ipfix_message.specs.Domains.{message_header}
 use Rattle.ipfix_datagrams.specs.Datagrams.{defines_template}
-use Rattle.recording_resumption.specs.Resumption.{after, due_left, is_resumed, is_waiting, left_after, resumed_by}
+use Rattle.recording_resumption.specs.Resumption.{LeftAfter, after, due_left, is_resumed, is_waiting, left_after, left_at, resumed_by}
 use Rattle.recording_resumption.specs.declared.earlier_domain.EarlierDomain.{EarlierDomain}
 use Rattle.recording_peer.specs.Peers.{Taken, Resumed, AreResumed, left_in, resumed_after, resumed_at, resumed_of}
 use Rattle.recording_peer.specs.Recording.{FiledDatagrams, KeepsLeft, LeftShown, filed_with, left_listed, left_shown, resumed_for, taken_in}
@@ -65,22 +65,19 @@ pub left_as_kept : (m earlier : BTreeMap ℕ EarlierDomain) (ts : List Taken) �
 left_as_kept m earlier ts keeps = record { at = λ domain. sym (lookup-listed (eq_by_cmp nat_cmp domain) m.entries) ∙ keeps.at domain }
 
 -- after one datagram
-abbrev left_by : ℕ → Option EarlierDomain → Header → Bool → Option EarlierDomain
-left_by domain o h defines = cond (eqb domain h.domain) (left_after o h defines) o
-
 abbrev left_by_shown : ℕ → Option LeftShown → Header → Bool → Option LeftShown
 left_by_shown domain o h defines = cond (eqb domain h.domain) (left_after_shown o h defines) o
 
-shown_by : (domain : ℕ) (o : Option EarlierDomain) (h : Header) (defines : Bool) → shown (left_by domain o h defines) ≡ left_by_shown domain (shown o) h defines
+shown_by : (domain : ℕ) (o : Option EarlierDomain) (h : Header) (defines : Bool) → shown (left_at domain o h defines) ≡ left_by_shown domain (shown o) h defines
 shown_by domain o h defines = by_test (eqb domain h.domain)
   where
     by_test : (b : Bool) → shown (cond b (left_after o h defines) o) ≡ cond b (left_after_shown (shown o) h defines) (shown o)
     by_test true = shown_after o h defines
     by_test false = refl
 
-left-push : (domain : ℕ) (o : Option EarlierDomain) (ts : List Taken) (t : Taken) → left_in domain o (ts ++ t ∷ []) ≡ left_by domain (left_in domain o ts) t.given.header (defines_template t.datagram)
+left-push : (domain : ℕ) (o : Option EarlierDomain) (ts : List Taken) (t : Taken) → left_in domain o (ts ++ t ∷ []) ≡ left_at domain (left_in domain o ts) t.given.header (defines_template t.datagram)
 left-push domain o [] t = refl
-left-push domain o (u ∷ us) t = left-push domain (left_by domain o u.given.header (defines_template u.datagram)) us t
+left-push domain o (u ∷ us) t = left-push domain (left_at domain o u.given.header (defines_template u.datagram)) us t
 
 resumed-push : (earlier : BTreeMap ℕ EarlierDomain) (before ts : List Taken) (t : Taken) → AreResumed earlier before ts → t.resumed ≡ resumed_after earlier (before ++ ts) t.given.header → AreResumed earlier before (ts ++ t ∷ [])
 resumed-push earlier before [] t are is = (is ∙ ap (λ (us : List Taken). resumed_after earlier us t.given.header) (append-nil before), tt)
@@ -96,7 +93,7 @@ are_resumed filed t are is = subst (AreResumed filed.earlier []) (sym (taken_in-
 
 -- what is left then
 pub keeps_left : (now new : BTreeMap ℕ EarlierDomain) (filed : FiledDatagrams) (t : Taken) → KeepsIn now filed.earlier (taken_in filed)
-    → ((q : ℕ) → get nat_cmp new q ≡ left_by q (get nat_cmp now q) t.given.header (defines_template t.datagram)) → KeepsIn new filed.earlier (taken_in (filed_with filed t))
+    → LeftAfter now new t.given.header (defines_template t.datagram) → KeepsIn new filed.earlier (taken_in (filed_with filed t))
 keeps_left now new filed t left is = record {
   at = λ q.
       let h = t.given.header in

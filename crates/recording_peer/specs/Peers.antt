@@ -18,7 +18,7 @@ use Rattle.ipfix_datagrams.specs.Datagrams.{Basis, Preparation, IsTaken, defines
 use Rattle.ipfix_datagrams.specs.Withdrawals.{withdrawal_message}
 use Rattle.ipfix_datagrams.specs.declared.withdrawal.TheConstants.{MOST_WITHDRAWN}
 use Rattle.ipfix_message.specs.Outcome.{Read}
-use Rattle.recording_resumption.specs.Resumption.{due_left, left_after, resumed_by}
+use Rattle.recording_resumption.specs.Resumption.{due_left, left_at, resumed_by}
 use Rattle.recording_resumption.specs.declared.earlier_domain.EarlierDomain.{EarlierDomain}
 use Rattle.ipfix_datagrams.specs.declared.withdrawn_template.WithdrawnTemplate.{WithdrawnTemplate}
 use Rattle.recording_peer.specs.declared.resumption.Resumption.{Resumption}
@@ -79,7 +79,7 @@ records_over_udp ts = records_in (givens ts)
 -- what is left of a domain after datagrams: those of others change nothing
 abbrev pub left_in : ℕ → Option EarlierDomain → List Taken → Option EarlierDomain
 left_in domain o [] = o
-left_in domain o (t ∷ ts) = left_in domain (if domain == t.given.header.domain then left_after o t.given.header (defines_template t.datagram) else o) ts
+left_in domain o (t ∷ ts) = left_in domain (left_at domain o t.given.header (defines_template t.datagram)) ts
 
 -- what is resumed before a datagram with this header, after these, by what the earlier run left
 abbrev pub resumed_after : BTreeMap ℕ EarlierDomain → List Taken → Header → Resumed

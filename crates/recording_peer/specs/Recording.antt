@@ -234,6 +234,10 @@ pub record IsPeer (first after : FilesView) (s : PeerView) (filed : FiledDatagra
 abbrev pub Whichever : PeerView → (FiledDatagrams → Type 0) → Type 0
 Whichever s IsSo = (first after : FilesView) (filed : FiledDatagrams) → IsPeer first after s filed → IsSo filed
 
+-- and so of those that were taken, in their order
+abbrev pub AfterTaken : PeerView → (List Taken → Type 0) → Type 0
+AfterTaken s IsSo = Whichever s (λ filed. IsSo (taken_in filed))
+
 -- ---- a call fails
 
 -- a call of the files failed: after the datagrams are the first octets of what was to be written for this one
@@ -277,6 +281,10 @@ resumed_next filed h = resumed_after filed.earlier (taken_in filed) h
 
 abbrev pub resumed_for : FiledDatagrams → List ℕ → Resumed
 resumed_for filed m = resumed_at filed.earlier (taken_in filed) (message_header m)
+
+-- whichever datagrams a recorder represents, this is so of what is resumed before the next
+abbrev pub ForResumed : PeerView → Header → (Resumed → Type 0) → Type 0
+ForResumed s h IsSo = Whichever s (λ filed. IsSo (resumed_next filed h))
 
 -- a datagram was taken at a second after these, and is in the file that isn't finished; this is what it adds to the counts. Each id that
 -- it defines has a template then
@@ -404,6 +412,21 @@ pub record IsPeerTold (r : PeerSession) (filed : FiledDatagrams) : Type 0 where
 -- and so of whatever was counted
 abbrev pub Tells : PeerTold → PeerSession → Type 0
 Tells c r = (filed : FiledDatagrams) → Counts c filed → IsPeerTold r filed
+
+abbrev pub ForTold : PeerTold → (PeerSession → Type 0) → Type 0
+ForTold c P = (r : PeerSession) → Tells c r → P r
+
+-- a peer that ended so by a fault, while a datagram was taken, and what has come into its files since the first
+pub record EndedBy (By : RecordFault → FilesView → FilesView → PeerTold → FiledDatagrams → List ℕ → Type 0) : Type 0 where
+  pub fault : RecordFault
+  pub first : FilesView
+  pub after : FilesView
+  pub told : PeerTold
+  pub filed : FiledDatagrams
+  pub datagram : List ℕ
+  pub by : By fault first after told filed datagram
+  pub since : Contents
+  pub came : CameAfter first after since
 
 -- the reports that were given with files, and that of the file that isn't finished, add up to the session's
 abbrev pub ReportsAddUp : List FileReport → PeerSession → Type 0

@@ -12,7 +12,7 @@ ghost use Rattle.ipfix_datagrams.specs.Datagrams.{HasTemplateIds};
 ghost use Rattle.ipfix_datagrams.specs.Withdrawals.{HasTemplateId};
 ghost use Rattle.recording_files.specs.Files.{FilesView};
 ghost use Rattle.recording_peer.specs.Peers.{resumption_in, resumption_with};
-ghost use Rattle.recording_peer.specs.Recording.{BarsShown, FiledDatagrams, IsRecorded, HasStopped, FinishesFile, Whichever, counted_report, resumed_next, taken_in};
+ghost use Rattle.recording_peer.specs.Recording.{AfterTaken, BarsShown, FiledDatagrams, ForResumed, IsRecorded, HasStopped, FinishesFile, Whichever, counted_report};
 ghost use Rattle.recording_peer.specs.Fronts.{HasRead, ReadsAfter, ReadsWhere};
 ghost use Rattle.recording_peer.specs.Late.{is_late};
 
@@ -63,7 +63,7 @@ impl PeerRecorder {
 
     // The sequence number that was due when an earlier run ended, if its domain goes on with this datagram.
     fn due_left(&self, header: &Header) -> Option<u32>
-        ensures { Whichever self.now (λ filed. result ≡ (resumed_next filed header.now).due) }
+        ensures { ForResumed self.now header.now (λ r. result ≡ r.due) }
     {
         match resumed(&self.earlier, header) {
             Some(domain) => domain.due(),
@@ -73,8 +73,8 @@ impl PeerRecorder {
 
     // Which domain goes on with this datagram after an earlier run, if that left templates in it.
     fn resumption(&self, header: &Header) -> Option<Resumption>
-        ensures { Whichever self.now
-            (λ filed. result ≡ resumption_with header.now (resumed_next filed header.now)) }
+        ensures { ForResumed self.now header.now
+            (λ r. result ≡ resumption_with header.now r) }
     {
         match resumed(&self.earlier, header) {
             Some(domain) => resumption_of(domain, header.domain),
@@ -84,8 +84,8 @@ impl PeerRecorder {
 
     // Whether a datagram with this header comes late.
     fn is_late(&self, header: &Header) -> bool
-        ensures { Whichever self.now
-            (λ filed. result ≡ is_late self.now.known.reorder (taken_in filed) header.now) }
+        ensures { AfterTaken self.now
+            (λ ts. result ≡ is_late self.now.known.reorder ts header.now) }
     {
         if 0 < self.known.reorder {
             self.advances.is_before(header.domain, header.sequence)

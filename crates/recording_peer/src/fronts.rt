@@ -1,16 +1,15 @@
 //! The messages of the recorder's own in front of a datagram.
 
-ghost use Rattle.std.specs.Prelude.{◌≡◌, ◌≤◌, List, Ok, All, length, IfOk, IfErr};
+ghost use Rattle.std.specs.Prelude.{◌≡◌, ◌≤◌, List, Ok, None, All, length, IfOk, IfErr};
 ghost use Rattle.std.specs.BTreeMap.{values};
-ghost use Rattle.ipfix_message.specs.Domains.{Message, message_header, message_gives};
-ghost use Rattle.ipfix_message.specs.Outcome.{Fails};
+ghost use Rattle.ipfix_message.specs.Domains.{Message, message_header};
 ghost use Rattle.ipfix_message.specs.WrittenTemplates.{IsTemplate};
-ghost use Rattle.ipfix_datagrams.specs.Attempts.{OrOutOfMemory};
+ghost use Rattle.ipfix_datagrams.specs.Attempts.{OkIfMemory};
 ghost use Rattle.ipfix_datagrams.specs.Datagrams.{Preparation};
 ghost use Rattle.ipfix_datagrams.specs.Withdrawals.{HasTemplateId};
 ghost use Rattle.ipfix_datagrams.specs.declared.withdrawal.TheConstants.{MOST_WITHDRAWN};
-ghost use Rattle.recording_files.specs.Recorders.{Keeps};
-ghost use Rattle.recording_peer.specs.Fronts.{domains_after, HasAppeared, CanWithdraw, CanDefineNext, Took, TookOne, TookDefinition, TookWithdrawals, TakesDatagram, TakesDefinitions, TookPrepared};
+ghost use Rattle.recording_files.specs.Recorders.{FailsOn, ForKeeps};
+ghost use Rattle.recording_peer.specs.Fronts.{HasAppeared, CanWithdraw, CanDefineNext, Took, TookOne, TookDefinition, TookWithdrawals, TakesDatagram, TakesDefinitions, TookPrepared};
 
 use ipfix_datagrams::{DatagramReading, MOST_WITHDRAWN, WithdrawnTemplate, append_withdrawals};
 use ipfix_message::{MessageFault, Stamp, Template, Templates, append_template_message, header_of};
@@ -28,10 +27,10 @@ fn take_and_append(
     out: &mut Vec<u8>,
 ) -> Result<MessageCount, MessageFault>
     requires { message_header message.now ≡ Ok header.now }
-    ensures took { (before here : List Message) → Keeps recorder.old before here
-        → IfOk result (Took before here recorder.new message.now out.old.items out.new.items) }
-    ensures fails { (before here : List Message) → Keeps recorder.old before here → IfErr result
-        (λ fault. Fails fault (message_gives (domains_after before here) message.now)) }
+    ensures took { ForKeeps recorder.old (λ before here.
+        IfOk result (Took before here recorder.new message.now out.old.items out.new.items)) }
+    ensures fails { IfErr result
+        (λ fault. ForKeeps recorder.old (FailsOn fault message.now None)) }
 {
     let mut lead = Vec::new(alloc);
     let count = recorder.take_message(alloc, header, message, &mut lead)?;
@@ -50,9 +49,9 @@ fn take_one(
 ) -> Result<(), MessageFault>
     requires few { length templates.now ≤ MOST_WITHDRAWN }
     requires ids { All HasTemplateId templates.now }
-    ensures { (before here : List Message) → Keeps recorder.old before here
-        → HasAppeared before here header.now.domain → OrOutOfMemory result
-        (λ _. TookOne before here recorder.new header.now templates.now out.old.items out.new.items) }
+    ensures { ForKeeps recorder.old (λ before here.
+        HasAppeared before here header.now.domain → OkIfMemory result
+        (TookOne before here recorder.new header.now templates.now out.old.items out.new.items)) }
 {
     let mut message = Vec::new(alloc);
     append_withdrawals(header, templates, &mut message)?;
@@ -71,10 +70,9 @@ fn take_withdrawals(
     out: &mut Vec<u8>,
 ) -> Result<(), MessageFault>
     requires { All HasTemplateId withdrawn.now }
-    ensures { (before here : List Message) → Keeps recorder.old before here
-        → CanWithdraw before here header.now.domain withdrawn.now
-        → OrOutOfMemory result (λ _. TookWithdrawals before here recorder.new header.now
-        withdrawn.now out.new.items) }
+    ensures { ForKeeps recorder.old (λ before here.
+        CanWithdraw before here header.now.domain withdrawn.now → OkIfMemory result
+        (TookWithdrawals before here recorder.new header.now withdrawn.now out.new.items)) }
 {
     out.clear();
     let mut rest = withdrawn;
@@ -95,10 +93,9 @@ fn take_definition(
     out: &mut Vec<u8>,
 ) -> Result<(), MessageFault>
     requires { IsTemplate template.now }
-    ensures { (before here : List Message) → Keeps recorder.old before here
-        → CanDefineNext before here stamp.domain template.now
-        → OrOutOfMemory result (λ _. TookDefinition before here recorder.new stamp
-        template.now out.old.items out.new.items) }
+    ensures { ForKeeps recorder.old (λ before here.
+        CanDefineNext before here stamp.domain template.now → OkIfMemory result
+        (TookDefinition before here recorder.new stamp template.now out.old.items out.new.items)) }
 {
     let mut body = Vec::new(alloc);
     let mut message = Vec::new(alloc);
@@ -118,8 +115,8 @@ fn take_definitions(
 ) -> Result<(), MessageFault>
     ensures { (before here : List Message) (p : Preparation)
         → TakesDefinitions before here recorder.old header.now p (values defined.now)
-        out.old.items → OrOutOfMemory result
-        (λ _. TookPrepared before here recorder.new header.now p out.new.items) }
+        out.old.items → OkIfMemory result
+        (TookPrepared before here recorder.new header.now p out.new.items) }
 {
     let stamp = Stamp {
         export_time: header.export_time,

@@ -3,13 +3,12 @@
 
 ghost use Rattle.std.specs.Prelude.{◌∷◌, [], ℕ, List};
 ghost use Rattle.ipfix_session.specs.Given.{octets_of};
-ghost use Rattle.recording_files.specs.declared.record_fault.RecordFault.{RecordFault};
 ghost use Rattle.recording_files.specs.FileReports.{AddUp};
-ghost use Rattle.recording_files.specs.Files.{Contents, FilesView, all_of};
+ghost use Rattle.recording_files.specs.Files.{all_of};
 ghost use Rattle.recording_peer.specs.declared.peer_session.PeerSession.{PeerSession};
 ghost use Rattle.recording_peer.specs.Peers.{known_after_all};
 ghost use Rattle.recording_peer.specs.Places.{SaysInForce};
-ghost use Rattle.recording_peer.specs.Recording.{FiledDatagrams, Held, PeerView, StopsAt, TurnedUnknown, HasStopped, CameAfter, GiveRecordsOverUdp, KeepsWhole, PeerTold, IsPeerTold, Tells, ReportsAddUp, Whichever, taken_in};
+ghost use Rattle.recording_peer.specs.Recording.{AfterTaken, EndedBy, ForTold, Held, PeerView, StopsAt, TurnedUnknown, HasStopped, GiveRecordsOverUdp, KeepsWhole, IsPeerTold, ReportsAddUp, taken_in};
 
 /// The files of a peer, with the one that isn't finished, are each read by itself as a session of a
 /// connection is, with no fault; and one after another they give the data records of the datagrams that
@@ -28,9 +27,8 @@ pub fn files_are_one_session()
 
 /// The files of a peer that ended with a fault, while this datagram was taken, keep the whole datagrams.
 pub fn files_keep_whole_datagrams()
-    ensures { (fault : RecordFault) (first after : FilesView) (since : Contents) (c : PeerTold)
-        (filed : FiledDatagrams) (m : List ℕ) → HasStopped fault first after c filed m
-        → CameAfter first after since → KeepsWhole (taken_in filed) m (all_of since) }
+    ensures { (e : EndedBy HasStopped)
+        → KeepsWhole (taken_in e.filed) e.datagram (all_of e.since) }
 {}
 
 /// The reports that were given with the files of a peer, with that of the file that isn't finished, add up to
@@ -40,19 +38,13 @@ pub fn files_keep_whole_datagrams()
 pub fn file_reports_add_up()
     ensures told { (cut_off : List ℕ) (h : Held cut_off) (r : PeerSession)
         → IsPeerTold r h.filed → ReportsAddUp h.since.reports r }
-    ensures stopped { (first after : FilesView) (since : Contents) (c : PeerTold)
-        (filed : FiledDatagrams) (m : List ℕ) (r : PeerSession)
-        → StopsAt first after c filed m → Tells c r → CameAfter first after since
-        → ReportsAddUp since.reports r }
-    ensures turned { (first after : FilesView) (since : Contents) (c : PeerTold)
-        (filed : FiledDatagrams) (r : PeerSession) → TurnedUnknown first after c filed
-        → Tells c r → CameAfter first after since
-        → AddUp since.reports r.session.report }
+    ensures stopped { (e : EndedBy (λ _. StopsAt)) → ForTold e.told (ReportsAddUp e.since.reports) }
+    ensures turned { (e : EndedBy (λ _ first after c filed _. TurnedUnknown first after c filed))
+        → ForTold e.told (λ r. AddUp e.since.reports r.session.report) }
 {}
 
 /// Whether a peer has a template ([`PeerRecorder::has_template`](crate::PeerRecorder::has_template)) says whether one is in force
 /// over UDP: it is known in one of the domains, and its id isn't one of those that have none.
 pub fn has_template_in_force()
-    ensures { (s : PeerView)
-        → Whichever s (λ filed. SaysInForce s (known_after_all (taken_in filed))) }
+    ensures { (s : PeerView) → AfterTaken s (λ ts. SaysInForce s (known_after_all ts)) }
 {}

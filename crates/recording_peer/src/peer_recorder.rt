@@ -55,8 +55,7 @@ impl PeerRecorder {
     /// domain 16. An earlier run may have left templates in its domains. A datagram that comes late replaces no template that was
     /// sent after it, and taken at most so many seconds before it; with 0 each that comes does.
     pub fn new(alloc: Global, earlier: EarlierDomains, budget: u64, reorder: u64) -> Self
-        ensures peer { (files : FilesView) → IsEmpty files.contents
-            → IsPeer files files result (none_filed earlier) }
+        ensures peer { (v : FilesView) → IsEmpty v.contents → IsPeer v v result (none_filed earlier) }
         ensures earlier { result.earlier ≡ left_listed earlier.entries }
         ensures budget { result.known.budget ≡ budget }
         ensures reorder { result.known.reorder ≡ reorder }

@@ -14,7 +14,7 @@ use Rattle.recording_peers.specs.declared.turn.Turn.{Turn}
 use Rattle.recording_peers.specs.declared.outcome.Became.{Became}
 use Rattle.recording_peers.specs.declared.outcome.Became.TheVariants.{Taken, Ended, NoPlace, NoMemory}
 use Rattle.recording_peers.specs.Calls.{Takes, TakesTurn}
-use Rattle.recording_peers.specs.Table.{same_peer, address_of, entry_of, of_peer, with_first, others_than_last}
+use Rattle.recording_peers.specs.Table.{same_peer, address_of, entry_of, of_peer, with_first, without_last}
 use Rattle.recording_peers.specs.Steps.{Reception, Begins, BeginsWith, ComesTo, BeginsBy, PutsIn, TakesKept, TakesIn, RecordsBy, Records, GoesOn, became_by, gone_for, kept_by, ended_by, first_by}
 use Rattle.recording_peers.proofs.Tables.{IsLast, written, taken_out, value_out, begun, begun_first, begun_others, last_first, last_out, last_there}
 
@@ -140,7 +140,7 @@ module _ {F : Type 0} (seen : F → FilesView) where
         orders = refl;
         resumed = refl;
         ended = none ∙ sym (ap (λ a. ended_by a new) ok);
-        others = left ∙ last_first es e new l ∙ sym (ap (λ a. first_by a e.0 new (others_than_last es)) ok);
+        others = left ∙ last_first es e new l ∙ sym (ap (λ a. first_by a e.0 new (without_last es)) ok);
       }
 
   pub went_out : (second : ℕ) (is_over : Bool) (es after : List (SocketAddr × PeerState F)) (e : SocketAddr × PeerState F) (old new : PeerState F) (turn : Turn) (fault : RecordFault) (ended : Option (PeerState F))
@@ -161,5 +161,5 @@ module _ {F : Type 0} (seen : F → FilesView) where
         orders = refl;
         resumed = refl;
         ended = popped ∙ value_out e.0 es e.1 new there ∙ sym (ap (λ a. ended_by a new) failed);
-        others = left ∙ last_out es e new l ∙ sym (ap (λ a. first_by a e.0 new (others_than_last es)) failed);
+        others = left ∙ last_out es e new l ∙ sym (ap (λ a. first_by a e.0 new (without_last es)) failed);
       }

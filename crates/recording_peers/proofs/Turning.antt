@@ -9,7 +9,7 @@ use Rattle.recording_peers.specs.declared.peer_state.PeerState.{PeerState}
 use Rattle.recording_peers.specs.declared.in_turn.InTurn.{InTurn}
 use Rattle.recording_peers.specs.Happenings.{Happening, SecondBegan}
 use Rattle.recording_peers.specs.Kept.{IsSession}
-use Rattle.recording_peers.specs.Table.{Beside, Both, others_than_last}
+use Rattle.recording_peers.specs.Table.{Beside, Both, without_last}
 use Rattle.recording_peers.specs.Steps.{GoesOn, ended_by, first_by}
 use Rattle.recording_peers.specs.Sessions.{PeerHappenings, StandFor, StandInTurn, StandAfterTurn, EvictedStands}
 use Rattle.recording_peers.proofs.Paired.{paired_get, paired_take, paired_length}
@@ -19,7 +19,7 @@ module _ {F : Type 0} (seen : F → FilesView) (limits : PeerLimits) where
   abbrev Stands : PeerState F → List Happening → Type 0
   Stands k hs = IsSession seen k limits hs
 
-  pub before_last : (es : List (SocketAddr × PeerState F)) (cs : PeerHappenings) → StandFor seen limits es cs → StandFor seen limits (others_than_last es) (others_than_last cs)
+  pub before_last : (es : List (SocketAddr × PeerState F)) (cs : PeerHappenings) → StandFor seen limits es cs → StandFor seen limits (without_last es) (without_last cs)
   before_last es cs p = subst (λ n. StandFor seen limits (take (length es - 1) es) (take (n - 1) cs)) (paired_length Stands es cs p) (paired_take Stands es cs (length es - 1) p)
 
   pub last_beside : (es : List (SocketAddr × PeerState F)) (cs : PeerHappenings) → StandFor seen limits es cs → EvictedStands seen limits (last_entry es) (last_entry cs)
@@ -33,10 +33,10 @@ module _ {F : Type 0} (seen : F → FilesView) (limits : PeerLimits) where
 
   module _ (laws : Laws) where
     in_turn : (second : ℕ) (answer : Result (Unit {0}) RecordFault) (peer : SocketAddr) (new : PeerState F) (es after : List (SocketAddr × PeerState F)) (cs : PeerHappenings) (c : SocketAddr × List Happening) → StandFor seen limits es cs
-        → peer ≡ c.0 → StandsBy seen laws limits answer new (c.1 ++ SecondBegan second ∷ []) → after ≡ first_by answer peer new (others_than_last es) → StandInTurn seen limits second (ended_by answer new) after cs c
+        → peer ≡ c.0 → StandsBy seen laws limits answer new (c.1 ++ SecondBegan second ∷ []) → after ≡ first_by answer peer new (without_last es) → StandInTurn seen limits second (ended_by answer new) after cs c
     in_turn second (Ok x) peer new es after cs c p same s e =
-        subst (λ l. StandFor seen limits l ((c.0, c.1 ++ SecondBegan second ∷ []) ∷ others_than_last cs)) (sym e) ((same, s), before_last es cs p)
-    in_turn second (Err fault) peer new es after cs c p same s e = (subst (λ l. StandFor seen limits l (others_than_last cs)) (sym e) (before_last es cs p), s)
+        subst (λ l. StandFor seen limits l ((c.0, c.1 ++ SecondBegan second ∷ []) ∷ without_last cs)) (sym e) ((same, s), before_last es cs p)
+    in_turn second (Err fault) peer new es after cs c p same s e = (subst (λ l. StandFor seen limits l (without_last cs)) (sym e) (before_last es cs p), s)
 
     pub stand_in_turn : (second : ℕ) (is_over : Bool) (es after : List (SocketAddr × PeerState F)) (cs : PeerHappenings) (t : InTurn F) → StandFor seen limits es cs → GoesOn seen second is_over es after t
         → StandAfterTurn seen limits second t after cs

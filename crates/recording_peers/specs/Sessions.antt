@@ -11,7 +11,7 @@ use Rattle.recording_peers.specs.declared.in_turn.InTurn.{InTurn}
 use Rattle.recording_peers.specs.Happenings.{Happening, DatagramCame, SecondBegan}
 use Rattle.recording_peers.specs.Kept.{IsSession, HasEnded}
 use Rattle.recording_peers.specs.Steps.{PeerSessions, Reception}
-use Rattle.recording_peers.specs.Table.{address_of, entry_of, of_peer, others_for, with_first, others_than_last, Beside, Paired, Both}
+use Rattle.recording_peers.specs.Table.{address_of, entry_of, of_peer, others_for, with_first, without_last, Beside, Paired, Both}
 
 -- peers, each with what happened to it since its session began, in order
 abbrev pub PeerHappenings : Type 0
@@ -58,8 +58,8 @@ module _ {F : Type 0} (seen : F → FilesView) (limits : PeerLimits) where
 
   -- after the turn of the last one, as a second began
   abbrev pub StandInTurn : ℕ → Option (PeerState F) → PeerSessions F → PeerHappenings → SocketAddr × List Happening → Type 0
-  StandInTurn second None after cs c = StandFor after ((c.0, c.1 ++ SecondBegan second ∷ []) ∷ others_than_last cs)
-  StandInTurn second (Some k) after cs c = StandFor after (others_than_last cs) × HasEnded seen k limits (c.1 ++ SecondBegan second ∷ [])
+  StandInTurn second None after cs c = StandFor after ((c.0, c.1 ++ SecondBegan second ∷ []) ∷ without_last cs)
+  StandInTurn second (Some k) after cs c = StandFor after (without_last cs) × HasEnded seen k limits (c.1 ++ SecondBegan second ∷ [])
 
   pub record StandAfterTurn (second : ℕ) (t : InTurn F) (after : PeerSessions F) (cs : PeerHappenings) : Type 0 where
     pub last : SocketAddr × List Happening

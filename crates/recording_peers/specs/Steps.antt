@@ -20,7 +20,7 @@ use Rattle.recording_peers.specs.declared.in_turn.InTurn.{InTurn}
 use Rattle.recording_peers.specs.declared.turn.Turn.{Turn}
 use Rattle.recording_peers.specs.Kept.{IsSession}
 use Rattle.recording_peers.specs.Calls.{Takes, TakesTurn}
-use Rattle.recording_peers.specs.Table.{address_of, entry_of, last_of, of_peer, others_for, with_first, others_than_last}
+use Rattle.recording_peers.specs.Table.{address_of, entry_of, last_of, of_peer, others_for, with_first, without_last}
 
 -- peers that are kept, each with its session, in the order of their last datagrams, the latest first
 abbrev pub PeerSessions : Type 0 → Type 0
@@ -178,7 +178,7 @@ pub record GoesOn {F : Type 0} (seen : F → FilesView) (second : ℕ) (is_over 
   pub orders : t.orders ≡ turn.orders
   pub resumed : t.resumed ≡ turn.resumed
   pub ended : t.ended ≡ ended_by turn.answer new
-  pub others : after ≡ first_by turn.answer t.peer new (others_than_last es)
+  pub others : after ≡ first_by turn.answer t.peer new (without_last es)
 
 -- of the last one, which was silent for longest, a datagram came since then
 abbrev pub LastIsHeard : {F : Type 0} → ℕ → PeerSessions F → Type 0

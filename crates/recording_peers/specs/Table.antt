@@ -40,8 +40,8 @@ last_of holds [] = None
 last_of holds (e ∷ es) = option_or (last_of holds es) (if holds e.1 then Some e else None)
 
 -- the others than the last one, which was silent for longest
-abbrev pub others_than_last : {X : Type 0} → List (SocketAddr × X) → List (SocketAddr × X)
-others_than_last es = take (length es - 1) es
+abbrev pub without_last : {X : Type 0} → List (SocketAddr × X) → List (SocketAddr × X)
+without_last es = take (length es - 1) es
 
 -- ---- two tables of the same peers in the same order, whose values are related
 

@@ -4,19 +4,19 @@
 ghost use Rattle.std.specs.Prelude.{◌≡◌, ◌++◌, ℕ, Bool, List, Ok, false};
 ghost use Rattle.std.specs.declared.net.socket_addr.SocketAddr.{SocketAddr};
 ghost use Rattle.lru.specs.LruCache.{last_entry};
-ghost use Rattle.recording_order.specs.InOrder.{AreNext};
-ghost use Rattle.recording_order.specs.Releases.{finish, start};
+ghost use Rattle.recording_order.specs.InOrder.{AreInOrder};
+ghost use Rattle.recording_order.specs.Releases.{finish};
 ghost use Rattle.recording_peers.specs.declared.peer_state.PeerState.{PeerState};
 ghost use Rattle.recording_peers.specs.declared.peer_limits.PeerLimits.{PeerLimits};
 ghost use Rattle.recording_peers.specs.declared.in_turn.InTurn.{InTurn};
 ghost use Rattle.recording_peers.specs.Calls.{Follows};
-ghost use Rattle.recording_peers.specs.Happenings.{Happening, events_of};
-ghost use Rattle.recording_peers.specs.Kept.{IsReleased, IsSession, Recording, says_of};
+ghost use Rattle.recording_peers.specs.Happenings.{Happening};
+ghost use Rattle.recording_peers.specs.Kept.{IsReleased, IsSession, Recording};
 ghost use Rattle.recording_peers.specs.Runs.{AreRecorded, IsNeverEvicted, happened_after, own_of};
-ghost use Rattle.recording_peers.specs.Sessions.{EvictedStands, PeerHappenings, StandAfter, StandAfterTurn, StandFor, happened_to};
-ghost use Rattle.recording_peers.specs.Standings.{HasAllThatCame, Released, Standing};
+ghost use Rattle.recording_peers.specs.Sessions.{EvictedStands, PeerHappenings, StandAfter, StandAfterTurn, happened_to};
+ghost use Rattle.recording_peers.specs.Standings.{HasAllThatCame, Released, StandIn, Standing, course_of};
 ghost use Rattle.recording_peers.specs.Steps.{GoesOn, PeerSessions, Reception, Records};
-ghost use Rattle.recording_peers.specs.Table.{others_than_last};
+ghost use Rattle.recording_peers.specs.Table.{without_last};
 
 use crate::peer_place::PeerPlace;
 use recording_files::FileSeries;
@@ -52,9 +52,10 @@ pub fn sessions_stand_in_turn<F: FileSeries>()
 
 /// The peer that was silent for longest stands for its own when it goes out, and the others for theirs.
 pub fn sessions_stand_without_the_last<F: FileSeries>()
-    ensures { (s : Standing F.seen)
-        → EvictedStands F.seen s.limits (last_entry s.sessions) (last_entry s.own)
-        × StandFor F.seen s.limits (others_than_last s.sessions) (others_than_last s.own) }
+    ensures last { (s : Standing F.seen)
+        → EvictedStands F.seen s.limits (last_entry s.sessions) (last_entry s.own) }
+    ensures others { (s : Standing F.seen)
+        → StandIn s (without_last s.sessions) (without_last s.own) }
 {}
 
 /// Over datagrams of any peers, one after another: the session of each peer that is kept then stands for the
@@ -63,7 +64,7 @@ pub fn sessions_stand_without_the_last<F: FileSeries>()
 pub fn sessions_stand_for_their_own<F: FileSeries, P: PeerPlace<F>>()
     ensures stand { (s : Standing F.seen) (most : ℕ) (rs : List (Reception F)) (after : PeerSessions F)
         → AreRecorded F.seen P.made_for s.limits most rs s.sessions after
-        → StandFor F.seen s.limits after (happened_after rs s.own) }
+        → StandIn s after (happened_after rs s.own) }
     ensures own { (rs : List (Reception F)) (cs : PeerHappenings) (peer : SocketAddr)
         → IsNeverEvicted peer rs cs
         → happened_to peer (happened_after rs cs) ≡ happened_to peer cs ++ own_of peer rs }
@@ -79,10 +80,8 @@ pub fn files_have_what_is_released<F: FileSeries>()
     ensures released { (old new : PeerState F) (limits : PeerLimits) (hs : List Happening)
         → IsSession F.seen old limits hs → Follows F.seen finish false old new (Ok tt)
         → (p : Recording) × IsReleased F.seen new limits hs p }
-    ensures off { (r : Released F.seen) → r.limits.reorder ≡ 0 → HasAllThatCame r }
-    ensures in_order { (r : Released F.seen)
-        → AreNext (says_of r.recording.said) (start r.limits.reorder) (events_of r.happened)
-        → HasAllThatCame r }
+    ensures off { (r : Released F.seen) → (course_of r).seconds ≡ 0 → HasAllThatCame r }
+    ensures in_order { (r : Released F.seen) → AreInOrder (course_of r) → HasAllThatCame r }
 {
     only_what_was_handed_on_is_asked();
     counts_change_nothing();

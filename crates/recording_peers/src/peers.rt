@@ -4,7 +4,7 @@ ghost use Rattle.std.specs.Prelude.{◌≡◌, ◌<◌, ◌==◌, [], Some, None
 ghost use Rattle.std.specs.NonZero.{non_zero_usize_get};
 ghost use Rattle.lru.specs.LruCache.{last_entry};
 ghost use Rattle.recording_peers.specs.Steps.{KeepsLimits, KeepsNone, LastIsHeard, PeersGoOn, PeersRecord};
-ghost use Rattle.recording_peers.specs.Table.{others_than_last};
+ghost use Rattle.recording_peers.specs.Table.{without_last};
 
 use crate::in_turn::InTurn;
 use crate::outcome::Outcome;
@@ -118,7 +118,7 @@ impl<F: FileSeries + Drop> Peers<F> {
         ensures silent { IfSome result (λ e. e.1.heard < since) }
         ensures last { IfSome result (λ e. last_entry self.old.kept.entries ≡ Some e) }
         ensures rest { IfSome result
-            (λ _. self.new.kept.entries ≡ others_than_last self.old.kept.entries) }
+            (λ _. self.new.kept.entries ≡ without_last self.old.kept.entries) }
         ensures limits { KeepsLimits self.old self.new }
     {
         let (_, kept) = self.kept.peek_lru()?;
@@ -132,7 +132,7 @@ impl<F: FileSeries + Drop> Peers<F> {
     /// Takes out the peer that was silent for longest.
     pub fn take_out(&mut self) -> Option<(SocketAddr, PeerState<F>)>
         ensures last { result ≡ last_entry self.old.kept.entries }
-        ensures others { self.new.kept.entries ≡ others_than_last self.old.kept.entries }
+        ensures others { self.new.kept.entries ≡ without_last self.old.kept.entries }
         ensures limits { KeepsLimits self.old self.new }
     {
         self.kept.pop_lru()

@@ -1,6 +1,6 @@
 //! Datagrams in memory, for tests.
 
-ghost use Rattle.std.specs.Prelude.{◌≡◌, ◌⊎◌, ◌≤◌, [], ◌∷◌, false, true, length, slice_get, take, IfOk};
+ghost use Rattle.std.specs.Prelude.{◌≡◌, ◌⊎◌, ◌≤◌, [], ◌∷◌, false, length, take, IfOk};
 ghost use Rattle.recording_peers.specs.Answers.{Gives, answer_of};
 
 use crate::datagram_source::{Datagram, DatagramSource, NoDatagram};
@@ -48,7 +48,7 @@ fn copy_front(text: &[u8], buffer: &mut [u8])
 
 impl DatagramSource for ScriptDatagrams {
     ghost use Rattle.std.specs.Prelude.{◌≡◌, false};
-    ghost use Rattle.recording_peers.specs.Scripts.{AreFirst, IsTooLong};
+    ghost use Rattle.recording_peers.specs.Scripts.{AreFirst, IsStuck, NextIsTooLong};
 
     ghost answered = { λ s answers. s.is_stuck ≡ false → AreFirst s.script.items s.next answers };
 
@@ -57,8 +57,8 @@ impl DatagramSource for ScriptDatagrams {
         ensures gives { Gives ⟦<ScriptDatagrams as DatagramSource>⟧.answered
             (answer_of result buffer.new ∷ []) self.old self.new }
         // Only a datagram that is longer than the buffer makes it fail.
-        ensures stuck { self.new.is_stuck ≡ true → (self.old.is_stuck ≡ true)
-            ⊎ IsTooLong (length buffer.old) (slice_get self.old.script.items self.old.next) }
+        ensures stuck { IsStuck self.new
+            → IsStuck self.old ⊎ NextIsTooLong (length buffer.old) self.old }
     {
         match self.script.get(self.next) {
             Some(Ok(datagram)) => {

@@ -1,5 +1,5 @@
 -- The domains that an earlier run left.
-use Rattle.std.proofs.Common.{◌≡◌, ℕ, Bool, true, false, cond, eqb, List, [], ◌∷◌, Option, Some, None, refl, sym, ap, subst, ◌∙◌, inl, inr}
+use Rattle.std.proofs.Common.{◌≡◌, ℕ, Bool, true, false, cond, eqb, List, [], ◌∷◌, Option, Some, refl, sym, ap, subst, ◌∙◌, inl, inr}
 use Rattle.std.specs.Prelude.{◌⊎◌, ◌||◌, IfSome, IsSome, nat_eq}
 use Rattle.std.specs.List.{list_any}
 use Rattle.std.specs.Cmp.{nat_eq_equiv}
@@ -10,7 +10,7 @@ use Rattle.std.proofs.lemmas.Bool.Decides.{eqb_tells}
 use Rattle.std.proofs.lemmas.Map.Views.{Contains-keys_from_lookup, exact_unsigned_eq, list_any-from_Contains}
 use Rattle.indexmap.specs.IndexMap.{IndexMap, get as index_get, keys}
 use Rattle.ipfix_message.specs.Domains.{DomainsView}
-use Rattle.recording_resumption.specs.EarlierFiles.{IsLeft, LeavesEach, LeavesOnly}
+use Rattle.recording_resumption.specs.EarlierFiles.{HasDomain, IsLeft, LeavesOnly}
 use Rattle.recording_resumption.specs.declared.earlier_domain.EarlierDomain.{EarlierDomain}
 use Rattle.recording_resumption.specs.declared.last_message.LastMessage.{LastMessage}
 
@@ -63,7 +63,7 @@ one_more_each last k ks old new before put others q some = elim (eqb_tells q k) 
 ]
 
 -- at the end none is to come
-pub each_left : (last : ℕ → Option LastMessage) (rest : List ℕ) (left : BTreeMap ℕ EarlierDomain) → rest ≡ [] → LeavesBut last rest left → LeavesEach last left
+pub each_left : (last : ℕ → Option LastMessage) (rest : List ℕ) (left : BTreeMap ℕ EarlierDomain) → rest ≡ [] → LeavesBut last rest left → (q : ℕ) → IsSome (last q) → HasDomain left q
 each_left last rest left none each q some = elim (each q some) [
   | inl later ↦ let no : false ≡ true = sym (ap (list_any (eqb q)) none) ∙ later in absurd cc
   | inr is ↦ is

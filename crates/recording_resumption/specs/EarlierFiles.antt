@@ -1,9 +1,9 @@
 -- A file of an earlier run, read by itself as a session: its report, its templates, and the last message of each domain.
-use Rattle.std.specs.Prelude.{◌≡◌, ℕ, false, List, length, nat_eq, Option, Some, IfSome, IsSome}
+use Rattle.std.specs.Prelude.{◌≡◌, ℕ, false, List, length, nat_eq, Option, Some, None, IfSome, IsSome}
 use Rattle.std.specs.Ordering.{nat_cmp}
 use Rattle.std.specs.BTreeMap.{BTreeMap, get as get_at}
 use Rattle.indexmap.specs.IndexMap.{IndexMap, get}
-use Rattle.ipfix_message.specs.Domains.{DomainsView, History, StandsFor, template_for}
+use Rattle.ipfix_message.specs.Domains.{DomainsView, IfUnspent, template_for}
 use Rattle.ipfix_message.specs.declared.record.Template.{Template}
 use Rattle.ipfix_session.specs.Faults.{end_of}
 use Rattle.ipfix_session.specs.Given.{gives, records_of}
@@ -28,7 +28,7 @@ pub record IsEarlierSession (text : List ℕ) (s : EarlierSession) : Type 0 wher
 
 -- these are the templates of a domain, by what is kept of the domains of a session
 abbrev pub HasTemplates : DomainsView → ℕ → BTreeMap ℕ Template → Type 0
-HasTemplates d domain templates = d.spent ≡ false → (ds : History) → StandsFor d.domains ds → (id : ℕ) → get_at nat_cmp templates id ≡ template_for ds domain id
+HasTemplates d domain templates = IfUnspent d (λ ds. (id : ℕ) → get_at nat_cmp templates id ≡ template_for ds domain id)
 
 -- a domain that is left waits after its last message, with the templates that are in force in it at the end
 pub record IsLeft (d : DomainsView) (domain : ℕ) (last : Option LastMessage) (e : EarlierDomain) : Type 0 where
@@ -48,5 +48,9 @@ LeftBy last d left = LeavesOnly (get nat_eq last) d left
 abbrev pub HasDomain : BTreeMap ℕ EarlierDomain → ℕ → Type 0
 HasDomain left domain = IsSome (get_at nat_cmp left domain)
 
-abbrev pub LeavesEach : (ℕ → Option LastMessage) → BTreeMap ℕ EarlierDomain → Type 0
-LeavesEach last left = (domain : ℕ) → IsSome (last domain) → HasDomain left domain
+abbrev pub LeavesEach : {S : Type 0} → IndexMap ℕ LastMessage S → BTreeMap ℕ EarlierDomain → Type 0
+LeavesEach last left = (domain : ℕ) → IsSome (get nat_eq last domain) → HasDomain left domain
+
+-- none is left
+abbrev pub LeavesNone : BTreeMap ℕ EarlierDomain → Type 0
+LeavesNone left = (domain : ℕ) → get_at nat_cmp left domain ≡ None

@@ -1,7 +1,9 @@
 -- Whether a datagram goes on after the last message that is kept of its domain, and what becomes of the templates that an
 -- earlier run knew there (RFC 7011, sections 3.1 and 8).
-use Rattle.std.specs.Prelude.{◌≡◌, ◌≤◌, ℕ, ◌^◌, Bool, true, false, not, ◌&&◌, ◌||◌, nat_le, nat_lt, if◌then◌else◌, List, [], ◌∷◌, Option, Some, None, option_map, unwrap_or}
+use Rattle.std.specs.Prelude.{◌≡◌, ◌==◌, ◌≤◌, ℕ, ◌^◌, Bool, true, false, not, ◌&&◌, ◌||◌, nat_le, nat_lt, if◌then◌else◌, List, [], ◌∷◌, Option, Some, None, option_map, unwrap_or}
+use Rattle.std.specs.BTreeMap.{BTreeMap, get}
 use Rattle.std.specs.List.{last_or}
+use Rattle.std.specs.Ordering.{nat_cmp}
 use Rattle.ipfix_wire.specs.declared.header.Header.{Header}
 use Rattle.ipfix_message.specs.Domains.{Message}
 use Rattle.ipfix_session.specs.Ledger.{due_after}
@@ -88,3 +90,10 @@ resumed_by (Some e) h = if is_resumed (after e.state h false) then Some e else N
 abbrev pub left_after : Option EarlierDomain → Header → Bool → Option EarlierDomain
 left_after None h defines = None
 left_after (Some e) h defines = if is_waiting (after e.state h defines) then Some (record e { state = after e.state h defines }) else None
+
+-- and of each domain: it stays as it is, but for the datagram's own
+abbrev pub left_at : ℕ → Option EarlierDomain → Header → Bool → Option EarlierDomain
+left_at domain o h defines = if domain == h.domain then left_after o h defines else o
+
+abbrev pub LeftAfter : BTreeMap ℕ EarlierDomain → BTreeMap ℕ EarlierDomain → Header → Bool → Type 0
+LeftAfter old new h defines = (domain : ℕ) → get nat_cmp new domain ≡ left_at domain (get nat_cmp old domain) h defines

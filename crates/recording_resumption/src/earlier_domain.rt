@@ -1,9 +1,9 @@
 //! The domains that an earlier run left of a peer.
 
-ghost use Rattle.std.specs.Prelude.{◌≡◌, ◌==◌, ℕ, OnOk, false, if◌then◌else◌, option_copied};
+ghost use Rattle.std.specs.Prelude.{◌≡◌, OnOk, false, option_copied};
 ghost use Rattle.std.specs.BTreeMap.{get};
 ghost use Rattle.std.specs.Ordering.{nat_cmp};
-ghost use Rattle.recording_resumption.specs.Resumption.{after, due_left, is_resumed, left_after, resumed_by};
+ghost use Rattle.recording_resumption.specs.Resumption.{LeftAfter, after, due_left, is_resumed, resumed_by};
 
 use crate::earlier::Earlier;
 use ipfix_message::Templates;
@@ -59,9 +59,7 @@ pub fn resumed<'a>(earlier: &'a EarlierDomains, header: &Header) -> Option<&'a E
 /// After a datagram that was taken, and whether it defines a template: a domain that has gone on or ended is no longer
 /// among them. Without memory they are of no use.
 pub fn go_on(earlier: &mut EarlierDomains, header: &Header, defines: bool) -> Result<(), AllocError>
-    ensures { OnOk result ((q : ℕ) → get nat_cmp earlier.new q
-        ≡ (if q == header.now.domain then left_after (get nat_cmp earlier.old q) header.now defines
-        else get nat_cmp earlier.old q)) }
+    ensures { OnOk result (LeftAfter earlier.old earlier.new header.now defines) }
 {
     let Some(domain) = earlier.remove(&header.domain) else {
         return Ok(());

@@ -2,10 +2,8 @@
 
 ghost use Rattle.std.specs.Prelude.{◌≡◌, ℕ, nat_eq, None, OnOk, IfOk, IsSome};
 ghost use Rattle.std.specs.Option.{ForSome};
-ghost use Rattle.std.specs.BTreeMap.{get};
-ghost use Rattle.std.specs.Ordering.{nat_cmp};
 ghost use Rattle.indexmap.specs.IndexMap.{get as index_get};
-ghost use Rattle.recording_resumption.specs.EarlierFiles.{HasDomain, HasTemplates, LeavesEach, LeftBy};
+ghost use Rattle.recording_resumption.specs.EarlierFiles.{HasDomain, HasTemplates, LeavesEach, LeavesNone, LeftBy};
 
 use crate::earlier::Earlier;
 use crate::earlier_domain::{EarlierDomain, EarlierDomains};
@@ -52,12 +50,11 @@ fn put_domain(
 /// The domains that are left by what an earlier run's last file of a peer has: those with a message in it, each with the
 /// templates that are in force at its end. None is left if a message of it has a fault. Each waits after its last message.
 pub fn domains_left(alloc: Global, session: &EarlierSession) -> Result<EarlierDomains, AllocError>
-    ensures none { session.now.full.domains ≡ None
-        → IfOk result (λ left. (domain : ℕ) → get nat_cmp left domain ≡ None) }
+    ensures none { session.now.full.domains ≡ None → IfOk result LeavesNone }
     ensures only { ForSome session.now.full.domains
         (λ d. IfOk result (LeftBy session.now.last d)) }
     ensures each { ForSome session.now.full.domains
-        (λ _. IfOk result (LeavesEach (index_get nat_eq session.now.last))) }
+        (λ _. IfOk result (LeavesEach session.now.last)) }
 {
     let mut left = BTreeMap::new(alloc);
     let Some(domains) = &session.full.domains else {

@@ -14,8 +14,8 @@ use Rattle.ipfix_message.specs.declared.record.Template.{Template}
 use Rattle.ipfix_session.specs.declared.report.DomainReport.{DomainReport}
 use Rattle.ipfix_wire.specs.declared.specifier.ElementId.{ElementId}
 use Rattle.ipfix_wire.specs.declared.specifier.Spec.{Spec}
-use Rattle.report_sessions.specs.FirstElements.{ElementsView, KeepsFirst, once_after, with_element}
-use Rattle.report_sessions.specs.UnnamedElements.{each_once, is_element, is_unnamed, templates_at, templates_of, unnamed_in}
+use Rattle.report_sessions.specs.FirstElements.{KeepsFirst, once_after, with_element, with_unnamed}
+use Rattle.report_sessions.specs.UnnamedElements.{ElementsView, each_once, is_element, is_unnamed, templates_at, templates_of, unnamed_in}
 
 -- ---- each once
 
@@ -163,7 +163,7 @@ module _ (known : List Known) (all : List ElementId) where
   keeps_if v e es coming true k = keeps_next v all e (es ++ coming) k
   keeps_if v e es coming false k = k
 
-  pub keeps_spec : (v w : ElementsView) (specs : List Spec) (i : ℕ) (s d : Spec) (coming : List ElementId) → i < length specs → s ≡ get_or specs i d → w ≡ cond (is_unnamed known s.element) (with_element v s.element) v
+  pub keeps_spec : (v w : ElementsView) (specs : List Spec) (i : ℕ) (s d : Spec) (coming : List ElementId) → i < length specs → s ≡ get_or specs i d → w ≡ with_unnamed known v s.element
       → KeepsFirst v all (unnamed_of (drop i specs) ++ coming) → KeepsFirst w all (unnamed_of (drop (i + 1) specs) ++ coming)
   keeps_spec v w specs i s d coming less is added k =
       let next : drop i specs ≡ s ∷ drop (i + 1) specs = drop_next specs i d less ∙ ap (λ (x : Spec). x ∷ drop (i + 1) specs) (sym is) in

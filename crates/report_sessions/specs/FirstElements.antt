@@ -1,13 +1,9 @@
 -- The first different elements of those that come in turn.
-use Rattle.std.specs.Prelude.{◌≡◌, ◌<◌, ◌≤◌, nat_lt, Bool, true, false, List, [], ◌∷◌, ◌++◌, length, take, if◌then◌else◌}
+use Rattle.std.specs.Prelude.{◌≡◌, ◌<◌, ◌≤◌, nat_lt, true, false, List, [], ◌∷◌, ◌++◌, length, take, if◌then◌else◌}
 use Rattle.std.specs.List.{list_any}
 use Rattle.ipfix_wire.specs.declared.specifier.ElementId.{ElementId}
-use Rattle.report_sessions.specs.UnnamedElements.{each_once, is_element}
-
--- what contracts see of them: the first ones, and whether there were more
-pub record ElementsView : Type 0 where
-  pub first : List ElementId
-  pub more : Bool
+use Rattle.element_registry.specs.Registries.{Known}
+use Rattle.report_sessions.specs.UnnamedElements.{each_once, is_element, is_unnamed, ElementsView}
 
 -- one more element came
 abbrev pub with_element : ElementsView → ElementId → ElementsView
@@ -15,6 +11,10 @@ with_element v e =
     if list_any (is_element e) v.first then v
     else if nat_lt (length v.first) 64 then record { first = v.first ++ e ∷ []; more = v.more }
     else record { first = v.first; more = true }
+
+-- the same, if nothing names it
+abbrev pub with_unnamed : List Known → ElementsView → ElementId → ElementsView
+with_unnamed known v e = if is_unnamed known e then with_element v e else v
 
 -- each once, where it first appears, if it isn't one of those that appeared before
 abbrev pub once_after : List ElementId → List ElementId → List ElementId
@@ -27,3 +27,7 @@ pub record KeepsFirst (v : ElementsView) (all coming : List ElementId) : Type 0 
   pub few : v.more ≡ false → (length v.first ≤ 64) × (each_once all ≡ v.first ++ once_after v.first coming)
   -- and otherwise the first of them
   pub many : v.more ≡ true → (64 < length (each_once all)) × (v.first ≡ take 64 (each_once all))
+
+-- these elements came next: the first ones are kept of all, whatever still comes after them
+abbrev pub Takes : ElementsView → ElementsView → List ElementId → Type 0
+Takes old new elements = (all coming : List ElementId) → KeepsFirst old all (elements ++ coming) → KeepsFirst new all coming

@@ -17,9 +17,13 @@ loss_line session d =
 abbrev pub domain_lines : ℕ → DomainReport → List ℕ
 domain_lines session d = if (d.lost == 0) && (d.backward == 0) then [] else loss_line session d
 
+-- a fault of a session, by its number and its name
+abbrev pub fault_line : ℕ → ℕ → List ℕ → List ℕ
+fault_line session number name = codes "collectd: session " ++ (decimal session ++ fault_text number name)
+
 abbrev pub fault_lines : ℕ → Option SessionFault → List ℕ
 fault_lines session None = []
-fault_lines session (Some fault) = codes "collectd: session " ++ (decimal session ++ fault_text (number_of fault) (name_of fault))
+fault_lines session (Some fault) = fault_line session (number_of fault) (name_of fault)
 
 -- the domains of a session in order, and then its fault
 abbrev pub session_lines : ℕ → SessionReport → List ℕ

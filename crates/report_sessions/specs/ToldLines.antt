@@ -39,9 +39,13 @@ balance_text b = sets_text b.domain b.passed_over ++ records_text b.passed_over.
 abbrev pub balance_lines : ℕ → Origin → DomainBalance → List ℕ
 balance_lines session origin b = if is_all_counted b then [] else session_start session origin ++ balance_text b
 
--- the domains in order, if either option asks for them
+-- the domains in order
+abbrev pub uncounted_lines : ℕ → Origin → List DomainBalance → List ℕ
+uncounted_lines session origin balances = flat_map (balance_lines session origin) balances
+
+-- the same, if either option asks for them
 abbrev pub balances_told : Verbosity → ℕ → Origin → List DomainBalance → List ℕ
-balances_told verbosity session origin balances = if tells_balances verbosity then flat_map (balance_lines session origin) balances else []
+balances_told verbosity session origin balances = if tells_balances verbosity then uncounted_lines session origin balances else []
 
 -- ---- how it ended
 

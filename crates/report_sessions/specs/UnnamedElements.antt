@@ -19,10 +19,14 @@ use Rattle.report_writing.specs.declared.verbosity.Verbosity.{Verbosity}
 abbrev pub templates_of : DomainsView → ℕ → List Template
 templates_of d domain = if d.spent then [] else map (λ e. e.1) (unwrap_or (lookup (nat_eq domain) d.domains) [])
 
+-- those of the domains of a report, domain by domain in their order
+abbrev pub templates_in : DomainsView → List DomainReport → List Template
+templates_in d reports = flat_map (λ r. templates_of d r.domain) reports
+
 -- those at the end of a session, domain by domain in the order of its report; none, where none is in force for certain
 abbrev pub templates_at : Option DomainsView → List DomainReport → List Template
 templates_at None reports = []
-templates_at (Some d) reports = flat_map (λ r. templates_of d r.domain) reports
+templates_at (Some d) reports = templates_in d reports
 
 abbrev pub templates_at_end : FullReport → List Template
 templates_at_end full = templates_at full.domains full.report.domains.items
@@ -36,6 +40,10 @@ is_unnamed known e = is_none (listed_name known e)
 abbrev pub unnamed_in : List Known → Template → List ElementId
 unnamed_in known t = filter (is_unnamed known) (map (λ s. s.element) t.specs)
 
+-- those of templates, one after another
+abbrev pub unnamed_of : List Known → List Template → List ElementId
+unnamed_of known templates = flat_map (unnamed_in known) templates
+
 abbrev pub is_element : ElementId → ElementId → Bool
 is_element e other = (other.pen == e.pen) && (other.number == e.number)
 
@@ -45,9 +53,14 @@ each_once [] = []
 each_once (e ∷ es) = e ∷ filter (λ other. not (is_element other e)) (each_once es)
 
 abbrev pub unnamed_elements : List Known → FullReport → List ElementId
-unnamed_elements known full = each_once (flat_map (unnamed_in known) (templates_at_end full))
+unnamed_elements known full = each_once (unnamed_of known (templates_at_end full))
 
 -- ---- their line
+
+-- what contracts see of the elements that a line names: the first ones, and whether there were more
+pub record ElementsView : Type 0 where
+  pub first : List ElementId
+  pub more : Bool
 
 -- how many there are
 unfoldable pub count_text : ℕ → List ℕ
@@ -65,14 +78,14 @@ unfoldable pub element_text : ElementId → List ℕ
 element_text e = codes " " ++ numbered_text e
 
 -- the first ones, and whether there are more; no line, if there is none
-abbrev pub elements_line : ℕ → Origin → List ElementId → Bool → List ℕ
-elements_line session origin first more =
-    if length first == 0 then [] else session_start session origin ++ (number_shown (length first) more ++ (flat_map element_text first ++ codes "\n"))
+abbrev pub elements_line : ℕ → Origin → ElementsView → List ℕ
+elements_line session origin v =
+    if length v.first == 0 then [] else session_start session origin ++ (number_shown (length v.first) v.more ++ (flat_map element_text v.first ++ codes "\n"))
 
 abbrev pub unnamed_line : List Known → ℕ → Origin → FullReport → List ℕ
 unnamed_line known session origin full =
     let all = unnamed_elements known full in
-    elements_line session origin (take 64 all) (nat_lt 64 (length all))
+    elements_line session origin (record { first = take 64 all; more = nat_lt 64 (length all) })
 
 -- the same, if verbose lines are asked for
 abbrev pub unnamed_told : Verbosity → List Known → ℕ → Origin → FullReport → List ℕ

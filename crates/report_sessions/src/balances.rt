@@ -1,8 +1,7 @@
 //! The lines of domains in which something wasn't counted.
 
 ghost use Rattle.std.specs.Prelude.{◌≡◌};
-ghost use Rattle.std.specs.List.{flat_map};
-ghost use Rattle.report_sessions.specs.ToldLines.{balance_lines, balance_text, balances_told, is_all_counted as all_counted, records_text, sets_text};
+ghost use Rattle.report_sessions.specs.ToldLines.{balance_lines, balance_text, balances_told, is_all_counted as all_counted, records_text, sets_text, uncounted_lines};
 ghost use Rattle.report_writing.specs.Writing.{Tells};
 
 use ipfix_message::PassedOver;
@@ -35,7 +34,7 @@ fn write_each<W: WriteLines>(
     out: &mut W,
 ) -> io::Result<()>
     ensures { Tells W.lines out.old out.new result
-        (flat_map (balance_lines session origin.now) balances.now) }
+        (uncounted_lines session origin.now balances.now) }
 {
     for balance in balances {
         write_balance(session, origin, balance, out)?;

@@ -20,7 +20,7 @@ pub struct FirstElements {
 
 impl Model for FirstElements {
     ghost use Rattle.std.specs.Prelude.{◌≡◌, ◌≤◌, length, take};
-    ghost use Rattle.report_sessions.specs.FirstElements.{ElementsView};
+    ghost use Rattle.report_sessions.specs.UnnamedElements.{ElementsView};
     ghost use Rattle.report_sessions.specs.declared.first_elements.TheConstants.{MOST_NAMED};
 
     ghost Value = { ElementsView };

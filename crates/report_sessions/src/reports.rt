@@ -1,9 +1,7 @@
 //! The lines that tell what sessions lost, and how they ended.
 
-ghost use Rattle.std.specs.Prelude.{◌++◌, codes, decimal};
 ghost use Rattle.std.specs.List.{flat_map};
-ghost use Rattle.report_sessions.specs.ReportLines.{domain_lines, loss_line, report_lines, session_lines};
-ghost use Rattle.report_writing.specs.FaultLines.{fault_text};
+ghost use Rattle.report_sessions.specs.ReportLines.{domain_lines, fault_line, loss_line, report_lines, session_lines};
 ghost use Rattle.report_writing.specs.Writing.{Tells};
 
 use ipfix_session::{DomainReport, SessionReport};
@@ -76,7 +74,7 @@ fn write_session_fault<W: WriteLines>(
     out: &mut W,
 ) -> io::Result<()>
     ensures { Tells W.lines out.old out.new result
-        (codes "collectd: session " ++ (decimal session ++ fault_text number name.now)) }
+        (fault_line session number name.now) }
 {
     writeln!(out, "collectd: session {session}: fault {number} {name}")
 }

@@ -46,7 +46,8 @@ pub fn write_told_reports<S: Source, W: WriteLines>(
     for (index, full) in reports.iter().enumerate() {
         let session = index + 1;
         let failure = failure_of(sources, session);
-        write_numbered(verbosity, elements, session, origins, failure, full, out)?;
+        let origin = origin_at(origins, session);
+        write_told_session(verbosity, elements, session, &origin, failure, full, out)?;
     }
     Ok(())
 }
@@ -61,25 +62,13 @@ fn failure_of<S: Source>(sources: &[S], session: usize) -> Option<ErrorKind>
     }
 }
 
-// The lines of the session of this number, counted from 1.
-fn write_numbered<W: WriteLines>(
-    verbosity: Verbosity,
-    elements: &Elements,
-    session: usize,
-    origins: &[Origin],
-    failure: Option<ErrorKind>,
-    full: &FullReport,
-    out: &mut W,
-) -> io::Result<()>
-    ensures { Tells W.lines out.old out.new result (told_session verbosity
-        elements.now session (origin_of origins.now session) failure full.now) }
+// The origin of the session of this number, counted from 1.
+fn origin_at<'a>(origins: &[Origin<'a>], session: usize) -> Origin<'a>
+    ensures { result ≡ origin_of origins.now session }
 {
-    let unknown = &Origin::Unknown;
     match origins.get(session.saturating_sub(1)) {
-        Some(origin) => {
-            write_told_session(verbosity, elements, session, origin, failure, full, out)
-        }
-        None => write_told_session(verbosity, elements, session, unknown, failure, full, out),
+        Some(origin) => *origin,
+        None => Origin::Unknown,
     }
 }
 

@@ -1,11 +1,10 @@
 //! The line of the elements that nothing names.
 
-ghost use Rattle.std.specs.Prelude.{◌≡◌, ◌++◌, List, Some, length, nat_lt, take, if◌then◌else◌};
+ghost use Rattle.std.specs.Prelude.{◌≡◌, length, nat_lt, take};
 ghost use Rattle.std.specs.BTreeMap.{values};
 ghost use Rattle.std.specs.List.{flat_map};
-ghost use Rattle.ipfix_wire.specs.declared.specifier.ElementId.{ElementId as Id};
-ghost use Rattle.report_sessions.specs.FirstElements.{KeepsFirst, with_element};
-ghost use Rattle.report_sessions.specs.UnnamedElements.{count_text, element_text, elements_line, is_unnamed, number_shown, over_text, templates_at, templates_of, unnamed_elements, unnamed_in, unnamed_told};
+ghost use Rattle.report_sessions.specs.FirstElements.{Takes, with_unnamed};
+ghost use Rattle.report_sessions.specs.UnnamedElements.{count_text, element_text, elements_line, number_shown, over_text, templates_in, templates_of, unnamed_of, unnamed_elements, unnamed_in, unnamed_told};
 ghost use Rattle.report_writing.specs.Writing.{Tells};
 
 use crate::first_elements::FirstElements;
@@ -43,12 +42,12 @@ fn first_unnamed(elements: &Elements, full: &FullReport) -> FirstElements
     ensures more { result.more
         ≡ nat_lt 64 (length (unnamed_elements elements.now full.now)) }
 {
-    let mut unnamed = FirstElements::new();
+    let mut kept = FirstElements::new();
     let Some(domains) = &full.domains else {
-        return unnamed;
+        return kept;
     };
-    add_of_domains(elements, domains, &full.report.domains, &mut unnamed);
-    unnamed
+    add_of_domains(elements, domains, &full.report.domains, &mut kept);
+    kept
 }
 
 // Those of the templates of all domains.
@@ -56,75 +55,68 @@ fn add_of_domains(
     elements: &Elements,
     domains: &Domains,
     reports: &[DomainReport],
-    unnamed: &mut FirstElements,
+    kept: &mut FirstElements,
 )
-    ensures { (all coming : List Id) → KeepsFirst unnamed.old all
-        (flat_map (unnamed_in elements.now) (templates_at (Some domains.now) reports.now) ++ coming)
-        → KeepsFirst unnamed.new all coming }
+    ensures { Takes kept.old kept.new
+        (unnamed_of elements.now (templates_in domains.now reports.now)) }
 {
     for report in reports {
-        add_of_domain(elements, domains, report.domain, unnamed);
+        add_of_domain(elements, domains, report.domain, kept);
     }
 }
 
 // Those of the templates of a domain.
-fn add_of_domain(elements: &Elements, domains: &Domains, domain: u32, unnamed: &mut FirstElements)
-    ensures { (all coming : List Id) → KeepsFirst unnamed.old all
-        (flat_map (unnamed_in elements.now) (templates_of domains.now domain) ++ coming)
-        → KeepsFirst unnamed.new all coming }
+fn add_of_domain(elements: &Elements, domains: &Domains, domain: u32, kept: &mut FirstElements)
+    ensures { Takes kept.old kept.new
+        (unnamed_of elements.now (templates_of domains.now domain)) }
 {
     if let Some(templates) = domains.templates(domain) {
-        add_of_templates(elements, templates, unnamed);
+        add_of_templates(elements, templates, kept);
     }
 }
 
 // Those of some templates, by their ids.
-fn add_of_templates(elements: &Elements, templates: &Templates, unnamed: &mut FirstElements)
-    ensures { (all coming : List Id) → KeepsFirst unnamed.old all
-        (flat_map (unnamed_in elements.now) (values templates.now) ++ coming)
-        → KeepsFirst unnamed.new all coming }
+fn add_of_templates(elements: &Elements, templates: &Templates, kept: &mut FirstElements)
+    ensures { Takes kept.old kept.new (unnamed_of elements.now (values templates.now)) }
 {
     for known in templates.values() {
-        add_of_template(elements, known.template(), unnamed);
+        add_of_template(elements, known.template(), kept);
     }
 }
 
 // Those of the fields of a template.
-fn add_of_template(elements: &Elements, template: &Template, unnamed: &mut FirstElements)
-    ensures { (all coming : List Id)
-        → KeepsFirst unnamed.old all (unnamed_in elements.now template.now ++ coming)
-        → KeepsFirst unnamed.new all coming }
+fn add_of_template(elements: &Elements, template: &Template, kept: &mut FirstElements)
+    ensures { Takes kept.old kept.new (unnamed_in elements.now template.now) }
 {
     let specs = template.specs.as_slice();
     for spec in specs {
-        add_if_unnamed(elements, spec.element, unnamed);
+        add_if_unnamed(elements, spec.element, kept);
     }
 }
 
-fn add_if_unnamed(elements: &Elements, element: ElementId, unnamed: &mut FirstElements)
-    ensures { unnamed.new ≡ (if is_unnamed elements.now element
-        then with_element unnamed.old element else unnamed.old) }
+fn add_if_unnamed(elements: &Elements, element: ElementId, kept: &mut FirstElements)
+    ensures { kept.new ≡ with_unnamed elements.now kept.old element }
 {
     if elements.name_of(element).is_none() {
-        unnamed.add(element);
+        kept.add(element);
     }
 }
 
 fn write_elements_line<W: WriteLines>(
     session: usize,
     origin: &Origin,
-    unnamed: &FirstElements,
+    kept: &FirstElements,
     out: &mut W,
 ) -> io::Result<()>
     ensures { Tells W.lines out.old out.new result
-        (elements_line session origin.now unnamed.now.first unnamed.now.more) }
+        (elements_line session origin.now kept.now) }
 {
-    let first = unnamed.as_slice();
+    let first = kept.as_slice();
     if first.is_empty() {
         return Ok(());
     }
     write_session_start(session, origin, out)?;
-    write_number(first.len(), unnamed.has_more(), out)?;
+    write_number(first.len(), kept.has_more(), out)?;
     write_elements(first, out)?;
     writeln!(out)
 }

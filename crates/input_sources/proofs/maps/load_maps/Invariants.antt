@@ -4,14 +4,14 @@ use Rattle.input_sources.specs.MapsLoaded.{AreMapsOf, HaveNoMaps}
 use Rattle.input_sources.proofs.maps.load_maps.Given as goal
 
 -- the maps of the paths that are left follow those that were read, and what is told of them is what is told of all
-abbrev pub invariant-loop-paths : goal.invariant-loop-paths
-invariant-loop-paths g l = record {
-  maps : (more : List LoadedMap) → AreMapsOf (g.T.ReadText.has l.files) (map (λ path. path.now) l.paths) more
-      → AreMapsOf (g.T.ReadText.has l.files) (map (λ path. path.now) l.initial.paths) (l.maps.items ++ more);
-  none : (lines : List ℕ) → HaveNoMaps (g.T.ReadText.has l.files) (g.T.ReadText.refuses l.files) l.verbosity (map (λ path. path.now) l.paths) lines
-      → HaveNoMaps (g.T.ReadText.has l.files) (g.T.ReadText.refuses l.files) l.verbosity (map (λ path. path.now) l.initial.paths) lines;
+abbrev pub invariant-loop-left : goal.invariant-loop-left
+invariant-loop-left g l = record {
+  maps : (more : List LoadedMap) → AreMapsOf (g.T.ReadText.has l.files) (map (λ path. path.now) l.left) more
+      → AreMapsOf (g.T.ReadText.has l.files) (map (λ path. path.now) l.initial.left) (l.maps.items ++ more);
+  none : (lines : List ℕ) → HaveNoMaps (g.T.ReadText.has l.files) (g.T.ReadText.refuses l.files) l.verbosity (map (λ path. path.now) l.left) lines
+      → HaveNoMaps (g.T.ReadText.has l.files) (g.T.ReadText.refuses l.files) l.verbosity (map (λ path. path.now) l.initial.left) lines;
   silent : l.err ≡ l.initial.err;
 }
 
-abbrev pub decreases-loop-paths : goal.decreases-loop-paths
-decreases-loop-paths g l = length l.paths
+abbrev pub decreases-loop-left : goal.decreases-loop-left
+decreases-loop-left g l = length l.left

@@ -7,7 +7,7 @@ use Rattle.ipfix_message.specs.declared.fault.MessageFault.TheVariants.{OutOfMem
 use Rattle.ipfix_datagrams.specs.Datagrams.{preparation_of}
 use Rattle.recording_peer.specs.Peers.{basis_with, front_header}
 use Rattle.recording_peer.specs.Fronts.{TookWithdrawals, TookPrepared, domains_after}
-use Rattle.recording_peer.proofs.Fronting.{with_sequence, front_can, taken_front, none_defined, datagram_fails, took_datagram, answered}
+use Rattle.recording_peer.proofs.Fronting.{with_sequence, front_can, taken_front, none_defined, datagram_fails, took_datagram, answered, fails_after}
 use Rattle.recording_peer.proofs.fronts.take_datagram.Goals as goal
 
 pub returns-in_err-take_withdrawals : goal.returns-in_err-take_withdrawals
@@ -41,6 +41,6 @@ returns c = λ before here second resumed barred x keeps left r.
     let number : c.unwrap_or.result ≡ unwrap_or (option_or c.due.result c.args.due_left) h.sequence = search rules in
     let owns : own ≡ front_header resumed.due (before ++ here) h = ap (with_sequence h) (number ∙ ap₂ (λ (o p : Option ℕ). unwrap_or (option_or o p) h.sequence) (c.due.ensures None before here keeps) (sym left)) in
     answered c.take_and_append.result _ (λ fault. Fails fault (message_gives (domains_after before (here ++ f.front.given)) m)) _ (λ fault. fault ≡ OutOfMemory)
-    (c.take_and_append.ensures.took before (here ++ f.front.given) f.front.keeps) (c.take_and_append.ensures.fails before (here ++ f.front.given) f.front.keeps)
+    (c.take_and_append.ensures.took before (here ++ f.front.given) f.front.keeps) (fails_after c.take_definitions.new.recorder m c.take_and_append.result before (here ++ f.front.given) f.front.keeps c.take_and_append.ensures.fails)
     (λ count took. took_datagram before here c.take_definitions.new.recorder c.take_and_append.new.recorder m second h own resumed barred c.args.reading.now x c.take_definitions.new.out.items c.take_and_append.new.out.items count c.requires.header r.taken owns f took)
     (λ fault fails. datagram_fails before here c.take_definitions.new.recorder m h own (basis_with resumed barred) q x c.take_definitions.new.out.items fault c.requires.header r.taken refl f fails)

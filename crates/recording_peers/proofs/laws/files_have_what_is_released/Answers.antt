@@ -2,6 +2,7 @@ use Rattle.std.proofs.Common.{subst, ap, ◌∙◌}
 use Rattle.recording_order.specs.Releases.{released}
 use Rattle.recording_peers.specs.Happenings.{datagrams_of, events_of}
 use Rattle.recording_peers.specs.Kept.{HasRecorded, says_of}
+use Rattle.recording_peers.specs.Standings.{course_of}
 use Rattle.recording_peers.proofs.SessionSteps.{release-stands}
 use Rattle.recording_peers.proofs.laws.files_have_what_is_released.Goals as goal
 
@@ -16,4 +17,4 @@ returns-clause-off g c = λ r none.
 
 pub returns-clause-in_order : goal.returns-clause-in_order
 returns-clause-in_order g c = λ r next.
-    subst (λ xs. HasRecorded g.F.FileSeries.seen r.session r.recording (datagrams_of xs)) (c.in_order_nothing_changes.ensures (says_of r.recording.said) r.limits.reorder (events_of r.happened) next) r.is.1
+    subst (λ xs. HasRecorded g.F.FileSeries.seen r.session r.recording (datagrams_of xs)) (c.in_order_nothing_changes.ensures (course_of r) next) r.is.1

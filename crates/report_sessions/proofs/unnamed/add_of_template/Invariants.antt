@@ -7,5 +7,5 @@ use Rattle.report_sessions.proofs.unnamed.add_of_template.Given as goal
 -- those of the first fields came
 abbrev pub invariant-loop-spec : goal.invariant-loop-spec
 invariant-loop-spec l =
-    (all coming : List ElementId) → KeepsFirst l.initial.unnamed all (filter (is_unnamed l.elements) (map (λ s. s.element) l.specs) ++ coming)
-    → KeepsFirst l.unnamed all (filter (is_unnamed l.elements) (map (λ s. s.element) (drop l.spec-index l.specs)) ++ coming)
+    (all coming : List ElementId) → KeepsFirst l.initial.kept all (filter (is_unnamed l.elements) (map (λ s. s.element) l.specs) ++ coming)
+    → KeepsFirst l.kept all (filter (is_unnamed l.elements) (map (λ s. s.element) (drop l.spec-index l.specs)) ++ coming)

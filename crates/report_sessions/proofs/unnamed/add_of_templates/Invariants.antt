@@ -9,5 +9,5 @@ use Rattle.report_sessions.proofs.unnamed.add_of_templates.Given as goal
 -- those of the first templates came
 abbrev pub invariant-loop-known : goal.invariant-loop-known
 invariant-loop-known l =
-    (all coming : List ElementId) → KeepsFirst l.initial.unnamed all (flat_map (unnamed_in l.elements) (values l.templates) ++ coming)
-    → KeepsFirst l.unnamed all (flat_map (unnamed_in l.elements) l.known-iterator ++ coming)
+    (all coming : List ElementId) → KeepsFirst l.initial.kept all (flat_map (unnamed_in l.elements) (values l.templates) ++ coming)
+    → KeepsFirst l.kept all (flat_map (unnamed_in l.elements) l.known-iterator ++ coming)
