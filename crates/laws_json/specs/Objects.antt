@@ -1,5 +1,5 @@
 -- The value of JSON that a data record is dumped as.
-use Rattle.std.specs.Prelude.{ℕ, ℤ, unsigned_abs, ◌<◌, ◌^◌, Bool, true, List, [], ◌∷◌, codes, decimal, map, if◌then◌else◌}
+use Rattle.std.specs.Prelude.{ℕ, ℤ, unsigned_abs, ◌<◌, ◌^◌, Bool, List, [], ◌∷◌, codes, decimal, map, if◌then◌else◌}
 use Rattle.std.specs.List.{zip}
 use Rattle.std.specs.Option.{option_map_or}
 use Rattle.std.specs.Fmt.{signed_decimal}
