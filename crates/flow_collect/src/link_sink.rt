@@ -76,8 +76,8 @@ impl<'a, R: Wait, G: Gate> Sink for LinkSink<'a, R, G> {
 
     /// Sends the record. It comes back if Last was sent, or if the receiver is gone.
     fn put(&mut self, item: DataRecord) -> Result<(), DataRecord>
-        ensures ok { OnOk result (SendsItem self.old.sender item self.new.sender) }
-        ensures counted { OnOk result (self.new.sent ≡ one_more self.old.sent) }
+        ensures ok { OnOk result (SendsItem self.old.sender item self.new.sender
+            × (self.new.sent ≡ one_more self.old.sent)) }
         ensures none_refused { OnOk result (self.new.refused ≡ self.old.refused) }
         ensures back { IfErr result (λ given. given ≡ item) }
         ensures refused { OnErr result (self.new.refused ≡ one_more self.old.refused) }
