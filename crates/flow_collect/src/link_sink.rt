@@ -81,8 +81,8 @@ impl<'a, R: Wait, G: Gate> Sink for LinkSink<'a, R, G> {
         ensures none_refused { OnOk result (self.new.refused ≡ self.old.refused) }
         ensures back { IfErr result (λ given. given ≡ item) }
         ensures refused { OnErr result (self.new.refused ≡ one_more self.old.refused) }
-        ensures kept { OnErr result (self.new.sender ≡ self.old.sender) }
-        ensures uncounted { OnErr result (self.new.sent ≡ self.old.sent) }
+        ensures kept { OnErr result ((self.new.sender ≡ self.old.sender)
+            × (self.new.sent ≡ self.old.sent)) }
     {
         if self.sender.ended() {
             self.refused = self.refused.saturating_add(1);
