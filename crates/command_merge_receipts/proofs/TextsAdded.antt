@@ -1,15 +1,13 @@
 -- Texts that are added as they are.
 use Rattle.std.proofs.Common.{◌≡◌, ℕ, true, List, [], ◌++◌, Option, Some, None, Result, Ok, Err, refl, sym, ap, ◌∙◌, subst, append-nil}
-use Rattle.std.specs.Prelude.{IfErr, IfOk}
+use Rattle.std.specs.Prelude.{IfOk}
 use Rattle.std.specs.Io.KnownBytes.{Consumes}
 use Rattle.std.specs.Option.{ForSome}
 use Rattle.ipfix_session.specs.Sources.{SourceView}
-use Rattle.ipfix_session.specs.declared.driver.TheConstants.{READ_LIMIT}
 use Rattle.flow_table.specs.SameTables.{RowValue}
-use Rattle.flow_merge.specs.Merging.{AddsExport, CannotAdd, IsExportIn, StandsFor, merging_intervals, merging_plan}
-use Rattle.flow_merge.specs.declared.merge_fault.MergeFault.{MergeFault}
+use Rattle.flow_merge.specs.Merging.{AddsExport, IsExportIn, ReadsExport, merging_intervals, merging_plan}
 use Rattle.flow_merge.specs.declared.merging.Merging.{Merging}
-use Rattle.command_merge_receipts.specs.Tables.{Adds, AddsRows, CannotAddFrom}
+use Rattle.command_merge_receipts.specs.Tables.{AddsAll, AddsRows}
 
 gave_some : (before after : Option (List ℕ)) (text gave : List ℕ) → before ≡ Some text → Consumes before after gave → (left : List ℕ) × (text ≡ gave ++ left) × (after ≡ Some left)
 gave_some before None text gave held octets = absurd (subst (λ (b : Option (List ℕ)). Consumes b None gave) held octets)
@@ -30,12 +28,6 @@ adds_rows seen limit old new before after text rows held at_end adds =
     record { more = adds.more; export = subst (λ (w : List ℕ). IsExportIn (merging_intervals old) (merging_plan old) w adds.more) whole read.export; stands = adds.stands }
 
 pub adds_if_ok : {S E : Type 0} (seen : S → SourceView) (limit : ℕ) (old : Merging) (before after : S) (text : List ℕ) (answer : Result Merging E) → (seen before).text ≡ Some text → ((seen after).ended ≡ true → ForSome (seen after).text (λ xs. xs ≡ []))
-    → ((rows : List RowValue) → StandsFor old rows → IfOk answer (AddsExport seen limit old before after rows)) → IfOk answer (Adds old text)
+    → ReadsExport seen limit old before after answer → IfOk answer (AddsAll old text)
 adds_if_ok seen limit old before after text (Ok new) held at_end adds = λ rows stands. adds_rows seen limit old new before after text rows held at_end (adds rows stands)
 adds_if_ok seen limit old before after text (Err e) held at_end adds = tt
-
--- and what isn't added to any rows isn't added
-pub cannot_if_err : {S : Type 0} (seen : S → SourceView) (old : Merging) (before after : S) (answer : Result Merging MergeFault)
-    → ((rows : List RowValue) → StandsFor old rows → IfErr answer (CannotAdd seen READ_LIMIT old rows before after)) → IfErr answer (CannotAddFrom seen old before after)
-cannot_if_err seen old before after (Ok new) cannot = tt
-cannot_if_err seen old before after (Err fault) cannot = cannot

@@ -11,7 +11,7 @@ use Rattle.flow_table.specs.AddedUp.{rows_in, AreAddedUp}
 use Rattle.flow_table.specs.Plans.{PlanValue}
 use Rattle.flow_table.specs.SameTables.{RowValue}
 use Rattle.flow_table.specs.declared.table.Table.{Table}
-use Rattle.flow_merge.specs.Merging.{CannotAdd, IsDueIn, IsExportIn, StandsFor, merging_intervals, merging_plan}
+use Rattle.flow_merge.specs.Merging.{ForRowsOf, IsDueIn, IsExportIn, StandsFor, merging_intervals, merging_plan}
 use Rattle.flow_merge.specs.declared.merge_fault.MergeFault.{MergeFault}
 use Rattle.flow_merge.specs.declared.merging.Merging.{Merging}
 use Rattle.command_merge.specs.declared.job.MergeJob.{MergeJob}
@@ -57,19 +57,15 @@ pub record AddsRows (old : Merging) (text : List ℕ) (rows : List RowValue) (ne
   pub stands : StandsFor new (rows ++ more)
 
 -- whatever rows those were
-abbrev pub Adds : Merging → List ℕ → Merging → Type 0
-Adds old text new = (rows : List RowValue) → StandsFor old rows → AddsRows old text rows new
-
--- what a source gave isn't added to them for this reason
-abbrev pub CannotAddFrom : {S : Type 0} → (S → SourceView) → Merging → S → S → MergeFault → Type 0
-CannotAddFrom seen merging before after fault = (rows : List RowValue) → StandsFor merging rows → CannotAdd seen READ_LIMIT merging rows before after fault
+abbrev pub AddsAll : Merging → List ℕ → Merging → Type 0
+AddsAll old text new = ForRowsOf old (λ rows. AddsRows old text rows new)
 
 -- and the text is the one of its receipt
 pub record AddsText (table : PartTable) (text : List ℕ) (old new : Merging) : Type 0 where
   pub its : IsItsTable table text
   pub same_plan : merging_plan new ≡ merging_plan old
   pub same_intervals : merging_intervals new ≡ merging_intervals old
-  pub adds : Adds old text new
+  pub adds : AddsAll old text new
 
 -- a text isn't added to rows for this reason, as a source that holds it and was not read before is not
 pub record CannotAddText (intervals : Intervals) (plan : PlanValue) (rows : List RowValue) (text : List ℕ) (fault : MergeFault) : Type 0 where
@@ -82,4 +78,4 @@ pub record CannotAddText (intervals : Intervals) (plan : PlanValue) (rows : List
 abbrev pub IsAgainst : Merging → PartTable → List ℕ → Against → Type 0
 IsAgainst merging table text NotItsTable = IsItsTable table text → ⊥
 IsAgainst merging table text (Merge fault) =
-    IsItsTable table text × ((rows : List RowValue) → StandsFor merging rows → CannotAddText (merging_intervals merging) (merging_plan merging) rows text fault)
+    IsItsTable table text × ForRowsOf merging (λ rows. CannotAddText (merging_intervals merging) (merging_plan merging) rows text fault)

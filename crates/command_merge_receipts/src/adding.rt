@@ -2,8 +2,9 @@
 
 ghost use Rattle.std.specs.Prelude.{◌≡◌, IfErr, IfOk};
 ghost use Rattle.std.specs.Option.{ForSome};
-ghost use Rattle.flow_merge.specs.Merging.{merging_intervals, merging_plan};
-ghost use Rattle.command_merge_receipts.specs.Tables.{Adds, AddsText, CannotAddFrom, IsAgainst};
+ghost use Rattle.flow_merge.specs.Merging.{RefusesExport, merging_intervals, merging_plan};
+ghost use Rattle.ipfix_session.specs.declared.driver.TheConstants.{READ_LIMIT};
+ghost use Rattle.command_merge_receipts.specs.Tables.{AddsAll, AddsText, IsAgainst};
 
 use flow_merge::{MergeFault, Merging};
 use ipfix_session::{FromReader, READ_LIMIT, Source};
@@ -43,8 +44,8 @@ fn add_source<'b, S: Source>(
 ) -> Result<Merging<'b>, MergeFault>
     ensures plan { IfOk result (λ m. merging_plan m ≡ merging_plan merging.entry) }
     ensures intervals { IfOk result (λ m. merging_intervals m ≡ merging_intervals merging.entry) }
-    ensures adds { ForSome (S.seen source.old).text (λ text. IfOk result (Adds merging.entry text)) }
-    ensures fault { IfErr result (CannotAddFrom S.seen merging.entry source.old source.new) }
+    ensures adds { ForSome (S.seen source.old).text (λ text. IfOk result (AddsAll merging.entry text)) }
+    ensures fault { RefusesExport S.seen READ_LIMIT merging.entry source.old source.new result }
 {
     merging.read(source, READ_LIMIT)
 }

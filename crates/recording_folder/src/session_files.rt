@@ -75,19 +75,19 @@ impl<'a, R: Files, K: FileFinisher<R::File>> SessionFiles<'a, R, K> {
 
     /// Finishes the last file, if there is one, or has it finished; if it is empty it goes away. Where it isn't finished
     /// it, or an earlier one, stays among those that aren't finished.
-    pub fn finish(self, last: &FileReport) -> FilesEnd
-        ensures { EndsLast K.finishes self.unfinished self.reason last.now result self.finisher }
+    pub fn finish(mut self, last: &FileReport) -> FilesEnd
+        ensures { EndsLast K.finishes self.entry.unfinished self.entry.reason last.now result
+            self.entry.finisher }
     {
-        let mut files = self;
-        let finished = files.end_file(last, false);
-        match files.session.failure() {
+        let finished = self.end_file(last, false);
+        match self.session.failure() {
             Some(reason) => FilesEnd {
                 finished: Err(NotWritten),
                 reason: Some(reason),
             },
             None => FilesEnd {
                 finished,
-                reason: files.reason,
+                reason: self.reason,
             },
         }
     }

@@ -1,6 +1,5 @@
 -- The name of a plan, and the paths of its tables.
-use Rattle.std.specs.Prelude.{◌≡◌, ◌≢◌, ◌⊎◌, ℕ, List, [], ◌++◌, codes, Option, MatchOption, string_bytes}
-use Rattle.std.specs.Borrow.{Bor}
+use Rattle.std.specs.Prelude.{◌≡◌, ◌≢◌, ◌⊎◌, ℕ, List, [], ◌++◌, codes, string_bytes}
 use Rattle.std.specs.declared.alloc.Global.{Global}
 use Rattle.std.specs.declared.string.String.{String}
 use Rattle.recording_names.specs.PeriodNames.{IsPeriodName}
@@ -22,10 +21,6 @@ pub record IsPlanName (path name : List ℕ) : Type 0 where
 
 abbrev pub hyphen : ℕ
 hyphen = 45
-
--- a text is cut at its last octet of a value, or has none
-abbrev pub IsCutAtLast : ℕ → List ℕ → Option (Bor (List ℕ) × Bor (List ℕ)) → Type 0
-IsCutAtLast octet text cut = MatchOption cut (HasNo octet text) (λ parts. (text ≡ joined octet parts.0.now parts.1.now) × HasNo octet parts.1.now)
 
 -- what stands before the last octet of a value, or the whole text if it has none
 abbrev pub IsBefore : ℕ → List ℕ → List ℕ → Type 0

@@ -1,7 +1,8 @@
 //! The name of a plan, and the paths of its tables.
 
 ghost use Rattle.std.specs.Prelude.{◌≢◌, [], string_bytes, IfNone, IfOk, IfSome};
-ghost use Rattle.tables_folder.specs.PlanNames.{HasPath, IsBefore, IsCutAtLast, IsNamedPath, IsPlanName, IsShortName, IsTableName, hyphen};
+ghost use Rattle.tables_folder.specs.PlanNames.{HasPath, IsBefore, IsNamedPath, IsPlanName, IsShortName, IsTableName, hyphen};
+ghost use Rattle.exporter_names.specs.Cuts.{CutsAtLast};
 ghost use Rattle.exporter_names.specs.RecordedExporters.{slash};
 
 use exporter_names::file_name;
@@ -87,7 +88,7 @@ fn day_in(name: &str) -> &str
 }
 
 fn at_slash(name: &str) -> Option<(&str, &str)>
-    ensures { IsCutAtLast slash name.now result }
+    ensures { CutsAtLast slash name.now result }
 {
     name.rsplit_once('/')
 }
@@ -103,7 +104,7 @@ fn month_in(day: &str) -> &str
 }
 
 fn at_hyphen(day: &str) -> Option<(&str, &str)>
-    ensures { IsCutAtLast hyphen day.now result }
+    ensures { CutsAtLast hyphen day.now result }
 {
     day.rsplit_once('-')
 }

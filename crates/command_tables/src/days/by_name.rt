@@ -1,8 +1,8 @@
 //! The tables of periods and their receipts, by the names of the periods.
 
 ghost use Rattle.std.specs.Prelude.{◌≡◌, ◌≢◌, ◌++◌, ℕ, List, IfErr, IfNone, IfOk, IfSome, MatchOption, codes};
+ghost use Rattle.exporter_names.specs.Cuts.{CutsAtLast};
 ghost use Rattle.exporter_names.specs.RecordedExporters.{slash};
-ghost use Rattle.tables_folder.specs.PlanNames.{IsCutAtLast};
 ghost use Rattle.command_tables.specs.TextsByName.{IsReceiptText, IsTableText, NamesNone, NamesPeriod, RefusesNamed};
 
 use input_files::ReadText;
@@ -80,7 +80,7 @@ fn period_named(name: &str) -> Option<Period>
 
 // What stands before and after the last slash.
 fn split_name(name: &str) -> Option<(&str, &str)>
-    ensures { IsCutAtLast slash name.now result }
+    ensures { CutsAtLast slash name.now result }
 {
     name.rsplit_once('/')
 }

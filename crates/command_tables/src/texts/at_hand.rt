@@ -1,8 +1,8 @@
 //! Whether a table is of the plan at hand.
 
-ghost use Rattle.std.specs.Prelude.{◌≡◌, ◌↔◌, IsTrue, map};
+ghost use Rattle.std.specs.Prelude.{◌↔◌, IsTrue, map};
 ghost use Rattle.table_receipts.specs.Values.{file_value, receipt_value};
-ghost use Rattle.table_parts.specs.Parts.{HasPlan, HaveSameOctets};
+ghost use Rattle.table_parts.specs.Parts.{HasPlan, HasSameOctets, HaveSameOctets};
 
 use table_parts::PlanAtHand;
 use table_receipts::{FileReceipt, Receipt};
@@ -37,7 +37,7 @@ fn have_same_octets(files: &[FileReceipt], others: &[FileReceipt]) -> bool
 }
 
 fn is_same_text(file: &FileReceipt, other: &FileReceipt) -> bool
-    ensures { IsTrue result ↔ ((file.now.octets ≡ other.now.octets) × (file.now.sha256 ≡ other.now.sha256)) }
+    ensures { IsTrue result ↔ HasSameOctets (file_value file.now) (file_value other.now) }
 {
     file.octets == other.octets && file.sha256 == other.sha256
 }

@@ -2,9 +2,10 @@
 
 ghost use Rattle.std.specs.Prelude.{◌≡◌, IfErr, IfOk};
 ghost use Rattle.std.specs.Option.{ForSome};
-ghost use Rattle.flow_merge.specs.Merging.{merging_plan};
+ghost use Rattle.flow_merge.specs.Merging.{RefusesExport, merging_plan};
 ghost use Rattle.flow_table.specs.Fitting.{FitsPlan};
-ghost use Rattle.command_merge_receipts.specs.Tables.{Adds, CannotAddFrom};
+ghost use Rattle.ipfix_session.specs.declared.driver.TheConstants.{READ_LIMIT};
+ghost use Rattle.command_merge_receipts.specs.Tables.{AddsAll};
 ghost use Rattle.command_tables.specs.Texts.{CannotMerge, IsTableOf};
 
 use flow_export::Intervals;
@@ -31,8 +32,8 @@ fn add_source<'b, S: Source>(
     source: &mut S,
 ) -> Result<Merging<'b>, MergeFault>
     ensures plan { IfOk result (λ m. merging_plan m ≡ merging_plan merging.entry) }
-    ensures adds { ForSome (S.seen source.old).text (λ text. IfOk result (Adds merging.entry text)) }
-    ensures fault { IfErr result (CannotAddFrom S.seen merging.entry source.old source.new) }
+    ensures adds { ForSome (S.seen source.old).text (λ text. IfOk result (AddsAll merging.entry text)) }
+    ensures fault { RefusesExport S.seen READ_LIMIT merging.entry source.old source.new result }
 {
     merging.read(source, READ_LIMIT)
 }
