@@ -130,11 +130,12 @@ fn take_round<R: Clock + Threads + Wait + Sync>(
     let mut status = Status::Well;
     let mut takes_all = false;
     for (place, plan) in plans.iter_mut().enumerate() {
-        plan.work.rounds.begin(now);
+        let work = &mut plan.work;
+        work.rounds.begin(now);
         if let Some(texts) = &mut plan.texts {
             texts.texts.rounds.begin(now);
         }
-        takes_all = plan.work.rounds.takes_all();
+        takes_all = work.rounds.takes_all();
         let round = Round {
             alloc: run.rt.alloc(),
             from: run.from,
@@ -142,7 +143,7 @@ fn take_round<R: Clock + Threads + Wait + Sync>(
             rule: run.rule,
             now,
             // (what all plans wait for is told once)
-            tells_waiting: place == 0 && plan.work.rounds.tells_waiting(),
+            tells_waiting: place == 0 && work.rounds.tells_waiting(),
         };
         status = worse_of(status, take_plan(threads, run, plan, round));
     }

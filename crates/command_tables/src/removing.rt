@@ -75,7 +75,9 @@ fn receipts_of(
 ) -> Result<Vec<Option<Vec<String>>>, Reason> {
     let mut receipts = Vec::new(run.rt.alloc());
     for plan in plans {
-        let paths = plan.work.desk.tables.receipt_files(period).unwrap_or(None);
+        let work = &mut plan.work;
+        let desk = &mut work.desk;
+        let paths = desk.tables.receipt_files(period).unwrap_or(None);
         if receipts.push(paths).is_err() {
             return Err(Reason::OutOfMemory);
         }

@@ -35,7 +35,8 @@ pub fn take_periods<
 ) -> Status
     ensures { Takes F.Recordings round.entry periods.now result work.old work.new }
 {
-    match work.desk.folder.unfinished() {
+    let desk = &mut work.desk;
+    match desk.folder.unfinished() {
         Ok(unfinished) => take_each(threads, work, round, &unfinished, periods),
         Err(reason) => {
             tell_unlisted(round.from, reason, round.tells_waiting, &mut work.err);
