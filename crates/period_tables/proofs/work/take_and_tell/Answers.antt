@@ -1,4 +1,4 @@
-use Rattle.std.proofs.Common.{◌∙◌, inl, refl, string_bytes, subst}
+use Rattle.std.proofs.Common.{◌∙◌, ap, inl, inr, refl, string_bytes, subst}
 use Rattle.report_writing.specs.Told.{AreToldTo}
 use Rattle.period_tables.specs.Telling.{outcome_lines, outcome_paths}
 use Rattle.period_tables.proofs.work.take_and_tell.Goals as goal
@@ -20,3 +20,6 @@ returns-in-Ok-take_period g c = inl (record {
   status = c.tell_taken.ensures.status;
   settled = c.tell_taken.ensures.settled;
 })
+
+pub returns : goal.returns
+returns g c = inr (refl, refl, ap (λ d. record c.args.work.now { desk = d }) c.in-Err.ensures.err)
