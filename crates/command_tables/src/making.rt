@@ -116,7 +116,7 @@ fn follow<R: Clock + Threads + Wait + Sync>(
 
 // Whether a path of a table could not be written.
 fn has_failed(plans: &[PlanWork]) -> bool {
-    plans.iter().any(|plan| plan.work.out.has_failed())
+    plans.iter().any(|plan| plan.work.out.reason().is_some())
 }
 
 // Takes the periods of each plan, one plan after another, and then removes the recordings that are kept no longer.

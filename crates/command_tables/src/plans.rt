@@ -13,7 +13,7 @@ use crate::texts::{TextJob, Texts};
 use cli_inputs::{PlanMade, TableArguments, TablesArguments, collect_job, load_plan_made};
 use command_collect::Engine;
 use flow_export::Format;
-use input_sources::{FileInTurn, FilesInTurn};
+use input_sources::{FileInTurn, FilesInTurn, WithReason};
 use ipfix_session::FromReader;
 use jiff::tz::TimeZone;
 use local_days::LocalInterval;
@@ -21,7 +21,7 @@ use output_tables::Output;
 use period_collect::{PeriodJob, TableMaker};
 use period_tables::{Desk, Rounds, Work};
 use recording_folder::Folder;
-use report_writing::{CheckedWriter, Status};
+use report_writing::Status;
 use std::io::{Stderr, Stdout};
 use std::marker::PhantomData;
 use table_parts::PlanAtHand;
@@ -38,10 +38,10 @@ pub(crate) struct ReadPlan<'p> {
 /// lines go.
 pub(crate) type TablesWork<'a> = Work<
     RecordingsFolder<'a>,
-    TableMaker<'a, FromReader<FileInTurn<'a>>, FilesInTurn<'a>, CheckedWriter<Stderr>>,
+    TableMaker<'a, FromReader<FileInTurn<'a>>, FilesInTurn<'a>, Stderr>,
     PlanTables<'a>,
-    CheckedWriter<Stdout>,
-    CheckedWriter<Stderr>,
+    WithReason<Stdout>,
+    Stderr,
 >;
 
 /// A plan by its name, the work on its tables in IPFIX, and that on their texts in another format and on the tables of its days
@@ -341,12 +341,12 @@ fn work_of<'a>(rt: &'a HostRuntime, job: PeriodJob<'a>, tables: PlanTables<'a>) 
                 opening: FilesInTurn::new(rt, rt.alloc()),
                 sources: PhantomData,
                 job,
-                err: CheckedWriter::new(rt.stderr()),
+                err: rt.stderr(),
             },
             tables,
         },
-        out: CheckedWriter::new(rt.stdout()),
-        err: CheckedWriter::new(rt.stderr()),
+        out: WithReason::new(rt.stdout()),
+        err: rt.stderr(),
         rounds: Rounds::new(rt.alloc()),
     }
 }

@@ -65,10 +65,11 @@ fn take_and_tell<F, M, T: TablePlace + Drop, P: WriteLines, L: WriteLines>(
         return Status::Failed;
     };
     let DayTables { job, place, .. } = made;
+    let desk = &work.desk;
     let outcome = take_day(
         round.alloc,
         job,
-        &work.desk.tables,
+        &desk.tables,
         place,
         day,
         periods,
