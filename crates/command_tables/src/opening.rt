@@ -7,7 +7,7 @@ ghost use Rattle.cli_inputs.specs.Formats.{format_word};
 ghost use Rattle.command_collect.specs.Engines.{due_fault};
 ghost use Rattle.report_writing.specs.Told.{AreToldTo};
 ghost use Rattle.report_writing.specs.Writing.{Tells};
-ghost use Rattle.command_tables.specs.Opening.{AreNamed, AreNotNamed, ArePlansOf, HaveOneNameless, IsFolderName, IsNameless, IsRefused, is_hidden as begins_hidden, name_twice, nameless_line, names_of, plan_line, twice_line};
+ghost use Rattle.command_tables.specs.Opening.{AreNamed, AreNotNamed, ArePlansOf, HaveOneNameless, IsFolderName, IsNameless, IsRefused, is_hidden as begins_hidden, name_twice, names_of, nameless_line, plan_line, twice_line};
 
 use cli_inputs::{WITH_REASONS, tell_folder};
 use command_collect::{Engine, write_collect_fault};
