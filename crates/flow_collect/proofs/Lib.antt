@@ -11,6 +11,7 @@ pub mod InFull
 pub mod SameRuns
 pub mod Settled
 pub mod Runs
+pub mod SessionSinks
 pub mod Serials
 pub mod LotLists
 pub mod SendLists

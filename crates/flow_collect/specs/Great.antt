@@ -1,5 +1,5 @@
 -- Great counters: those above 2^63, two of which are too large a sum.
-use Rattle.std.specs.Prelude.{◌||◌, ℕ, Bool, true, false, List, Option, Some, None}
+use Rattle.std.specs.Prelude.{◌||◌, ℕ, Bool, false, List, Option, Some, None}
 use Rattle.std.specs.Borrow.{Bor}
 use Rattle.std.specs.List.{list_any, position_from}
 use Rattle.ipfix_message.specs.declared.record.DataRecord.{DataRecord}

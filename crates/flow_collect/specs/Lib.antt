@@ -15,6 +15,7 @@ pub mod Sends
 -- What only inner functions and proofs need.
 pub mod Adds
 pub mod Serials
+pub mod SessionSinks
 pub mod Promises
 pub mod Sessions
 pub mod LinkEnds

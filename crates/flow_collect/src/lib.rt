@@ -20,6 +20,7 @@ mod note_sink;
 mod rate_sink;
 mod serial;
 mod session_context;
+mod session_sinks;
 mod session_thread;
 mod settling;
 mod shortage;

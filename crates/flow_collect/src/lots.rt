@@ -7,18 +7,11 @@ ghost use Rattle.flow_table.specs.Partials.{plan_of};
 ghost use Rattle.flow_collect.specs.Serials.{LotRan, MergesLots, RunsOne};
 
 use crate::collected::FilteredReport;
-use crate::context_fields::ContextFields;
-use crate::context_sink::ContextSink;
-use crate::great_note::GreatNote;
-use crate::note_sink::NoteSink;
-use crate::rate_sink::{RateSink, first_notes};
 use crate::session_context::InContext;
-use exporter_options::ToldFields;
-use flow_filter::FilterSink;
+use crate::session_sinks::{first_sinks, told_at_end};
 use flow_table::{Partial, Plan, TableFault};
-use flow_times::TimeNotes;
 use ipfix_message::DataRecord;
-use ipfix_session::{READ_LIMIT, SessionLimits, Sink, Source, drive_in_full};
+use ipfix_session::{Sink, Source, drive_in_full};
 use std::alloc::{AllocError, Global};
 use std::collections::VecDeque;
 use std::thread::{Threads, join};
@@ -136,37 +129,15 @@ fn drive_one<S: Source + Drop>(
         mut sessions,
         partial,
     } = lot;
-    let times = NoteSink {
-        notes: TimeNotes::new(context.times),
-        great: GreatNote::new(context.great_counters),
-        sink: TableSink { partial },
-    };
-    let fields = ContextFields::new(alloc, context)?;
-    let told = ToldFields::new(alloc, context.options)?;
-    let notes = first_notes(alloc, context.options.sampling)?;
-    let rates = RateSink::new(context.estimates, notes, times);
-    let mut sink = ContextSink::new(told, fields, FilterSink::new(filter, rates));
-    let limits = SessionLimits {
-        reads: READ_LIMIT,
-        templates: context.templates,
-    };
-    let full = drive_in_full(alloc, &mut source, &mut sink, limits);
-    if sink.lost.is_some() || sink.refused > 0 {
+    let mut sinks = first_sinks(alloc, context, filter, TableSink { partial })?;
+    let full = drive_in_full(alloc, &mut source, &mut sinks, context.limits());
+    if sinks.lost.is_some() || sinks.refused > 0 {
         return Err(AllocError);
     }
-    let ContextSink { told, sink, .. } = sink;
-    let FilterSink { filtered, sink, .. } = sink;
-    let (sampling, times) = sink.finish(alloc, &told);
-    let NoteSink { notes, great, sink } = times;
-    sources.push(source)?;
-    sessions.push(FilteredReport {
-        full,
-        filtered,
-        sampling,
-        times: notes.report(),
-        is_great: great.is_great,
-    })?;
+    let (report, sink) = told_at_end(alloc, sinks, full);
     let TableSink { partial } = sink;
+    sources.push(source)?;
+    sessions.push(report)?;
     Ok(Lot {
         sources,
         sessions,

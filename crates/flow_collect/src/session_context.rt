@@ -1,7 +1,7 @@
 //! What a session knows beside a record: whose it is, and its observation domain.
 
 ghost use Rattle.std.specs.Prelude.{◌≡◌, ◌≤◌, ◌++◌, length, map, IfOk, OnOk};
-ghost use Rattle.flow_collect.specs.Contexts.{alone, nothing_known, context_fields, exporter_at, exporter_fields, mapped, named};
+ghost use Rattle.flow_collect.specs.Contexts.{alone, nothing_known, context_fields, exporter_at, exporter_fields, limits_in, mapped, named};
 
 use exporter_options::Wanted;
 use flow_estimates::Estimates;
@@ -12,6 +12,7 @@ use flow_table::{
 };
 use flow_times::TimeNoting;
 use ipfix_message::Fields;
+use ipfix_session::{READ_LIMIT, SessionLimits};
 use ipfix_wire::ElementId;
 use std::alloc::{AllocError, Global};
 use std::collections::VecDeque;
@@ -92,6 +93,16 @@ pub fn no_context<'a>() -> SessionContext<'a>
 }
 
 impl<'a> SessionContext<'a> {
+    /// How often its session reads at most, and what the templates may count.
+    pub fn limits(&self) -> SessionLimits
+        ensures { result ≡ limits_in self.now }
+    {
+        SessionLimits {
+            reads: READ_LIMIT,
+            templates: self.templates,
+        }
+    }
+
     /// The wanted fields of the records of an observation domain.
     pub fn fields(&self, alloc: Global, domain: u32) -> Result<Fields, AllocError>
         ensures { IfOk result (λ f. f ≡ context_fields self.now domain) }

@@ -4,20 +4,14 @@ ghost use Rattle.std.specs.Prelude.{◌≡◌, [], IfOk};
 ghost use Rattle.flow_collect.specs.Sessions.{SessionRan};
 
 use crate::collected::FilteredReport;
-use crate::context_fields::ContextFields;
-use crate::context_sink::ContextSink;
 use crate::gate::Gate;
-use crate::great_note::GreatNote;
 use crate::link_sink::LinkSink;
-use crate::note_sink::NoteSink;
-use crate::rate_sink::{RateSink, first_notes};
 use crate::session_context::SessionContext;
+use crate::session_sinks::{first_sinks, told_at_end};
 use crate::shortage::Shortage;
-use exporter_options::ToldFields;
-use flow_filter::{Filter, FilterSink};
+use flow_filter::Filter;
 use flow_link::Sender;
-use flow_times::TimeNotes;
-use ipfix_session::{READ_LIMIT, SessionLimits, Source, drive_in_full};
+use ipfix_session::{Source, drive_in_full};
 use std::alloc::Global;
 use std::sync::Wait;
 
@@ -64,40 +58,19 @@ pub fn run_session<'x, S: Source + Drop, G: Gate, R: Wait>(
     } = start;
     let mut source = source;
     let link = LinkSink::new(rt, gate, session, sender);
-    let fields = ContextFields::new(alloc, context)?;
-    let told = ToldFields::new(alloc, context.options)?;
-    let notes = first_notes(alloc, context.options.sampling)?;
-    let times = NoteSink {
-        notes: TimeNotes::new(context.times),
-        great: GreatNote::new(context.great_counters),
-        sink: link,
-    };
-    let rates = RateSink::new(context.estimates, notes, times);
-    let mut sink = ContextSink::new(told, fields, FilterSink::new(filter, rates));
-    let limits = SessionLimits {
-        reads: READ_LIMIT,
-        templates: context.templates,
-    };
-    let full = drive_in_full(alloc, &mut source, &mut sink, limits);
-    let sent = sink.sink.sink.sink.sink.send_last();
-    if let Some(shortage) = sink.lost {
+    let mut sinks = first_sinks(alloc, context, filter, link)?;
+    let full = drive_in_full(alloc, &mut source, &mut sinks, context.limits());
+    let sent = sinks.sink.sink.sink.sink.send_last();
+    if let Some(shortage) = sinks.lost {
         return Err(shortage);
     }
-    if !sent || sink.refused > 0 {
+    if !sent || sinks.refused > 0 {
         return Err(Shortage::NoThread);
     }
-    let ContextSink { told, sink, .. } = sink;
-    let FilterSink { filtered, sink, .. } = sink;
-    let (sampling, times) = sink.finish(alloc, &told);
+    let (report, link) = told_at_end(alloc, sinks, full);
     Ok(EndedSession {
-        report: FilteredReport {
-            full,
-            filtered,
-            sampling,
-            times: times.notes.report(),
-            is_great: times.great.is_great,
-        },
+        report,
         source,
-        sender: times.sink.sender,
+        sender: link.sender,
     })
 }
