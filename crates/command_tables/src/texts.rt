@@ -1,7 +1,6 @@
 //! The text of a period's table in another format than IPFIX, made of the table in IPFIX and its receipt that stand, as `merge
 //! --receipts` makes it of one part.
 
-mod at_hand;
 mod fault;
 mod job;
 mod making;

@@ -8,5 +8,5 @@ mod tables;
 
 pub use files::PartFiles;
 pub use parts::{NotRead, read_parts};
-pub use plan::PlanAtHand;
+pub use plan::{PlanAtHand, has_plan};
 pub use tables::{PartTable, is_its_table, table_of_input, tables_of};

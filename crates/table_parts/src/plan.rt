@@ -14,8 +14,8 @@ pub struct PlanAtHand<'a> {
     pub maps: &'a [FileReceipt],
 }
 
-/// Whether a part was made under the plan at hand: its text is the same octet for octet, and so are the files of
-/// elements and of maps, by their digests, whatever their names are.
+/// Whether the table of a receipt was made under the plan at hand: its text is the same octet for octet, and so are the
+/// files of elements and of maps, by their digests, whatever their names are.
 pub fn has_plan(plan: &PlanAtHand, receipt: &Receipt) -> bool
     ensures { IsTrue result ↔ HasPlan plan.now (receipt_value receipt.now) }
 {

@@ -7,7 +7,6 @@ ghost use Rattle.output_tables.specs.TableTexts.{IsTooMany};
 ghost use Rattle.table_receipts.specs.Values.{receipt_value, table_value};
 ghost use Rattle.command_tables.specs.Texts.{IsNotMade, IsSaid, IsTextOf, receipt_with, table_text};
 
-use super::at_hand::has_plan;
 use super::fault::TextFault;
 use super::job::TextJob;
 use super::merged::table_in;
@@ -18,6 +17,7 @@ use flow_table::FlatTable;
 use output_tables::export;
 use sha2::{Digest, Sha256};
 use std::alloc::{AllocError, Global};
+use table_parts::has_plan;
 use table_receipts::{Receipt, TableReceipt, write_receipt};
 
 /// A text of a table, and that of its receipt.
