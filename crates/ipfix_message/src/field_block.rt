@@ -1,6 +1,6 @@
 //! The fields of a data record (RFC 7011, section 3.4.3).
 
-ghost use Rattle.std.specs.Prelude.{◌≡◌, ◌==◌, ◌<◌, ◌^◌, [], ◌∷◌, ◌++◌, length, IfOk, IfSome, OnOk, OnErr, option_copied, slice_get};
+ghost use Rattle.std.specs.Prelude.{◌≡◌, ◌==◌, ◌<◌, ◌^◌, [], ◌∷◌, ◌++◌, length, true, false, IfOk, IfSome, OnOk, OnErr, option_copied, slice_get};
 ghost use Rattle.std.specs.Option.{option_map};
 ghost use Rattle.ipfix_message.specs.Fields.{octets_of};
 ghost use Rattle.ipfix_message.specs.FieldViews.{field_of};
@@ -8,6 +8,7 @@ ghost use Rattle.ipfix_message.specs.KeptFields.{IsInSet, IsKept, after_set, kep
 
 use crate::field_iter::{FieldIter, FieldRef};
 use crate::field_run::{FieldRun, find_element};
+use crate::numbered_fields::NumberedFields;
 use crate::own_fields::OwnFields;
 use crate::set_body::{SetBody, SetRecord};
 use crate::shared_fields::SharedFields;
@@ -28,6 +29,9 @@ enum Kept {
     /// They are those of the record that begins at an octet of a data set's body, and fields that
     /// other records share after these. (The record's parts are smaller here than the record.)
     Extended(u32, Arc<SetBody, Global>, Arc<OwnFields, Global>),
+    /// They are those of such a record, fields that other records share after these, if there are some, and
+    /// one of 4 octets that was pushed.
+    Numbered(u32, Arc<SetBody, Global>, NumberedFields),
     /// They are those of such a record, and a few short fields that were pushed after these.
     Short(u32, Arc<SetBody, Global>, Box<ShortFields>),
     /// They are those of such a record, and fields that were pushed after these.
@@ -73,6 +77,11 @@ fn own_copy(alloc: Global, kept: &Kept) -> Result<OwnFields, AllocError>
             copy.extend(tail)?;
             Ok(copy)
         }
+        Kept::Numbered(start, set, tail) => {
+            let mut copy = OwnFields::copy(alloc, set.fields_at(*start))?;
+            tail.append_to(&mut copy)?;
+            Ok(copy)
+        }
         Kept::Short(start, set, tail) => {
             let mut copy = OwnFields::copy(alloc, set.fields_at(*start))?;
             tail.append_to(&mut copy)?;
@@ -100,6 +109,7 @@ fn copy_after_set(alloc: Global, kept: &Kept, octets: usize) -> Result<OwnFields
     match kept {
         Kept::Nothing | Kept::InSet(_) => {}
         Kept::Extended(_, _, tail) => copy.extend(tail)?,
+        Kept::Numbered(_, _, tail) => tail.append_to(&mut copy)?,
         Kept::Short(_, _, tail) => tail.append_to(&mut copy)?,
         Kept::Pushed(_, _, tail) => copy.extend(tail)?,
         Kept::Own(own) => copy.extend(own)?,
@@ -120,26 +130,39 @@ fn with_own(kept: Kept, own: Box<OwnFields>) -> Kept
             Kept::Pushed(start, set, own)
         }
         Kept::Extended(start, set, _) => Kept::Pushed(start, set, own),
+        Kept::Numbered(start, set, _) => Kept::Pushed(start, set, own),
         Kept::Short(start, set, _) => Kept::Pushed(start, set, own),
         Kept::Pushed(start, set, _) => Kept::Pushed(start, set, own),
         Kept::Own(_) => Kept::Own(own),
     }
 }
 
-// The fields after those of a set and one more, if they are few and short, and these were not pushed.
+// A copy of fields in one block, if they are few and short.
+fn short_copy(fields: &OwnFields) -> Option<ShortFields>
+    ensures { IfSome result (λ short. short ≡ fields.now) }
+{
+    let mut short = ShortFields::new();
+    if short.extend(fields.iter()) {
+        Some(short)
+    } else {
+        None
+    }
+}
+
+// The fields after those of a set and one more, if they are few and short, and of these at most a number was pushed.
 fn short_after_set(kept: &Kept, element: ElementId, octets: &[u8]) -> Option<ShortFields>
     requires { IsKept kept.now }
     ensures fields { IfSome result (λ short. short ≡ after_set kept.now
         ++ record { element = element; octets = octets.now } ∷ []) }
     ensures whose { IfSome result (λ _. IsInSet kept.now) }
 {
-    let mut short = ShortFields::new();
-    let fits = match kept {
-        Kept::InSet(_) => true,
-        Kept::Extended(_, _, tail) => short.extend(tail.iter()),
-        Kept::Nothing | Kept::Short(_, _, _) | Kept::Pushed(_, _, _) | Kept::Own(_) => false,
+    let mut short = match kept {
+        Kept::InSet(_) => ShortFields::new(),
+        Kept::Extended(_, _, tail) => short_copy(tail)?,
+        Kept::Numbered(_, _, tail) => tail.to_short()?,
+        Kept::Nothing | Kept::Short(_, _, _) | Kept::Pushed(_, _, _) | Kept::Own(_) => return None,
     };
-    if fits && short.push(element, octets) {
+    if short.push(element, octets) {
         Some(short)
     } else {
         None
@@ -159,7 +182,36 @@ fn with_short(kept: Kept, short: Box<ShortFields>) -> Kept
             Kept::Short(start, set, short)
         }
         Kept::Extended(start, set, _) => Kept::Short(start, set, short),
+        Kept::Numbered(start, set, _) => Kept::Short(start, set, short),
         kept => kept,
+    }
+}
+
+// Appends a field of 4 octets to those of a set, and answers whether it did: no other was pushed, then.
+fn push_number(kept: &mut Kept, element: ElementId, octets: &[u8]) -> bool
+    requires { IsKept kept.old }
+    ensures kept { IsKept kept.new }
+    ensures pushed { result ≡ true → kept_fields kept.new
+        ≡ kept_fields kept.old ++ record { element = element; octets = octets.now } ∷ [] }
+    ensures same { result ≡ false → kept.new ≡ kept.old }
+{
+    let Ok(octets) = <[u8; 4]>::try_from(octets) else {
+        return false;
+    };
+    match mem::replace(kept, Kept::Nothing) {
+        Kept::InSet(set_record) => {
+            let (start, set) = set_record.into_parts();
+            *kept = Kept::Numbered(start, set, NumberedFields::alone(element, octets));
+            true
+        }
+        Kept::Extended(start, set, tail) => {
+            *kept = Kept::Numbered(start, set, NumberedFields::after(tail, element, octets));
+            true
+        }
+        other => {
+            *kept = other;
+            false
+        }
     }
 }
 
@@ -171,8 +223,10 @@ fn find_in_set(kept: &Kept, element: ElementId) -> Option<&[u8]>
 {
     match kept {
         Kept::InSet(set_record) => set_record.find(element),
-        Kept::Extended(start, set, _) | Kept::Short(start, set, _) | Kept::Pushed(start, set, _) =>
-            set.find_at(*start, element),
+        Kept::Extended(start, set, _)
+        | Kept::Numbered(start, set, _)
+        | Kept::Short(start, set, _)
+        | Kept::Pushed(start, set, _) => set.find_at(*start, element),
         Kept::Nothing | Kept::Own(_) => None,
     }
 }
@@ -185,6 +239,7 @@ fn find_after_set(kept: &Kept, element: ElementId) -> Option<&[u8]>
     match kept {
         Kept::Nothing | Kept::InSet(_) => None,
         Kept::Extended(_, _, tail) => tail.find(element),
+        Kept::Numbered(_, _, tail) => tail.find(element),
         Kept::Short(_, _, tail) => find_element(tail.iter(), element),
         Kept::Pushed(_, _, tail) => tail.find(element),
         Kept::Own(own) => own.find(element),
@@ -237,7 +292,11 @@ impl Fields {
             }
             Kept::Pushed(_, _, own) => return own.push(element, octets),
             Kept::Own(own) => return own.push(element, octets),
-            Kept::Nothing | Kept::InSet(_) | Kept::Extended(_, _, _) => {}
+            kept => {
+                if push_number(kept, element, octets) {
+                    return Ok(());
+                }
+            }
         }
         if let Some(short) = short_after_set(&self.kept, element, octets) {
             let short = Box::new(self.alloc, short)?;
@@ -303,12 +362,28 @@ impl Fields {
         ensures { result ≡ self.now }
     {
         match &self.kept {
-            Kept::Nothing => FieldIter::new(FieldRun::empty(), FieldRun::empty()),
-            Kept::InSet(set_record) => FieldIter::new(set_record.iter(), FieldRun::empty()),
-            Kept::Extended(start, set, tail) => FieldIter::new(set.fields_at(*start), tail.iter()),
-            Kept::Short(start, set, tail) => FieldIter::new(set.fields_at(*start), tail.iter()),
-            Kept::Pushed(start, set, tail) => FieldIter::new(set.fields_at(*start), tail.iter()),
-            Kept::Own(own) => FieldIter::new(own.iter(), FieldRun::empty()),
+            Kept::Nothing => FieldIter::new(FieldRun::empty(), FieldRun::empty(), None),
+            Kept::InSet(set_record) => FieldIter::new(set_record.iter(), FieldRun::empty(), None),
+            Kept::Extended(start, set, tail) => FieldIter::new(
+                set.fields_at(*start),
+                tail.iter(),
+                None,
+            ),
+            Kept::Numbered(start, set, tail) => {
+                let (shared, number) = tail.parts();
+                FieldIter::new(set.fields_at(*start), shared, Some(number))
+            }
+            Kept::Short(start, set, tail) => FieldIter::new(
+                set.fields_at(*start),
+                tail.iter(),
+                None,
+            ),
+            Kept::Pushed(start, set, tail) => FieldIter::new(
+                set.fields_at(*start),
+                tail.iter(),
+                None,
+            ),
+            Kept::Own(own) => FieldIter::new(own.iter(), FieldRun::empty(), None),
         }
     }
 

@@ -2,7 +2,7 @@
 
 ghost use Rattle.std.specs.Prelude.{◌≡◌, ◌++◌, length};
 ghost use Rattle.std.specs.Iterator.{YieldsFirstBy, item_count};
-ghost use Rattle.ipfix_message.specs.FieldViews.{field_of};
+ghost use Rattle.ipfix_message.specs.FieldViews.{field_of, last_field};
 
 use crate::field_run::FieldRun;
 use ipfix_wire::ElementId;
@@ -25,30 +25,33 @@ pub struct FieldIter<'a> {
     own: FieldRun<'a>,
     // Those that come after them.
     tail: FieldRun<'a>,
+    // The one after these, if there is one.
+    last: Option<FieldRef<'a>>,
 }
 
 impl<'a> Model for FieldIter<'a> {
     ghost use Rattle.std.specs.Prelude.{List, ◌++◌};
     ghost use Rattle.ipfix_message.specs.Fields.{Field};
+    ghost use Rattle.ipfix_message.specs.FieldViews.{last_field};
 
     ghost Value = { List Field };
 
-    ghost view = { λ it. it.own ++ it.tail };
+    ghost view = { λ it. it.own ++ (it.tail ++ last_field it.last) };
 }
 
 impl<'a> FieldIter<'a> {
-    /// A record's own fields, and then those of a tail.
-    pub(crate) fn new(own: FieldRun<'a>, tail: FieldRun<'a>) -> Self
-        ensures { result ≡ own.entry ++ tail.entry }
+    /// A record's own fields, then those of a tail, and then the last one, if there is one.
+    pub(crate) fn new(own: FieldRun<'a>, tail: FieldRun<'a>, last: Option<FieldRef<'a>>) -> Self
+        ensures { result ≡ own.entry ++ (tail.entry ++ last_field last.entry) }
     {
-        FieldIter { own, tail }
+        FieldIter { own, tail, last }
     }
 
     /// How many fields are left.
     pub(crate) fn left(&self) -> usize
         ensures { result ≡ length self.now }
     {
-        self.own.left() + self.tail.left()
+        self.own.left() + self.tail.left() + usize::from(self.last.is_some())
     }
 }
 
@@ -62,7 +65,10 @@ impl<'a> Iterator for FieldIter<'a> {
     fn next(&mut self) -> Option<FieldRef<'a>> {
         match self.own.next() {
             Some(field) => Some(field),
-            None => self.tail.next(),
+            None => match self.tail.next() {
+                Some(field) => Some(field),
+                None => self.last.take(),
+            },
         }
     }
 }

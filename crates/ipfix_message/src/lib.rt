@@ -15,6 +15,7 @@ mod laid_out;
 pub mod laws;
 mod layout;
 mod message;
+mod numbered_fields;
 mod own_fields;
 mod passed_over;
 mod places;
