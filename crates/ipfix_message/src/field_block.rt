@@ -340,7 +340,7 @@ impl Fields {
     pub fn to_shared(&self) -> Result<SharedFields, AllocError>
         ensures { IfOk result (λ f. f ≡ self.now) }
     {
-        SharedFields::new(self.alloc, own_copy(self.alloc, &self.kept)?)
+        Ok(SharedFields::new(self.alloc, own_copy(self.alloc, &self.kept)?))
     }
 
     /// How many fields there are.

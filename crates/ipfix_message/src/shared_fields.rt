@@ -8,8 +8,8 @@ use std::alloc::{AllocError, Global};
 use std::marker::Model;
 use std::sync::Arc;
 
-// For how many records more than one the fields are made ready at once, at most.
-const MOST_AT_ONCE: usize = 31;
+// How many records more than one share a copy of the fields, at most.
+const MOST_BESIDE: usize = 255;
 
 /// Fields that records share as their last ones. Contracts see the list of the fields.
 ///
@@ -17,12 +17,13 @@ const MOST_AT_ONCE: usize = 31;
 /// [`Fields::extend_shared`](crate::Fields::extend_shared) appends them.
 #[derive(Debug, Drop)]
 pub struct SharedFields {
-    fields: Arc<OwnFields, Global>,
-    // The same, for the next records. Records are often let go by another thread than this: if each
-    // was counted when it comes, the count would go from processor to processor twice for each.
+    alloc: Global,
+    fields: OwnFields,
+    // A copy of them, for each of the next records. Records are often let go by another thread than this: a
+    // copy that all of them shared would be counted by both, and go from processor to processor for each.
     ready: Vec<Arc<OwnFields, Global>>,
-    // For how many they are made ready the next time: about as many as there were.
-    at_once: usize,
+    // For how many more records the next copy is made: about as many as there were.
+    beside: usize,
 }
 
 impl Model for SharedFields {
@@ -32,9 +33,9 @@ impl Model for SharedFields {
 
     ghost Value = { List Field };
 
-    ghost view = { λ f. arc_value f.fields };
+    ghost view = { λ f. f.fields };
 
-    ghost invariant = { λ f. All (λ a. arc_value a ≡ arc_value f.fields) f.ready.items };
+    ghost invariant = { λ f. All (λ a. arc_value a ≡ f.fields) f.ready.items };
 }
 
 // Makes fields ready for as many records.
@@ -55,19 +56,19 @@ fn make_ready(
 
 impl SharedFields {
     /// These fields, to be shared.
-    pub(crate) fn new(alloc: Global, fields: OwnFields) -> Result<Self, AllocError>
-        ensures { IfOk result (λ f. f ≡ fields) }
+    pub(crate) fn new(alloc: Global, fields: OwnFields) -> Self
+        ensures { result ≡ fields }
     {
-        let fields = Arc::new(alloc, fields)?;
-        Ok(SharedFields {
+        SharedFields {
+            alloc,
             fields,
             ready: Vec::new(alloc),
-            at_once: 0,
-        })
+            beside: 0,
+        }
     }
 
-    /// The same fields, for a record. Nothing is copied. The error comes where there is no memory to
-    /// make more ready, or 2^63 records share them.
+    /// The same fields, for a record. A copy is made for many records at once. The error comes where there
+    /// is no memory for it.
     pub(crate) fn for_record(&mut self) -> Result<Arc<OwnFields, Global>, AllocError>
         ensures kept { self.new ≡ self.old }
         ensures same { IfOk result (λ fields. arc_value fields ≡ self.old) }
@@ -75,11 +76,14 @@ impl SharedFields {
         if let Some(fields) = self.ready.pop() {
             return Ok(fields);
         }
-        make_ready(&self.fields, self.at_once, &mut self.ready)?;
-        if self.at_once < MOST_AT_ONCE {
-            self.at_once = 2 * self.at_once + 1;
+        let mut copy = OwnFields::with_capacity(self.alloc, 0, 0)?;
+        copy.extend(&self.fields)?;
+        let copy = Arc::new(self.alloc, copy)?;
+        make_ready(&copy, self.beside, &mut self.ready)?;
+        if self.beside < MOST_BESIDE {
+            self.beside = 2 * self.beside + 1;
         }
-        Arc::try_clone(&self.fields)
+        Ok(copy)
     }
 
     /// Whether there are no fields.
