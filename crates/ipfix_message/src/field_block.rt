@@ -362,28 +362,16 @@ impl Fields {
         ensures { result ≡ self.now }
     {
         match &self.kept {
-            Kept::Nothing => FieldIter::new(FieldRun::empty(), FieldRun::empty(), None),
-            Kept::InSet(set_record) => FieldIter::new(set_record.iter(), FieldRun::empty(), None),
-            Kept::Extended(start, set, tail) => FieldIter::new(
-                set.fields_at(*start),
-                tail.iter(),
-                None,
-            ),
+            Kept::Nothing => FieldIter::new(FieldRun::empty(), FieldRun::empty()),
+            Kept::InSet(set_record) => FieldIter::new(set_record.iter(), FieldRun::empty()),
+            Kept::Extended(start, set, tail) => FieldIter::new(set.fields_at(*start), tail.iter()),
             Kept::Numbered(start, set, tail) => {
                 let (shared, number) = tail.parts();
-                FieldIter::new(set.fields_at(*start), shared, Some(number))
+                FieldIter::with_last(set.fields_at(*start), shared, number)
             }
-            Kept::Short(start, set, tail) => FieldIter::new(
-                set.fields_at(*start),
-                tail.iter(),
-                None,
-            ),
-            Kept::Pushed(start, set, tail) => FieldIter::new(
-                set.fields_at(*start),
-                tail.iter(),
-                None,
-            ),
-            Kept::Own(own) => FieldIter::new(own.iter(), FieldRun::empty(), None),
+            Kept::Short(start, set, tail) => FieldIter::new(set.fields_at(*start), tail.iter()),
+            Kept::Pushed(start, set, tail) => FieldIter::new(set.fields_at(*start), tail.iter()),
+            Kept::Own(own) => FieldIter::new(own.iter(), FieldRun::empty()),
         }
     }
 
