@@ -1,5 +1,5 @@
 -- The sinks of a session, one in front of the other.
-use Rattle.std.specs.Prelude.{◌≡◌, Option}
+use Rattle.std.specs.Prelude.{◌≡◌, None, Option}
 use Rattle.std.specs.Borrow.{Bor}
 use Rattle.ipfix_session.specs.declared.report.FullReport.{FullReport}
 use Rattle.exporter_options.specs.Beside.{asked_first}
@@ -19,6 +19,8 @@ SessionSinks K = ContextSink (FilterSink (RateSink (NoteSink K)))
 
 -- those of a session in this context and under this filter, in front of another, before its first record
 pub record AreFirst {K : Type 0} (context : SessionContext) (filter : Option (Bor Filter)) (sink : K) (sinks : SessionSinks K) : Type 0 where
+  pub none_lost : sinks.lost ≡ None
+  pub none_refused : sinks.refused ≡ 0
   pub asked : sinks.told ≡ asked_first context.options
   pub context_is : sinks.context ≡ context
   pub filter_is : sinks.sink.filter ≡ filter
