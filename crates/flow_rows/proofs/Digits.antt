@@ -16,15 +16,15 @@ use Rattle.flow_rows.proofs.Found.{either}
 use Rattle.flow_rows.proofs.Rising.{rises_from_sort}
 use Rattle.flow_rows.specs.Rows.{Row, Counted, IsRun, Small, part, row, total_at, words_cmp}
 use Rattle.flow_rows.specs.Folded.{Rises, folded}
-use Rattle.flow_rows.specs.Packed.{ArePacked, IsOrder, IsPacked, IsWithin, in_order, packed_onto, row_of}
+use Rattle.flow_rows.specs.Packed.{ArePacked, IsBetween, IsOrder, IsPacked, IsWithin, digit_onto, high, in_order, low, packed_onto, row_of, word_onto}
 
 -- ---- one word on
 
-pub packed_more : (n : ℕ) (ls ss ws : List ℕ) (i : ℕ) → i < length ls → i < length ss → i < length ws → packed_onto n (drop i ls) (drop i ss) (drop i ws) ≡ packed_onto (n * get_or ss i 0 + (get_or ws i 0 - get_or ls i 0)) (drop (i + 1) ls) (drop (i + 1) ss) (drop (i + 1) ws)
-packed_more n ls ss ws i p q r = rw (drop_more ls i 0 p, drop_more ss i 0 q, drop_more ws i 0 r) refl
+pub packed_more : (n : ℕ) (ls ms ws : List ℕ) (i : ℕ) → i < length ls → i < length ms → i < length ws → packed_onto n (drop i ls) (drop i ms) (drop i ws) ≡ packed_onto (word_onto n (get_or ls i 0) (get_or ms i 0) (get_or ws i 0)) (drop (i + 1) ls) (drop (i + 1) ms) (drop (i + 1) ws)
+packed_more n ls ms ws i p q r = rw (drop_more ls i 0 p, drop_more ms i 0 q, drop_more ws i 0 r) refl
 
-pub within_more : (ls ss ws : List ℕ) (i : ℕ) → i < length ls → i < length ss → i < length ws → get_or ls i 0 ≤ get_or ws i 0 → get_or ws i 0 < get_or ls i 0 + get_or ss i 0 → IsWithin (drop (i + 1) ls) (drop (i + 1) ss) (drop (i + 1) ws) → IsWithin (drop i ls) (drop i ss) (drop i ws)
-within_more ls ss ws i p q r low high h = rw (drop_more ls i 0 p, drop_more ss i 0 q, drop_more ws i 0 r) (low, high, h)
+pub within_more : (ls ms ws : List ℕ) (i : ℕ) → i < length ls → i < length ms → i < length ws → IsBetween (get_or ls i 0) (get_or ms i 0) (get_or ws i 0) → IsWithin (drop (i + 1) ls) (drop (i + 1) ms) (drop (i + 1) ws) → IsWithin (drop i ls) (drop i ms) (drop i ws)
+within_more ls ms ws i p q r b h = rw (drop_more ls i 0 p, drop_more ms i 0 q, drop_more ws i 0 r) (b, h)
 
 -- no word is left
 pub packed_all : (n : ℕ) (ls ss ws : List ℕ) (i : ℕ) → length ls ≤ i → packed_onto n (drop i ls) (drop i ss) (drop i ws) ≡ n
@@ -38,13 +38,33 @@ within_all ls ss ws i p q r = rw (drop_all i ls p, drop_all i ss q, drop_all i w
 digits_below : (a b s x y : ℕ) → a < b → x < s → a * s + x < b * s + y
 digits_below a b s x y l h = let next : a + 1 ≤ b = omega arith in omega (arith, mul-le-mul_right s next)
 
-below : (a b : ℕ) (ls ss xs ys : List ℕ) → a < b → IsWithin ls ss xs → IsWithin ls ss ys → packed_onto a ls ss xs < packed_onto b ls ss ys
+-- a greater number before it, or the same and a greater digit
+digit_less : (a b l m x y : ℕ) → a < b → x ≤ m → digit_onto a l m x < digit_onto b l m y
+digit_less a b l m x y h p = digits_below a b (m - l + 1) (x - l) (y - l) h (omega arith)
+
+word_less : (a b l m x y : ℕ) → a < b → IsBetween l m x → word_onto a l m x < word_onto b l m y
+word_less a b l m x y h p =
+    digit_less (digit_onto a (high l) (high m) (high x)) (digit_onto b (high l) (high m) (high y)) (low l) (low m) (low x) (low y)
+    (digit_less a b (high l) (high m) (high x) (high y) h p.high_to) p.low_to
+
+same_less : (n l m x y : ℕ) → x < y → IsBetween l m x → IsBetween l m y → word_onto n l m x < word_onto n l m y
+same_less n l m x y h p q =
+    elim (either (high x) (high y)) [
+      | inl less ↦
+          digit_less (digit_onto n (high l) (high m) (high x)) (digit_onto n (high l) (high m) (high y)) (low l) (low m) (low x) (low y)
+          (omega (arith, less, p.high_from)) p.low_to
+      | inr from ↦
+          let same : high x ≡ high y = omega (arith, h, from) in
+          let less : low x < low y = omega (arith, h, same) in
+          subst (λ (z : ℕ). word_onto n l m x < digit_onto (digit_onto n (high l) (high m) z) (low l) (low m) (low y)) same (omega (arith, less, p.low_from))
+    ]
+
+below : (a b : ℕ) (ls ms xs ys : List ℕ) → a < b → IsWithin ls ms xs → IsWithin ls ms ys → packed_onto a ls ms xs < packed_onto b ls ms ys
 below a b [] [] [] [] h p q = h
-below a b (l ∷ ls) (s ∷ ss) (x ∷ xs) (y ∷ ys) h p q =
-    below (a * s + (x - l)) (b * s + (y - l)) ls ss xs ys (digits_below a b s (x - l) (y - l) h (omega (arith, p.0, p.1))) p.2 q.2
+below a b (l ∷ ls) (m ∷ ms) (x ∷ xs) (y ∷ ys) h p q = below (word_onto a l m x) (word_onto b l m y) ls ms xs ys (word_less a b l m x y h p.0) p.1 q.1
 below a b [] [] [] (y ∷ ys) h p q = absurd q
-below a b (l ∷ ls) (s ∷ ss) (x ∷ xs) [] h p q = absurd q
-below a b ls ss xs ys h p q = absurd p
+below a b (l ∷ ls) (m ∷ ms) (x ∷ xs) [] h p q = absurd q
+below a b ls ms xs ys h p q = absurd p
 
 not_less : (x y : ℕ) (rest : Ordering) → y < x → ordering_then (nat_cmp x y) rest ≡ Less → ⊥
 not_less x y rest m e = let t : Greater ≡ Less = ap (λ (r : Ordering). ordering_then r rest) (nat_cmp_is x y Greater m) ∙ e in cc
@@ -52,22 +72,22 @@ not_less x y rest m e = let t : Greater ≡ Less = ap (λ (r : Ordering). orderi
 rest_less : (x y : ℕ) (rest : Ordering) → x ≡ y → ordering_then (nat_cmp x y) rest ≡ Less → rest ≡ Less
 rest_less x y rest m e = ap (λ (r : Ordering). ordering_then r rest) (nat_cmp_is x y Equal m) ∙ e
 
-less_packed : (n : ℕ) (ls ss xs ys : List ℕ) → IsWithin ls ss xs → IsWithin ls ss ys → words_cmp xs ys ≡ Less → packed_onto n ls ss xs < packed_onto n ls ss ys
+less_packed : (n : ℕ) (ls ms xs ys : List ℕ) → IsWithin ls ms xs → IsWithin ls ms ys → words_cmp xs ys ≡ Less → packed_onto n ls ms xs < packed_onto n ls ms ys
 less_packed n [] [] [] [] p q e = absurd (cc)
-less_packed n (l ∷ ls) (s ∷ ss) (x ∷ xs) (y ∷ ys) p q e =
+less_packed n (l ∷ ls) (m ∷ ms) (x ∷ xs) (y ∷ ys) p q e =
     elim (either x y) [
-      | inl h ↦ below (n * s + (x - l)) (n * s + (y - l)) ls ss xs ys (omega (arith, p.0, q.0)) p.2 q.2
+      | inl h ↦ below (word_onto n l m x) (word_onto n l m y) ls ms xs ys (same_less n l m x y h p.0 q.0) p.1 q.1
       | inr h ↦ elim (either y x) [
-        | inl m ↦ absurd (not_less x y (words_cmp xs ys) m e)
-        | inr m ↦
+        | inl less ↦ absurd (not_less x y (words_cmp xs ys) less e)
+        | inr from ↦
             let same : x ≡ y = omega arith in
-            subst (λ (w : ℕ). packed_onto (n * s + (x - l)) ls ss xs < packed_onto (n * s + (w - l)) ls ss ys) same
-            (less_packed (n * s + (x - l)) ls ss xs ys p.2 q.2 (rest_less x y (words_cmp xs ys) same e))
+            subst (λ (w : ℕ). packed_onto (word_onto n l m x) ls ms xs < packed_onto (word_onto n l m w) ls ms ys) same
+            (less_packed (word_onto n l m x) ls ms xs ys p.1 q.1 (rest_less x y (words_cmp xs ys) same e))
       ]
     ]
 less_packed n [] [] [] (y ∷ ys) p q e = absurd q
-less_packed n (l ∷ ls) (s ∷ ss) (x ∷ xs) [] p q e = absurd q
-less_packed n ls ss xs ys p q e = absurd p
+less_packed n (l ∷ ls) (m ∷ ms) (x ∷ xs) [] p q e = absurd q
+less_packed n ls ms xs ys p q e = absurd p
 
 -- ---- one row on
 

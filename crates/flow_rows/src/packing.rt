@@ -1,7 +1,8 @@
 //! The order of rows by key, from numbers that keys are packed into: a sort moves these faster than rows.
 
 ghost use Rattle.std.specs.Prelude.{◌≡◌, ◌/◌, ◌%◌, ◌<◌, ◌≤◌, IfSome, length};
-ghost use Rattle.flow_rows.specs.Packed.{ArePacked, IsOrder, IsWithin, packed_onto};
+ghost use Rattle.flow_rows.specs.Packed as packed;
+ghost use Rattle.flow_rows.specs.Packed.{ArePacked, IsBetween, IsOrder, IsWithin, digit_onto, packed_onto, word_onto};
 
 use crate::piece::Piece;
 use std::alloc::Global;
@@ -12,29 +13,64 @@ pub const PLACES: u64 = 524_288;
 /// So many rows are looked at before all are.
 const FEW: usize = 256;
 
-/// The words as one number, or `None` if one isn't within its span or they need more than 64 bits.
+/// So many numbers have room in half a word.
+const HALF: u64 = 4_294_967_296;
+
+/// The higher half of a word.
 #[inline(always)]
-fn pack(words: &[u64], least: &[u64], spans: &[u64]) -> Option<u64>
+fn high(word: u64) -> u64
+    ensures { result ≡ packed.high word }
+{
+    word / HALF
+}
+
+/// The lower half of a word.
+#[inline(always)]
+fn low(word: u64) -> u64
+    ensures { result ≡ packed.low word }
+{
+    word % HALF
+}
+
+/// A number and then a digit, in the base of what there is from the least half to the greatest, or `None` if the
+/// half is not one of these or there is no room.
+#[inline(always)]
+fn push_digit(number: u64, least: u64, most: u64, half: u64) -> Option<u64>
+    ensures packed { IfSome result (λ n. n ≡ digit_onto number least most half) }
+    ensures within { IfSome result (λ n. (least ≤ half) × (half ≤ most)) }
+{
+    if half < least || most < half {
+        return None;
+    }
+    let span = (most - least).checked_add(1)?;
+    let higher = number.checked_mul(span)?;
+    higher.checked_add(half - least)
+}
+
+/// A number and then the halves of a word. Short cells that are neighbours share a word, so each half has a span.
+#[inline(always)]
+fn push_word(number: u64, least: u64, most: u64, word: u64) -> Option<u64>
+    ensures packed { IfSome result (λ n. n ≡ word_onto number least most word) }
+    ensures within { IfSome result (λ n. IsBetween least most word) }
+{
+    let higher = push_digit(number, high(least), high(most), high(word))?;
+    push_digit(higher, low(least), low(most), low(word))
+}
+
+/// The words as one number, or `None` if a half isn't within those of its column or there is no room in 64 bits.
+#[inline(always)]
+fn pack(words: &[u64], least: &[u64], most: &[u64]) -> Option<u64>
     requires least { length least.now ≡ length words.now }
-    requires spans { length spans.now ≡ length words.now }
-    ensures packed { IfSome result (λ n. n ≡ packed_onto 0 least.now spans.now words.now) }
-    ensures within { IfSome result (λ n. IsWithin least.now spans.now words.now) }
+    requires most { length most.now ≡ length words.now }
+    ensures packed { IfSome result (λ n. n ≡ packed_onto 0 least.now most.now words.now) }
+    ensures within { IfSome result (λ n. IsWithin least.now most.now words.now) }
 {
     let mut number: u64 = 0;
     for i in 0..words.len() {
-        let Some(digit) = words[i].checked_sub(least[i]) else {
+        let Some(more) = push_word(number, least[i], most[i], words[i]) else {
             return None;
         };
-        if digit >= spans[i] {
-            return None;
-        }
-        let Some(higher) = number.checked_mul(spans[i]) else {
-            return None;
-        };
-        let Some(sum) = higher.checked_add(digit) else {
-            return None;
-        };
-        number = sum;
+        number = more;
     }
     Some(number)
 }
@@ -45,15 +81,15 @@ fn pack_row<const K: usize, const C: usize>(
     row: &Piece<K, C>,
     place: u64,
     least: &[u64; K],
-    spans: &[u64; K],
+    most: &[u64; K],
 ) -> Option<u64>
     requires { place < 524288 }
     ensures place { IfSome result (λ n. n % 524288 ≡ place) }
     ensures words { IfSome result (λ n.
-        n / 524288 ≡ packed_onto 0 least.now spans.now row.now.key) }
-    ensures within { IfSome result (λ n. IsWithin least.now spans.now row.now.key) }
+        n / 524288 ≡ packed_onto 0 least.now most.now row.now.key) }
+    ensures within { IfSome result (λ n. IsWithin least.now most.now row.now.key) }
 {
-    let Some(words) = pack(&row.key(), least, spans) else {
+    let Some(words) = pack(&row.key(), least, most) else {
         return None;
     };
     let Some(higher) = words.checked_mul(PLACES) else {
@@ -67,17 +103,17 @@ fn pack_rows<const K: usize, const C: usize>(
     alloc: Global,
     buffer: &[Piece<K, C>],
     least: &[u64; K],
-    spans: &[u64; K],
+    most: &[u64; K],
 ) -> Option<Vec<u64>>
     requires { length buffer.now ≤ 524288 }
     ensures { IfSome result (λ order.
-        ArePacked least.now spans.now buffer.now order.items) }
+        ArePacked least.now most.now buffer.now order.items) }
 {
     let Ok(mut order) = Vec::with_capacity(alloc, buffer.len()) else {
         return None;
     };
     for i in 0..buffer.len() {
-        let Some(number) = pack_row(&buffer[i], i as u64, least, spans) else {
+        let Some(number) = pack_row(&buffer[i], i as u64, least, most) else {
             return None;
         };
         let Ok(()) = order.push(number) else {
@@ -87,54 +123,62 @@ fn pack_rows<const K: usize, const C: usize>(
     Some(order)
 }
 
-/// Lets the words of a key be within the least and the greatest.
+/// A word of the lesser halves of two.
+#[inline(always)]
+fn lesser(a: u64, b: u64) -> u64 {
+    high(a).min(high(b)) * HALF + low(a).min(low(b))
+}
+
+/// A word of the greater halves of two.
+#[inline(always)]
+fn greater(a: u64, b: u64) -> u64 {
+    high(a).max(high(b)) * HALF + low(a).max(low(b))
+}
+
+/// Lets the halves of a key's words be from the least to the greatest.
 #[inline(always)]
 fn widen(least: &mut [u64], most: &mut [u64], words: &[u64])
     requires least { length least.old ≡ length words.now }
     requires most { length most.old ≡ length words.now }
 {
     for i in 0..words.len() {
-        least[i] = least[i].min(words[i]);
-        most[i] = most[i].max(words[i]);
+        least[i] = lesser(least[i], words[i]);
+        most[i] = greater(most[i], words[i]);
     }
 }
 
-/// How many numbers there are from the least of each word to the greatest.
-fn spans<const K: usize>(least: &[u64; K], most: &[u64; K]) -> [u64; K] {
-    let mut spans = *most;
-    for i in 0..spans.len() {
-        spans[i] = spans[i].saturating_sub(least[i]).saturating_add(1);
-    }
-    spans
+/// How many numbers there are from the least to the greatest.
+fn span(least: u64, most: u64) -> u64 {
+    most.saturating_sub(least).saturating_add(1)
 }
 
-/// Whether words of these spans and a place have room in 64 bits.
-fn have_room(spans: &[u64]) -> bool {
+/// Whether words whose halves are from the least to the greatest, and a place, have room in 64 bits.
+fn have_room(least: &[u64], most: &[u64]) -> bool
+    requires { length most.now ≡ length least.now }
+{
     let mut all = PLACES;
-    for i in 0..spans.len() {
-        let Some(more) = all.checked_mul(spans[i]) else {
-            return false;
-        };
-        all = more;
+    for i in 0..least.len() {
+        let higher = all.saturating_mul(span(high(least[i]), high(most[i])));
+        all = higher.saturating_mul(span(low(least[i]), low(most[i])));
     }
-    true
+    all < u64::MAX
 }
 
-/// The least of each word, and the span of each from there on. It only matters for speed: `pack` asks of each
-/// row whether it is within.
+/// The least halves of each column, and the greatest. They only matter for speed: `pack` asks of each row whether
+/// it is within.
 fn frame<const K: usize, const C: usize>(buffer: &[Piece<K, C>]) -> ([u64; K], [u64; K]) {
     let mut least = [u64::MAX; K];
     let mut most = [0; K];
     for i in 0..buffer.len() {
         widen(&mut least, &mut most, &buffer[i].key());
     }
-    (least, spans(&least, &most))
+    (least, most)
 }
 
 /// Whether the words of some rows and a place have room in 64 bits.
 fn are_narrow<const K: usize, const C: usize>(rows: &[Piece<K, C>]) -> bool {
-    let (_least, spans) = frame(rows);
-    have_room(&spans)
+    let (least, most) = frame(rows);
+    have_room(&least, &most)
 }
 
 /// The numbers of all rows, sorted.
@@ -142,12 +186,12 @@ fn sorted_numbers<const K: usize, const C: usize>(
     alloc: Global,
     buffer: &[Piece<K, C>],
     least: &[u64; K],
-    spans: &[u64; K],
+    most: &[u64; K],
 ) -> Option<Vec<u64>>
     requires { length buffer.now ≤ 524288 }
     ensures { IfSome result (λ order. IsOrder buffer.now order.items) }
 {
-    let Some(mut order) = pack_rows(alloc, buffer, least, spans) else {
+    let Some(mut order) = pack_rows(alloc, buffer, least, most) else {
         return None;
     };
     order.sort_unstable();
@@ -165,11 +209,11 @@ pub fn key_order<const K: usize, const C: usize>(
     if buffer.len() > 524_288 || !are_narrow(&buffer[..buffer.len().min(FEW)]) {
         return None;
     }
-    let (least, spans) = frame(buffer);
-    if !have_room(&spans) {
+    let (least, most) = frame(buffer);
+    if !have_room(&least, &most) {
         return None;
     }
-    sorted_numbers(alloc, buffer, &least, &spans)
+    sorted_numbers(alloc, buffer, &least, &most)
 }
 
 /// How many different keys there are in an order.

@@ -4,6 +4,6 @@ use Rattle.flow_rows.proofs.packing.pack.Given as goal
 
 abbrev pub invariant-loop-i : goal.invariant-loop-i
 invariant-loop-i l = record {
-  packed : packed_onto l.number (drop l.i l.least) (drop l.i l.spans) (drop l.i l.words) ≡ packed_onto 0 l.least l.spans l.words;
-  within : IsWithin (drop l.i l.least) (drop l.i l.spans) (drop l.i l.words) → IsWithin l.least l.spans l.words;
+  packed : packed_onto l.number (drop l.i l.least) (drop l.i l.most) (drop l.i l.words) ≡ packed_onto 0 l.least l.most l.words;
+  within : IsWithin (drop l.i l.least) (drop l.i l.most) (drop l.i l.words) → IsWithin l.least l.most l.words;
 }

@@ -5,7 +5,7 @@ use Rattle.flow_rows.proofs.packing.pack_rows.Goals as goal
 pub loop-i-preserved : goal.loop-i-preserved
 loop-i-preserved g c =
     let ls = c.args.least.now in
-    let ss = c.args.spans.now in
+    let ss = c.args.most.now in
     let rows = c.args.buffer.now in
     let old = c.loop-i.order.items in
     let new = c.push.new.self.items in

@@ -5,5 +5,5 @@ use Rattle.flow_rows.proofs.packing.pack_rows.Given as goal
 abbrev pub invariant-loop-i : goal.invariant-loop-i
 invariant-loop-i g l = record {
   long : length l.order.items ≡ l.i;
-  each : (k : ℕ) → k < l.i → IsPacked l.least l.spans l.buffer k (get_or l.order.items k 0);
+  each : (k : ℕ) → k < l.i → IsPacked l.least l.most l.buffer k (get_or l.order.items k 0);
 }
