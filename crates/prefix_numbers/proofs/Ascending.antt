@@ -1,10 +1,12 @@
 -- Places in numbers that ascend.
-use Rattle.std.proofs.Common.{◌≡◌, ℕ, ◌-◌, ◌<◌, ◌≤◌, Bool, true, false, List, length, get_or, inl, inr, sym, refl, arith}
+use Rattle.std.proofs.Common.{◌≡◌, ℕ, ◌+◌, ◌-◌, ◌<◌, ◌≤◌, Bool, true, false, List, drop, length, get_or, slice_range, inl, inr, sym, ap, ◌∙◌, refl, arith, length-drop, length-take}
 use Rattle.std.specs.Prelude.{nat_lt, nat_le}
 use Rattle.std.specs.List.{prefix_len}
 use Rattle.std.specs.List.Sorted.{IsNonDecreasing, IsPartitionPoint}
 use Rattle.std.proofs.lemmas.Bool.{cases_Bool, ltb-true, ltb-false, leb-true, leb-false, lt-ltb, le-leb}
-use Rattle.std.proofs.lemmas.List.Sums.{prefix_len_is, prefix_len_passes, prefix_len_stops}
+use Rattle.std.proofs.lemmas.List.{get_or-drop, get_or-take}
+use Rattle.std.proofs.lemmas.List.Sorted.{IsNonDecreasingBy-drop, IsNonDecreasingBy-take}
+use Rattle.std.proofs.lemmas.List.Sums.{prefix_len_is, prefix_len_passes, prefix_len_stops, prefix_len-le-length}
 
 -- two tests that follow from one another give one answer
 pub same_answer : (a b : Bool) → (a ≡ true → b ≡ true) → (b ≡ true → a ≡ true) → a ≡ b
@@ -61,3 +63,39 @@ place_up_to xs t k up inside small =
           let later : get_or xs (prefix_len (λ x. nat_le x t) xs) 0 ≤ get_or xs k 0 = up (prefix_len (λ x. nat_le x t) xs) k 0 ends inside in
           absurd (omega (arith, first, later, small))
     ]
+
+-- so the first ones are as many as are before a place where one of them is, and at most as many as are before another
+pub places_up_to : (xs : List ℕ) (t k : ℕ) → IsNonDecreasing xs → k - 1 < length xs → get_or xs (k - 1) 0 ≤ t → k ≤ prefix_len (λ x. nat_le x t) xs
+places_up_to xs t k up inside small = let last = place_up_to xs t (k - 1) up inside small in omega (arith, last)
+
+pub places_not_above : (xs : List ℕ) (t k : ℕ) → t < get_or xs k 0 → prefix_len (λ x. nat_le x t) xs ≤ k
+places_not_above xs t k large =
+    elim (cases_Bool (nat_lt k (prefix_len (λ x. nat_le x t) xs))) [
+      | inl is_so ↦ let small : get_or xs k 0 ≤ t = up_to_place xs t k (ltb-true _ _ is_so) in absurd (omega (arith, small, large))
+      | inr not_so ↦ ltb-false _ _ not_so
+    ]
+
+pub places_inside : (xs : List ℕ) (t : ℕ) → prefix_len (λ x. nat_le x t) xs ≤ length xs
+places_inside xs t = prefix_len-le-length (λ x. nat_le x t) xs
+
+-- ---- counting among some of them
+
+at_range : (xs : List ℕ) (low high k : ℕ) → low + k < high → get_or (slice_range xs low high) k 0 ≡ get_or xs (low + k) 0
+at_range xs low high k inside = get_or-take (high - low) (drop low xs) k 0 (omega (arith, inside)) ∙ get_or-drop low xs k 0
+
+-- those that pass are the ones before a place, and those from there to another, if they end between both
+counted_between : (p : ℕ → Bool) (xs : List ℕ) (low high : ℕ) → low ≤ prefix_len p xs → prefix_len p xs ≤ high → high ≤ length xs → low + prefix_len p (slice_range xs low high) ≡ prefix_len p xs
+counted_between p xs low high below above inside =
+    let long : length (slice_range xs low high) ≡ high - low = omega (arith, length-take (high - low) (drop low xs), length-drop low xs, inside) in
+    let back : low + (prefix_len p xs - low) ≡ prefix_len p xs = omega (arith, below) in
+    let part = prefix_len_is p (slice_range xs low high) (prefix_len p xs - low) 0 (omega (arith, long, above))
+    (λ k k_below. ap p (at_range xs low high k (omega (arith, k_below, above))) ∙ prefix_len_passes p xs (low + k) 0 (omega (arith, k_below)))
+    (λ more. ap p (at_range xs low high (prefix_len p xs - low) (omega (arith, more, long, back)) ∙ ap (λ k. get_or xs k 0) back) ∙ prefix_len_stops p xs 0 (omega (arith, more, long, inside))) in
+    omega (arith, part, below)
+
+pub point_between : (p : ℕ → Bool) (xs : List ℕ) (low high i : ℕ) → low ≤ prefix_len p xs → prefix_len p xs ≤ high → high ≤ length xs → i ≤ length (slice_range xs low high)
+    → IsPartitionPoint (λ y. p y ≡ true) (λ y. p y ≡ false) (slice_range xs low high) i → low + i ≡ prefix_len p xs
+point_between p xs low high i below above inside within h = ap (λ n. low + n) (point_is p (slice_range xs low high) i within h) ∙ counted_between p xs low high below above inside
+
+pub range_ascends : (xs : List ℕ) (low high : ℕ) → IsNonDecreasing xs → IsNonDecreasing (slice_range xs low high)
+range_ascends xs low high up = IsNonDecreasingBy-take (λ (x : ℕ). x) (high - low) (drop low xs) (IsNonDecreasingBy-drop (λ (x : ℕ). x) low xs up)

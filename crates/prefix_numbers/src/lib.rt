@@ -3,6 +3,9 @@
 
 mod error;
 mod flattening;
+mod guide;
+mod ipv4;
+mod ipv6;
 mod painting;
 mod prefix_map;
 mod reading;

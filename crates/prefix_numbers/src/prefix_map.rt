@@ -7,6 +7,9 @@ ghost use Rattle.prefix_numbers.specs.Spans.{HasZeros};
 ghost use Rattle.prefix_numbers.specs.Steps as steps_of;
 
 use crate::flattening::flatten;
+use crate::guide::Guide;
+use crate::ipv4::ipv4_steps;
+use crate::ipv6::ipv6_steps;
 use crate::row::NumberedPrefix;
 use network_prefixes::AddressBits;
 use std::alloc::{AllocError, Global};
@@ -17,8 +20,10 @@ use std::alloc::{AllocError, Global};
 pub struct PrefixMap {
     ipv4_starts: Vec<u32>,
     ipv4_numbers: Vec<u32>,
+    ipv4_guide: Guide,
     ipv6_starts: Vec<u128>,
     ipv6_numbers: Vec<u32>,
+    ipv6_guide: Guide,
     ghost ipv4_ascending: { IsNonDecreasing ipv4_starts.items },
     ghost ipv6_ascending: { IsNonDecreasing ipv6_starts.items },
 }
@@ -35,13 +40,13 @@ impl PrefixMap {
         if address.width == 32 {
             match u32::try_from(address.bits) {
                 Ok(bits) => {
-                    let steps = ipv4_steps(&self.ipv4_starts, bits);
+                    let steps = ipv4_steps(&self.ipv4_guide, &self.ipv4_starts, bits);
                     number_after(&self.ipv4_numbers, steps)
                 }
                 Err(_) => 0,
             }
         } else {
-            let steps = ipv6_steps(&self.ipv6_starts, address.bits);
+            let steps = ipv6_steps(&self.ipv6_guide, &self.ipv6_starts, address.bits);
             number_after(&self.ipv6_numbers, steps)
         }
     }
@@ -58,29 +63,17 @@ impl PrefixMap {
         let ipv4 = flatten(alloc, &rows, 32)?;
         let ipv6 = flatten(alloc, &rows, 128)?;
         let ipv4_starts = ipv4_starts_of(alloc, &ipv4.starts)?;
+        let ipv4_guide = Guide::of(alloc, &ipv4.starts, 0)?;
+        let ipv6_guide = Guide::of(alloc, &ipv6.starts, 64)?;
         Ok(PrefixMap {
             ipv4_starts,
             ipv4_numbers: ipv4.numbers,
+            ipv4_guide,
             ipv6_starts: ipv6.starts,
             ipv6_numbers: ipv6.numbers,
+            ipv6_guide,
         })
     }
-}
-
-// How many starts are not above an address.
-fn ipv4_steps(starts: &[u32], address: u32) -> usize
-    requires { IsNonDecreasing starts.now }
-    ensures { result ≡ steps_of.steps_to starts.now address }
-{
-    starts.partition_point(|start| *start <= address)
-}
-
-// The same of IPv6.
-fn ipv6_steps(starts: &[u128], address: u128) -> usize
-    requires { IsNonDecreasing starts.now }
-    ensures { result ≡ steps_of.steps_to starts.now address }
-{
-    starts.partition_point(|start| *start <= address)
 }
 
 // The number of the last of so many steps, 0 before the first.

@@ -28,8 +28,8 @@ fn number_in(alloc: Global, text: &str, address: &str) -> Option<u32> {
     }
 }
 
-// That an address has this number.
-fn assert_number(rt: &impl Abort, alloc: Global, text: &str, address: &str, number: u32) {
+/// That an address has this number.
+pub fn assert_number(rt: &impl Abort, alloc: Global, text: &str, address: &str, number: u32) {
     assert_eq!(rt; number_in(alloc, text, address), Some(number));
 }
 
