@@ -42,6 +42,9 @@ fn push_digit(number: u64, least: u64, most: u64, half: u64) -> Option<u64>
     if half < least || most < half {
         return None;
     }
+    if least == most {
+        return Some(number);
+    }
     let span = (most - least).checked_add(1)?;
     let higher = number.checked_mul(span)?;
     higher.checked_add(half - least)
@@ -123,27 +126,15 @@ fn pack_rows<const K: usize, const C: usize>(
     Some(order)
 }
 
-/// A word of the lesser halves of two.
-#[inline(always)]
-fn lesser(a: u64, b: u64) -> u64 {
-    high(a).min(high(b)) * HALF + low(a).min(low(b))
-}
-
-/// A word of the greater halves of two.
-#[inline(always)]
-fn greater(a: u64, b: u64) -> u64 {
-    high(a).max(high(b)) * HALF + low(a).max(low(b))
-}
-
-/// Lets the halves of a key's words be from the least to the greatest.
+/// Leaves in `least` only the bits that the words have, too, and adds to `most` those that they have.
 #[inline(always)]
 fn widen(least: &mut [u64], most: &mut [u64], words: &[u64])
     requires least { length least.old ≡ length words.now }
     requires most { length most.old ≡ length words.now }
 {
     for i in 0..words.len() {
-        least[i] = lesser(least[i], words[i]);
-        most[i] = greater(most[i], words[i]);
+        least[i] &= words[i];
+        most[i] |= words[i];
     }
 }
 
@@ -164,8 +155,8 @@ fn have_room(least: &[u64], most: &[u64]) -> bool
     all < u64::MAX
 }
 
-/// The least halves of each column, and the greatest. They only matter for speed: `pack` asks of each row whether
-/// it is within.
+/// For each column the bits that all of its words have, and those that some have: no half is below the first, or
+/// above the second. They only matter for speed: `pack` asks of each row whether it is within.
 fn frame<const K: usize, const C: usize>(buffer: &[Piece<K, C>]) -> ([u64; K], [u64; K]) {
     let mut least = [u64::MAX; K];
     let mut most = [0; K];
