@@ -6,13 +6,16 @@ ghost use Rattle.prefix_numbers.specs.Steps.{steps_to};
 
 use crate::guide::{Guide, head_of};
 
+/// As many last bits of addresses the guide leaves out: networks are rarely smaller.
+pub const LEFT_OUT: u32 = 64;
+
 /// How many starts are not above an address.
 #[inline]
 pub fn ipv6_steps(guide: &Guide, starts: &[u128], address: u128) -> usize
     requires { IsNonDecreasing starts.now }
     ensures { result ≡ steps_to starts.now address }
 {
-    let (low, high) = guide.places_at(head_of(address, 64));
+    let (low, high) = guide.places_at(head_of(address, LEFT_OUT));
     let first = first_place(starts, low, address);
     let end = end_place(starts, high, address);
     first + starts[first..end].partition_point(|start| *start <= address)

@@ -9,13 +9,13 @@ ghost use Rattle.prefix_numbers.specs.Steps as steps_of;
 use crate::flattening::flatten;
 use crate::guide::Guide;
 use crate::ipv4::ipv4_steps;
-use crate::ipv6::ipv6_steps;
+use crate::ipv6::{LEFT_OUT, ipv6_steps};
 use crate::row::NumberedPrefix;
 use network_prefixes::AddressBits;
 use std::alloc::{AllocError, Global};
 
 /// Numbers of addresses, by steps: from each start on, up to the next one, addresses of a family have one
-/// number, and before the first one they have 0.
+/// number, and before the first one they have 0. Guides say where an address is looked up first.
 #[derive(Debug, Drop)]
 pub struct PrefixMap {
     ipv4_starts: Vec<u32>,
@@ -64,7 +64,7 @@ impl PrefixMap {
         let ipv6 = flatten(alloc, &rows, 128)?;
         let ipv4_starts = ipv4_starts_of(alloc, &ipv4.starts)?;
         let ipv4_guide = Guide::of(alloc, &ipv4.starts, 0)?;
-        let ipv6_guide = Guide::of(alloc, &ipv6.starts, 64)?;
+        let ipv6_guide = Guide::of(alloc, &ipv6.starts, LEFT_OUT)?;
         Ok(PrefixMap {
             ipv4_starts,
             ipv4_numbers: ipv4.numbers,
