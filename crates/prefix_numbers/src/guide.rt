@@ -100,7 +100,7 @@ fn shift_of(heads: &[u64], each: u64) -> u32 {
         return 0;
     };
     let distance = last.saturating_sub(*first) / heads.len() as u64;
-    distance.saturating_mul(each).max(1).ilog2()
+    distance.saturating_mul(each).max(each).max(1).ilog2()
 }
 
 /// An address without so many of its last bits, as a number of 64 bits.
