@@ -2,6 +2,7 @@
 //! transport session.
 #![tactic(auto)]
 
+mod apart;
 mod data_check;
 mod data_set;
 mod domains;

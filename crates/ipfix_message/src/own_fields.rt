@@ -4,6 +4,7 @@ ghost use Rattle.std.specs.Prelude.{◌≡◌, ◌==◌, ◌<◌, ◌^◌, [], �
 ghost use Rattle.ipfix_message.specs.Fields.{octets_of};
 ghost use Rattle.ipfix_message.specs.SpelledFields.{Spells, SpellsOctets, IsShort, fields_in};
 
+use crate::apart::{APART, Apart};
 use crate::field_run::{FieldRun, find_element};
 use ipfix_wire::{ElementId, Spec, VARIABLE_WIDTH};
 use std::alloc::{AllocError, Global};
@@ -16,6 +17,7 @@ const GREATEST_LENGTH: [u8; 3] = [255; 3];
 /// of the fields.
 #[derive(Debug, Drop)]
 pub struct OwnFields {
+    apart: Apart,
     specs: Vec<Spec>,
     octets: Vec<u8>,
 }
@@ -55,6 +57,7 @@ impl OwnFields {
         ensures { IfOk result (λ f. f ≡ []) }
     {
         Ok(OwnFields {
+            apart: APART,
             specs: Vec::with_capacity(alloc, fields)?,
             octets: Vec::with_capacity(alloc, octets)?,
         })

@@ -5,6 +5,7 @@ ghost use Rattle.std.specs.Arc.{arc_value};
 ghost use Rattle.ipfix_message.specs.Fields.{octets_of};
 ghost use Rattle.ipfix_message.specs.SetRecords.{specs_of, fields_from, HasRecordAt, IsRecordOf};
 
+use crate::apart::{APART, Apart};
 use crate::field_run::FieldRun;
 use crate::laid_out::LaidOut;
 use crate::own_fields::OwnFields;
@@ -16,6 +17,7 @@ use std::sync::Arc;
 /// The octets of the body of a data set, and the template of its records.
 #[derive(Debug, Drop)]
 pub struct SetBody {
+    apart: Apart,
     template: Arc<LaidOut, Global>,
     octets: Vec<u8>,
 }
@@ -31,7 +33,15 @@ impl SetBody {
         ensures octets { IfOk result (λ set. (arc_value set).octets.items ≡ body.now) }
     {
         let octets = Vec::from_slice(alloc, body)?;
-        Ok(Arc::new(alloc, SetBody { template, octets })?)
+        let apart = APART;
+        Ok(Arc::new(
+            alloc,
+            SetBody {
+                apart,
+                template,
+                octets,
+            },
+        )?)
     }
 
     /// The fields of the record that begins at an octet, in order.
