@@ -1,5 +1,5 @@
 -- The words of cells, keys and places compare as these do, and tell them.
-use Rattle.std.proofs.Common.{◌≡◌, ℕ, zero, suc, ◌-◌, ◌<◌, ◌≤◌, Bool, true, false, cond, List, [], ◌∷◌, ◌++◌, length, length-append, take, drop, get_or, Option, Some, None, refl, sym, ap, ◌∙◌, append_assoc, arith}
+use Rattle.std.proofs.Common.{◌≡◌, ℕ, zero, suc, ◌-◌, ◌^◌, ◌<◌, ◌≤◌, leb, ltb, Bool, true, false, cond, List, [], ◌∷◌, ◌++◌, length, take, drop, get_or, Option, Some, None, refl, sym, ap, ◌∙◌, subst, append-nil, append_assoc, arith}
 use Rattle.std.specs.Cmp.Lexicographic.{slice_cmp}
 use Rattle.std.specs.Int.{to_be_bytes, w64}
 use Rattle.std.specs.Ordering.{nat_cmp, ordering_then}
@@ -11,9 +11,14 @@ use Rattle.ipfix_elements.specs.declared.cell.Cell.TheVariants.{Number, Ipv4, Ip
 use Rattle.ipfix_elements.specs.declared.kind.Kind.{Kind}
 use Rattle.ipfix_elements.specs.declared.kind.Kind.TheVariants as kinds
 use Rattle.ipfix_elements.specs.declared.kind.Width.{Width}
+use Rattle.ipfix_elements.specs.declared.kind.Width.TheVariants.{One, Two, Four, Eight}
+use Rattle.ipfix_elements.specs.Values.{octets_of as width_of}
+use Rattle.ipfix_elements.proofs.Lookups.{mapped}
+use Rattle.std.proofs.lemmas.Bool.{ltb-true}
 use Rattle.flow_rows.specs.Rows.{words_cmp}
 use Rattle.flow_table.specs.Tables.{key_cmp}
-use Rattle.flow_table.specs.Words.{spelled, are_octets, cell_words, both_words, key_words, words_of_kind, word_count, padded, cell_from, key_from}
+use Rattle.flow_table.specs.Words.{spelled, are_octets, cell_words, both_words, key_words, pack, plain_from, plain_words, shorts, shorts_of_kind, words_of_kind, word_count, padded, cell_from, key_from}
+use Rattle.flow_table.proofs.Packing.{AreBeside, beside_long, beside_more, pack_back, pack_long, pack_rank}
 use Rattle.flow_table.proofs.Octets.{Octets, octets_of, octets_rank, parts_rank, take_octets, drop_octets, eight_back, then_then}
 
 -- ---- one cell
@@ -25,8 +30,10 @@ chosen : (b : Bool) (xs ys : List ℕ) → cond b (Some xs) None ≡ Some ys →
 chosen true xs ys h = (refl, sym (some_same xs ys h))
 chosen false xs ys h = absurd cc
 
-of_number : (width : Width) (cell : Cell) (ws : List ℕ) → cell_words (kinds.Unsigned width) cell ≡ Some ws → (n : ℕ) × (cell ≡ Number n) × (ws ≡ n ∷ [])
-of_number width (Number n) ws h = (n, refl, sym (some_same (n ∷ []) ws h))
+of_number : (width : Width) (cell : Cell) (ws : List ℕ) → cell_words (kinds.Unsigned width) cell ≡ Some ws → (n : ℕ) × (cell ≡ Number n) × (ws ≡ n ∷ []) × (n < 256 ^ width_of width)
+of_number width (Number n) ws h =
+    let c = chosen (ltb n (256 ^ width_of width)) (n ∷ []) ws h in
+    (n, refl, c.1, ltb-true n (256 ^ width_of width) c.0)
 of_number width (Ipv4 a) ws h = absurd cc
 of_number width (Ipv6 a) ws h = absurd cc
 of_number width (Mac a) ws h = absurd cc
@@ -112,38 +119,63 @@ both_some None b ws h = absurd cc
 both_some (Some us) None ws h = absurd cc
 both_some (Some us) (Some vs) ws h = (us, vs, refl, refl, sym (some_same (us ++ vs) ws h))
 
-pub key_rank : (kinds : List Kind) (cs ds : List Cell) (ws vs : List ℕ) → key_words kinds cs ≡ Some ws → key_words kinds ds ≡ Some vs → (r s : List ℕ) → words_cmp (ws ++ r) (vs ++ s) ≡ ordering_then (key_cmp cs ds) (words_cmp r s)
-key_rank [] [] [] ws vs h k r s =
+pub plain_rank : (kinds : List Kind) (cs ds : List Cell) (ws vs : List ℕ) → plain_words kinds cs ≡ Some ws → plain_words kinds ds ≡ Some vs → (r s : List ℕ) → words_cmp (ws ++ r) (vs ++ s) ≡ ordering_then (key_cmp cs ds) (words_cmp r s)
+plain_rank [] [] [] ws vs h k r s =
     ap (λ (xs : List ℕ). words_cmp (xs ++ r) (vs ++ s)) (sym (some_same [] ws h)) ∙ ap (λ (ys : List ℕ). words_cmp r (ys ++ s)) (sym (some_same [] vs k))
-key_rank [] (c ∷ cs) ds ws vs h k r s = absurd cc
-key_rank [] [] (d ∷ ds) ws vs h k r s = absurd cc
-key_rank (kind ∷ kinds) [] ds ws vs h k r s = absurd cc
-key_rank (kind ∷ kinds) (c ∷ cs) [] ws vs h k r s = absurd cc
-key_rank (kind ∷ kinds) (c ∷ cs) (d ∷ ds) ws vs h k r s =
-    let x = both_some (cell_words kind c) (key_words kinds cs) ws h in
-    let y = both_some (cell_words kind d) (key_words kinds ds) vs k in
+plain_rank [] (c ∷ cs) ds ws vs h k r s = absurd cc
+plain_rank [] [] (d ∷ ds) ws vs h k r s = absurd cc
+plain_rank (kind ∷ kinds) [] ds ws vs h k r s = absurd cc
+plain_rank (kind ∷ kinds) (c ∷ cs) [] ws vs h k r s = absurd cc
+plain_rank (kind ∷ kinds) (c ∷ cs) (d ∷ ds) ws vs h k r s =
+    let x = both_some (cell_words kind c) (plain_words kinds cs) ws h in
+    let y = both_some (cell_words kind d) (plain_words kinds ds) vs k in
     ap (λ (xs : List ℕ). words_cmp (xs ++ r) (vs ++ s)) x.4 ∙ ap (λ (ys : List ℕ). words_cmp ((x.0 ++ x.1) ++ r) (ys ++ s)) y.4
     ∙ ap (λ (xs : List ℕ). words_cmp xs ((y.0 ++ y.1) ++ s)) (append_assoc x.0 x.1 r) ∙ ap (λ (ys : List ℕ). words_cmp (x.0 ++ (x.1 ++ r)) ys) (append_assoc y.0 y.1 s)
     ∙ cell_rank kind c d x.0 y.0 x.2 y.2 (x.1 ++ r) (y.1 ++ s)
-    ∙ ap (λ (o : Ordering). ordering_then (cell_cmp c d) o) (key_rank kinds cs ds x.1 y.1 x.3 y.3 r s)
+    ∙ ap (λ (o : Ordering). ordering_then (cell_cmp c d) o) (plain_rank kinds cs ds x.1 y.1 x.3 y.3 r s)
     ∙ sym (then_then (cell_cmp c d) (key_cmp cs ds) (words_cmp r s))
 
-cell_long : (kind : Kind) (c : Cell) (ws : List ℕ) → cell_words kind c ≡ Some ws → length ws ≡ words_of_kind kind
-cell_long (kinds.Unsigned width) c ws h = ap length (of_number width c ws h).2
-cell_long kinds.Ipv4 c ws h = ap length (of_ipv4 c ws h).2
-cell_long kinds.Ipv6 c ws h = ap length (of_ipv6 c ws h).2
-cell_long kinds.Mac c ws h = ap length (of_mac c ws h).2
-cell_long kinds.Seconds c ws h = absurd (none_of kinds.Seconds c ws refl h)
-cell_long kinds.Millis c ws h = absurd (none_of kinds.Millis c ws refl h)
-cell_long kinds.Octets c ws h = absurd (none_of kinds.Octets c ws refl h)
+-- ---- which of them are short
 
-pub key_long : (kinds : List Kind) (cs : List Cell) (ws : List ℕ) → key_words kinds cs ≡ Some ws → length ws ≡ word_count kinds
-key_long [] [] ws h = ap length (sym (some_same [] ws h))
-key_long [] (c ∷ cs) ws h = absurd cc
-key_long (kind ∷ kinds) [] ws h = absurd cc
-key_long (kind ∷ kinds) (c ∷ cs) ws h =
-    let x = both_some (cell_words kind c) (key_words kinds cs) ws h in
-    omega (arith, ap length x.4, length-append x.0 x.1, cell_long kind c x.0 x.2, key_long kinds cs x.1 x.3)
+number_short : (width : Width) (n : ℕ) → n < 256 ^ width_of width → leb (width_of width) 4 ≡ true → n < 2 ^ 32
+number_short One n l h = let k : n < 256 = l in omega arith
+number_short Two n l h = let k : n < 65536 = l in omega arith
+number_short Four n l h = l
+number_short Eight n l h = absurd cc
+
+four_short : (xs : List ℕ) → length xs ≡ 4 → Octets xs → spelled 0 xs < 2 ^ 32
+four_short [] l h = absurd (omega arith)
+four_short (a ∷ []) l h = absurd (omega arith)
+four_short (a ∷ b ∷ []) l h = absurd (omega arith)
+four_short (a ∷ b ∷ c ∷ []) l h = absurd (omega arith)
+four_short (a ∷ b ∷ c ∷ d ∷ []) l h = omega (arith, h.0, h.1.0, h.1.1.0, h.1.1.1.0)
+four_short (a ∷ b ∷ c ∷ d ∷ e ∷ xs) l h = absurd (omega arith)
+
+-- one word, or two
+one_beside : (f : Bool) (w : ℕ) (ws : List ℕ) → ws ≡ w ∷ [] → (f ≡ true → w < 2 ^ 32) → AreBeside (f ∷ []) ws
+one_beside f w ws e h = subst (AreBeside (f ∷ [])) (sym e) (h, tt)
+
+never_short : (w : ℕ) → false ≡ true → w < 2 ^ 32
+never_short w h = absurd cc
+
+cell_beside : (kind : Kind) (c : Cell) (ws : List ℕ) → cell_words kind c ≡ Some ws → AreBeside (shorts_of_kind kind) ws
+cell_beside (kinds.Unsigned width) c ws h =
+    let x = of_number width c ws h in
+    one_beside (leb (width_of width) 4) x.0 ws x.2 (number_short width x.0 x.3)
+cell_beside kinds.Ipv4 c ws h = let x = of_ipv4 c ws h in one_beside true (spelled 0 x.0) ws x.2 (λ t. four_short x.0 x.3 x.4)
+cell_beside kinds.Ipv6 c ws h = let x = of_ipv6 c ws h in subst (AreBeside (false ∷ false ∷ [])) (sym x.2) (never_short (spelled 0 (take 8 x.0)), (never_short (spelled 0 (drop 8 x.0)), tt))
+cell_beside kinds.Mac c ws h = let x = of_mac c ws h in one_beside false (spelled 0 x.0) ws x.2 (never_short (spelled 0 x.0))
+cell_beside kinds.Seconds c ws h = absurd (none_of kinds.Seconds c ws refl h)
+cell_beside kinds.Millis c ws h = absurd (none_of kinds.Millis c ws refl h)
+cell_beside kinds.Octets c ws h = absurd (none_of kinds.Octets c ws refl h)
+
+pub plain_beside : (kinds : List Kind) (cs : List Cell) (ws : List ℕ) → plain_words kinds cs ≡ Some ws → AreBeside (shorts kinds) ws
+plain_beside [] [] ws h = subst (AreBeside []) (some_same [] ws h) tt
+plain_beside [] (c ∷ cs) ws h = absurd cc
+plain_beside (kind ∷ kinds) [] ws h = absurd cc
+plain_beside (kind ∷ kinds) (c ∷ cs) ws h =
+    let x = both_some (cell_words kind c) (plain_words kinds cs) ws h in
+    subst (AreBeside (shorts (kind ∷ kinds))) (sym x.4) (beside_more (shorts_of_kind kind) (shorts kinds) x.0 x.1 (cell_beside kind c x.0 x.2) (plain_beside kinds cs x.1 x.3))
 
 -- ---- and back
 
@@ -176,17 +208,38 @@ drop_front (x ∷ xs) ys = drop_front xs ys
 cells_cons : (a b : Cell) (cs ds : List Cell) → a ≡ b → cs ≡ ds → a ∷ cs ≡ b ∷ ds
 cells_cons a b cs ds p q = cc
 
-pub key_back : (kinds : List Kind) (cs : List Cell) (ws r : List ℕ) → key_words kinds cs ≡ Some ws → key_from kinds (ws ++ r) ≡ cs
-key_back [] [] ws r h = refl
-key_back [] (c ∷ cs) ws r h = absurd cc
-key_back (kind ∷ kinds) [] ws r h = absurd cc
-key_back (kind ∷ kinds) (c ∷ cs) ws r h =
-    let x = both_some (cell_words kind c) (key_words kinds cs) ws h in
+pub plain_back : (kinds : List Kind) (cs : List Cell) (ws r : List ℕ) → plain_words kinds cs ≡ Some ws → plain_from kinds (ws ++ r) ≡ cs
+plain_back [] [] ws r h = refl
+plain_back [] (c ∷ cs) ws r h = absurd cc
+plain_back (kind ∷ kinds) [] ws r h = absurd cc
+plain_back (kind ∷ kinds) (c ∷ cs) ws r h =
+    let x = both_some (cell_words kind c) (plain_words kinds cs) ws h in
     let split : ws ++ r ≡ x.0 ++ (x.1 ++ r) = ap (λ (vs : List ℕ). vs ++ r) x.4 ∙ append_assoc x.0 x.1 r in
-    let later : drop (words_of_kind kind) (x.0 ++ (x.1 ++ r)) ≡ x.1 ++ r = ap (λ (n : ℕ). drop n (x.0 ++ (x.1 ++ r))) (sym (cell_long kind c x.0 x.2)) ∙ drop_front x.0 (x.1 ++ r) in
-    ap (λ (vs : List ℕ). key_from (kind ∷ kinds) vs) split
-    ∙ cells_cons _ c (key_from kinds (drop (words_of_kind kind) (x.0 ++ (x.1 ++ r)))) cs (first_back kind c x.0 (x.1 ++ r) x.2)
-    (ap (λ (vs : List ℕ). key_from kinds vs) later ∙ key_back kinds cs x.1 r x.3)
+    let later : drop (words_of_kind kind) (x.0 ++ (x.1 ++ r)) ≡ x.1 ++ r = ap (λ (n : ℕ). drop n (x.0 ++ (x.1 ++ r))) (sym (beside_long (shorts_of_kind kind) x.0 (cell_beside kind c x.0 x.2))) ∙ drop_front x.0 (x.1 ++ r) in
+    ap (λ (vs : List ℕ). plain_from (kind ∷ kinds) vs) split
+    ∙ cells_cons _ c (plain_from kinds (drop (words_of_kind kind) (x.0 ++ (x.1 ++ r)))) cs (first_back kind c x.0 (x.1 ++ r) x.2)
+    (ap (λ (vs : List ℕ). plain_from kinds vs) later ∙ plain_back kinds cs x.1 r x.3)
+
+-- ---- packed
+
+packed_of : (kinds : List Kind) (cs : List Cell) (ws : List ℕ) → key_words kinds cs ≡ Some ws → (us : List ℕ) × (plain_words kinds cs ≡ Some us) × (pack (shorts kinds) us ≡ ws)
+packed_of kinds cs ws h = mapped (pack (shorts kinds)) (plain_words kinds cs) ws h
+
+pub key_rank : (kinds : List Kind) (cs ds : List Cell) (ws vs : List ℕ) → key_words kinds cs ≡ Some ws → key_words kinds ds ≡ Some vs → (r s : List ℕ) → words_cmp (ws ++ r) (vs ++ s) ≡ ordering_then (key_cmp cs ds) (words_cmp r s)
+key_rank kinds cs ds ws vs h k r s =
+    let x = packed_of kinds cs ws h in
+    let y = packed_of kinds ds vs k in
+    ap (λ (xs : List ℕ). words_cmp (xs ++ r) (vs ++ s)) (sym x.2) ∙ ap (λ (ys : List ℕ). words_cmp (pack (shorts kinds) x.0 ++ r) (ys ++ s)) (sym y.2)
+    ∙ pack_rank (shorts kinds) x.0 y.0 (plain_beside kinds cs x.0 x.1) (plain_beside kinds ds y.0 y.1) r s
+    ∙ plain_rank kinds cs ds x.0 y.0 x.1 y.1 r s
+
+pub key_long : (kinds : List Kind) (cs : List Cell) (ws : List ℕ) → key_words kinds cs ≡ Some ws → length ws ≡ word_count kinds
+key_long kinds cs ws h = let x = packed_of kinds cs ws h in ap length (sym x.2) ∙ pack_long (shorts kinds) x.0 []
+
+pub key_back : (kinds : List Kind) (cs : List Cell) (ws r : List ℕ) → key_words kinds cs ≡ Some ws → key_from kinds (ws ++ r) ≡ cs
+key_back kinds cs ws r h =
+    let x = packed_of kinds cs ws h in
+    ap (λ (vs : List ℕ). key_from kinds (vs ++ r)) (sym x.2) ∙ ap (plain_from kinds) (pack_back (shorts kinds) x.0 r (plain_beside kinds cs x.0 x.1) ∙ sym (append-nil x.0)) ∙ plain_back kinds cs x.0 [] x.1
 
 -- ---- padded
 

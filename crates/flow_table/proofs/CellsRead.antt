@@ -1,5 +1,5 @@
 -- The cells that octets are read as, by their words.
-use Rattle.std.proofs.Common.{◌≡◌, ℕ, List, [], ◌∷◌, length, Option, Some, None, option_map, refl, sym, ap, ◌∙◌, subst}
+use Rattle.std.proofs.Common.{◌≡◌, ℕ, List, length, Option, Some, None, option_map, refl, sym, ap, ◌∙◌, subst}
 use Rattle.ipfix_elements.specs.Values.{number_in, cell_in}
 use Rattle.ipfix_elements.specs.declared.cell.Cell.{Cell}
 use Rattle.ipfix_elements.specs.declared.cell.Cell.TheVariants.{Number, Ipv4, Ipv6, Mac}
@@ -9,7 +9,8 @@ use Rattle.ipfix_elements.specs.declared.kind.Width.{Width}
 use Rattle.flow_table.specs.Fitting.{IsCellOf}
 use Rattle.flow_table.specs.Reading.{projected}
 use Rattle.flow_table.specs.Readings.{HasCell}
-use Rattle.flow_table.specs.Words.{cell_words}
+use Rattle.flow_table.specs.declared.words.CellWords.{CellWords}
+use Rattle.flow_table.specs.Words.{HasWords}
 use Rattle.flow_table.proofs.Fits.{IsOctets, number_fits, projected_fits}
 
 -- a prefix leaves all that is no address of IP
@@ -22,17 +23,17 @@ mac_whole None address = refl
 mac_whole (Some bits) address = refl
 
 -- a cell that a prefix leaves as it is
-has_whole : (kind : Kind) (prefix : Option ℕ) (found : Option Cell) (cell : Cell) (words : List ℕ) → found ≡ Some cell → projected prefix cell ≡ cell → IsCellOf kind cell → cell_words kind cell ≡ Some words
+has_whole : (kind : Kind) (prefix : Option ℕ) (found : Option Cell) (cell : Cell) (words : CellWords) → found ≡ Some cell → projected prefix cell ≡ cell → IsCellOf kind cell → HasWords kind cell words
     → HasCell kind (option_map (projected prefix) found) words
 has_whole kind prefix found cell words is whole fits are =
     record { cell = cell; is = ap (λ (o : Option Cell). option_map (projected prefix) o) is ∙ ap (λ (x : Cell). Some x) whole; fits = fits; are = are }
 
-pub has_number : (width : Width) (prefix : Option ℕ) (octets : List ℕ) (n : ℕ) → IsOctets octets → number_in (kinds.Unsigned width) octets ≡ Some n
-    → HasCell (kinds.Unsigned width) (option_map (projected prefix) (cell_in (kinds.Unsigned width) octets)) (n ∷ [])
-has_number width prefix octets n small h =
-    has_whole (kinds.Unsigned width) prefix (cell_in (kinds.Unsigned width) octets) (Number n) (n ∷ []) (ap (λ (o : Option ℕ). option_map (λ (m : ℕ). Number m) o) h) (number_whole prefix n) (number_fits width octets n small h) refl
+pub has_number : (width : Width) (prefix : Option ℕ) (octets : List ℕ) (n : ℕ) (words : CellWords) → IsOctets octets → number_in (kinds.Unsigned width) octets ≡ Some n → HasWords (kinds.Unsigned width) (Number n) words
+    → HasCell (kinds.Unsigned width) (option_map (projected prefix) (cell_in (kinds.Unsigned width) octets)) words
+has_number width prefix octets n words small h are =
+    has_whole (kinds.Unsigned width) prefix (cell_in (kinds.Unsigned width) octets) (Number n) words (ap (λ (o : Option ℕ). option_map (λ (m : ℕ). Number m) o) h) (number_whole prefix n) (number_fits width octets n small h) are
 
-pub has_ipv4 : (prefix : Option ℕ) (octets address kept words : List ℕ) → address ≡ octets → length octets ≡ 4 → Ipv4 kept ≡ projected prefix (Ipv4 address) → cell_words kinds.Ipv4 (Ipv4 kept) ≡ Some words
+pub has_ipv4 : (prefix : Option ℕ) (octets address kept : List ℕ) (words : CellWords) → address ≡ octets → length octets ≡ 4 → Ipv4 kept ≡ projected prefix (Ipv4 address) → HasWords kinds.Ipv4 (Ipv4 kept) words
     → HasCell kinds.Ipv4 (option_map (projected prefix) (cell_in kinds.Ipv4 octets)) words
 has_ipv4 prefix octets address kept words same long is are =
     let whole : Ipv4 kept ≡ projected prefix (Ipv4 octets) = is ∙ ap (λ (a : List ℕ). projected prefix (Ipv4 a)) same in
@@ -43,7 +44,7 @@ has_ipv4 prefix octets address kept words same long is are =
       are = are;
     }
 
-pub has_ipv6 : (prefix : Option ℕ) (octets address kept words : List ℕ) → address ≡ octets → length octets ≡ 16 → Ipv6 kept ≡ projected prefix (Ipv6 address) → cell_words kinds.Ipv6 (Ipv6 kept) ≡ Some words
+pub has_ipv6 : (prefix : Option ℕ) (octets address kept : List ℕ) (words : CellWords) → address ≡ octets → length octets ≡ 16 → Ipv6 kept ≡ projected prefix (Ipv6 address) → HasWords kinds.Ipv6 (Ipv6 kept) words
     → HasCell kinds.Ipv6 (option_map (projected prefix) (cell_in kinds.Ipv6 octets)) words
 has_ipv6 prefix octets address kept words same long is are =
     let whole : Ipv6 kept ≡ projected prefix (Ipv6 octets) = is ∙ ap (λ (a : List ℕ). projected prefix (Ipv6 a)) same in
@@ -54,7 +55,7 @@ has_ipv6 prefix octets address kept words same long is are =
       are = are;
     }
 
-pub has_mac : (prefix : Option ℕ) (octets address words : List ℕ) → address ≡ octets → length octets ≡ 6 → cell_words kinds.Mac (Mac address) ≡ Some words
+pub has_mac : (prefix : Option ℕ) (octets address : List ℕ) (words : CellWords) → address ≡ octets → length octets ≡ 6 → HasWords kinds.Mac (Mac address) words
     → HasCell kinds.Mac (option_map (projected prefix) (cell_in kinds.Mac octets)) words
 has_mac prefix octets address words same long are =
-    has_whole kinds.Mac prefix (cell_in kinds.Mac octets) (Mac octets) words (rw long refl) (mac_whole prefix octets) long (ap (λ (a : List ℕ). cell_words kinds.Mac (Mac a)) (sym same) ∙ are)
+    has_whole kinds.Mac prefix (cell_in kinds.Mac octets) (Mac octets) words (rw long refl) (mac_whole prefix octets) long (subst (λ (a : List ℕ). HasWords kinds.Mac (Mac a) words) same are)

@@ -17,7 +17,7 @@ use Rattle.flow_table.specs.SameTables.{IsSameTable, RowValue, row_value, value_
 use Rattle.flow_table.specs.Tables.{flows_at, place_of, place_cmp, sum_at, IsRow, IsTable}
 use Rattle.flow_table.specs.Totals.{total}
 use Rattle.flow_table.specs.Vectors.{vec_of}
-use Rattle.flow_table.specs.Words.{first_of, key_from, words_of_kind}
+use Rattle.flow_table.specs.Words.{first_of, key_from, plain_from, shorts, unpack, words_of_kind}
 use Rattle.flow_table.specs.declared.flat_table.FlatTable.TheInside.{Inside}
 use Rattle.flow_table.specs.declared.run.Run.{Run}
 use Rattle.flow_table.specs.declared.run.Run.TheVariants.{Two, Four, Six, Nine, Most}
@@ -29,9 +29,12 @@ items_of : {X : Type 0} (alloc : Global) (xs : List X) → length xs < 2 ^ 63 �
 unfolding vec_of
 items_of alloc xs few = take_all (2 ^ 63 - 1) xs (omega arith)
 
+plain_length : (kinds : List Kind) (ws : List ℕ) → length (plain_from kinds ws) ≡ length kinds
+plain_length [] ws = refl
+plain_length (kind ∷ kinds) ws = ap suc (plain_length kinds (drop (words_of_kind kind) ws))
+
 key_length : (kinds : List Kind) (ws : List ℕ) → length (key_from kinds ws) ≡ length kinds
-key_length [] ws = refl
-key_length (kind ∷ kinds) ws = ap suc (key_length kinds (drop (words_of_kind kind) ws))
+key_length kinds ws = plain_length kinds (unpack (shorts kinds) ws)
 
 sums_length : (n : ℕ) (f : ℕ → ℕ) → length (first_of n f) ≡ n
 sums_length zero f = refl

@@ -9,8 +9,9 @@ use Rattle.flow_table.specs.Fitting.{IsCellOf}
 use Rattle.flow_table.specs.Missing.{first_without}
 use Rattle.flow_table.specs.Reading.{cell_of, cells_of}
 use Rattle.flow_table.specs.Readings.{HasCell, HasKey}
-use Rattle.flow_table.specs.Words.{both_words, cell_words, key_words}
-use Rattle.flow_table.proofs.CellWords.{both_some}
+use Rattle.flow_table.specs.declared.words.CellWords.{CellWords}
+use Rattle.flow_table.specs.Words.{Pushes, waiting}
+use Rattle.flow_table.proofs.WordSteps.{FirstWords, words_begin, words_done, words_more}
 use Rattle.ipfix_message.specs.declared.record.DataRecord.{DataRecord}
 
 zip_more : {A B : Type 0} (R : A → B → Type 0) (xs : List A) (ys : List B) (i : ℕ) (d : A) (y : B) → i < length xs → AllZip R (take i xs) ys → R (get_or xs i d) y → AllZip R (take (suc i) xs) (ys ++ y ∷ [])
@@ -53,54 +54,39 @@ place_more keys kinds r i d n cell first inside beside here so_far =
     rw (add-one i, drop-cons keys i d, drop-cons kinds i n) (rw (← here) refl) in
     so_far ∙ ap (option_map (λ (k : ℕ). i + k)) next ∙ further i (first_without (drop (i + 1) keys) (drop (i + 1) kinds) r)
 
--- the words so far, with those of one more cell
-more_words : (kinds : List Kind) (found : List Cell) (words ws : List ℕ) (i : ℕ) (k : Kind) (cell : Cell) → i < length kinds
-    → key_words (take i kinds) found ≡ Some words → cell_words (get_or kinds i k) cell ≡ Some ws → key_words (take (suc i) kinds) (found ++ cell ∷ []) ≡ Some (words ++ ws)
-more_words [] found words ws i k cell inside so_far here = absurd (omega arith)
-more_words (kind ∷ kinds) [] words ws zero k cell inside so_far here =
-    let none : [] ≡ words = cc in
-    ap (λ (o : Option (List ℕ)). both_words o (Some [])) here ∙ ap (λ (vs : List ℕ). Some vs) (append-nil ws) ∙ ap (λ (vs : List ℕ). Some (vs ++ ws)) none
-more_words (kind ∷ kinds) (c ∷ found) words ws zero k cell inside so_far here = absurd cc
-more_words (kind ∷ kinds) [] words ws (suc i) k cell inside so_far here = absurd cc
-more_words (kind ∷ kinds) (c ∷ found) words ws (suc i) k cell inside so_far here =
-    let x = both_some (cell_words kind c) (key_words (take i kinds) found) words so_far in
-    ap (λ (o : Option (List ℕ)). both_words o (key_words (take (suc i) kinds) (found ++ cell ∷ []))) x.2
-    ∙ ap (λ (o : Option (List ℕ)). both_words (Some x.0) o) (more_words kinds found x.1 ws i k cell (omega arith) x.3 here)
-    ∙ ap (λ (vs : List ℕ). Some vs) (sym (append_assoc x.0 x.1 ws)) ∙ ap (λ (vs : List ℕ). Some (vs ++ ws)) (sym x.4)
-
 -- ---- the words of the first keys, which have a cell each
 
-pub record FirstKeys (keys : List Key) (kinds : List Kind) (r : DataRecord) (i : ℕ) (words : List ℕ) : Type 0 where
+pub record FirstKeys (keys : List Key) (kinds : List Kind) (r : DataRecord) (i : ℕ) (half : Option ℕ) (words : List ℕ) : Type 0 where
   pub found : List Cell
   pub cells : cells_of keys kinds r ≡ option_map (λ (rest : List Cell). found ++ rest) (cells_of (drop i keys) (drop i kinds) r)
   pub fits : AllZip IsCellOf (take i kinds) found
-  pub are : key_words (take i kinds) found ≡ Some words
+  pub are : FirstWords kinds found i half words
 
-pub no_keys : (keys : List Key) (kinds : List Kind) (r : DataRecord) (words : List ℕ) → words ≡ [] → FirstKeys keys kinds r 0 words
+pub no_keys : (keys : List Key) (kinds : List Kind) (r : DataRecord) (words : List ℕ) → words ≡ [] → FirstKeys keys kinds r 0 None words
 no_keys keys kinds r words e =
-    record { found = []; cells = sym (nothing_first (cells_of keys kinds r)); fits = tt; are = ap (λ (ws : List ℕ). Some ws) (sym e) }
+    record { found = []; cells = sym (nothing_first (cells_of keys kinds r)); fits = tt; are = words_begin kinds words e }
   where
     nothing_first : (o : Option (List Cell)) → option_map (λ (rest : List Cell). [] ++ rest) o ≡ o
     nothing_first None = refl
     nothing_first (Some cells) = refl
 
-pub one_key_more : (keys : List Key) (kinds : List Kind) (r : DataRecord) (words ws new : List ℕ) (i : ℕ) (d : Key) (k : Kind) → i < length keys → i < length kinds
-    → HasCell (get_or kinds i k) (cell_of (get_or keys i d) (get_or kinds i k) r) ws → new ≡ words ++ ws → FirstKeys keys kinds r i words → FirstKeys keys kinds r (i + 1) new
-one_key_more keys kinds r words ws new i d k inside beside has is first =
+pub one_key_more : (keys : List Key) (kinds : List Kind) (r : DataRecord) (half now : Option ℕ) (words new : List ℕ) (of : CellWords) (i : ℕ) (d : Key) (k : Kind) → i < length keys → i < length kinds
+    → HasCell (get_or kinds i k) (cell_of (get_or keys i d) (get_or kinds i k) r) of → Pushes half of words new now → FirstKeys keys kinds r i half words → FirstKeys keys kinds r (i + 1) now new
+one_key_more keys kinds r half now words new of i d k inside beside has pushes first =
     record {
       found = first.found ++ has.cell ∷ [];
       cells = cells_more keys kinds r first.found (first.found ++ has.cell ∷ []) i d k has.cell inside beside (sym has.is) refl first.cells;
       fits = more_fit kinds first.found (first.found ++ has.cell ∷ []) i k has.cell beside first.fits has.fits refl;
-      are = rw (add-one i, is) (more_words kinds first.found words ws i k has.cell beside first.are has.are);
+      are = words_more kinds first.found i half now words new k has.cell of beside has.are pushes first.are;
     }
 
-pub all_keys : (keys : List Key) (kinds : List Kind) (r : DataRecord) (words : List ℕ) (i : ℕ) → length keys ≤ i → length kinds ≤ i → FirstKeys keys kinds r i words → HasKey keys kinds r words
-all_keys keys kinds r words i past beside first =
+pub all_keys : (keys : List Key) (kinds : List Kind) (r : DataRecord) (half : Option ℕ) (words new : List ℕ) (i : ℕ) → length keys ≤ i → length kinds ≤ i → new ≡ words ++ waiting half → FirstKeys keys kinds r i half words → HasKey keys kinds r new
+all_keys keys kinds r half words new i past beside last first =
     record {
       key = first.found;
       is = first.cells ∙ ap (λ (ks : List Key). option_map (λ (rest : List Cell). first.found ++ rest) (cells_of ks (drop i kinds) r)) (drop_all i keys past) ∙ ap (λ (cs : List Cell). Some cs) (append-nil first.found);
       fits = subst (λ (ks : List Kind). AllZip IsCellOf ks first.found) (take_all i kinds beside) first.fits;
-      are = subst (λ (ks : List Kind). key_words ks first.found ≡ Some words) (take_all i kinds beside) first.are;
+      are = words_done kinds first.found i half words new beside last first.are;
     }
 
 -- ---- the first key that a record lacks
@@ -123,8 +109,8 @@ here_none keys kinds r i d n first inside beside none so_far =
     let same : i + 0 ≡ i = omega arith in
     so_far ∙ ap (option_map (λ (k : ℕ). i + k)) here ∙ ap (λ (k : ℕ). Some k) same
 
-pub no_key : (keys : List Key) (kinds : List Kind) (r : DataRecord) (words : List ℕ) (i : ℕ) (d : Key) (k : Kind) → i < length keys → i < length kinds → cell_of (get_or keys i d) (get_or kinds i k) r ≡ None
-    → FirstKeys keys kinds r i words → cells_of keys kinds r ≡ None
-no_key keys kinds r words i d k inside beside none first =
+pub no_key : (keys : List Key) (kinds : List Kind) (r : DataRecord) (half : Option ℕ) (words : List ℕ) (i : ℕ) (d : Key) (k : Kind) → i < length keys → i < length kinds → cell_of (get_or keys i d) (get_or kinds i k) r ≡ None
+    → FirstKeys keys kinds r i half words → cells_of keys kinds r ≡ None
+no_key keys kinds r half words i d k inside beside none first =
     let here : cells_of (drop i keys) (drop i kinds) r ≡ None = rw (drop-cons keys i d, drop-cons kinds i k, none) refl in
     first.cells ∙ ap (option_map (λ (rest : List Cell). first.found ++ rest)) here

@@ -1,4 +1,5 @@
 pub mod Octets
+pub mod Packing
 pub mod CellWords
 pub mod Keyed
 pub mod Places

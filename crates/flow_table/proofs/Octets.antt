@@ -12,7 +12,7 @@ use Rattle.std.proofs.lemmas.Nat.{be_bytes_8}
 use Rattle.flow_table.specs.Words.{are_octets, spelled}
 
 -- two numbers lie in one way
-one_rank : (x y : ℕ) (r s : Ordering) → MatchOrdering r (x < y) (x ≡ y) (y < x) → MatchOrdering s (x < y) (x ≡ y) (y < x) → r ≡ s
+pub one_rank : (x y : ℕ) (r s : Ordering) → MatchOrdering r (x < y) (x ≡ y) (y < x) → MatchOrdering s (x < y) (x ≡ y) (y < x) → r ≡ s
 one_rank x y Less Less h k = refl
 one_rank x y Less Equal h k = let l : x < y = h in let e : x ≡ y = k in absurd (omega arith)
 one_rank x y Less Greater h k = let l : x < y = h in let g : y < x = k in absurd (omega arith)

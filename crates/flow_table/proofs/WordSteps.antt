@@ -1,26 +1,32 @@
 -- Steps of the loops over the words of keys.
-use Rattle.std.proofs.Common.{◌≡◌, ℕ, zero, suc, ◌+◌, ◌*◌, ◌<◌, ◌≤◌, Bool, cond, List, [], ◌∷◌, ◌++◌, length, take, drop, get_or, Option, Some, None, refl, sym, ap, ◌∙◌, subst, append-nil, append_assoc, add-one, arith}
+use Rattle.std.proofs.Common.{◌≡◌, ℕ, zero, suc, ◌+◌, ◌*◌, ◌/◌, ◌%◌, ◌^◌, ◌<◌, ◌≤◌, ◌&&◌, Bool, true, false, cond, not, List, [], ◌∷◌, ◌++◌, length, length-append, take, drop, drop-cons, get_or, Option, Some, None, option_map, refl, sym, ap, ◌∙◌, subst, append-nil, append_assoc, add-one, arith}
 use Rattle.std.specs.Int.{from_be_bytes, w64}
 use Rattle.std.specs.List.{AllZip}
-use Rattle.std.proofs.lemmas.Bool.{leb-true}
-use Rattle.std.proofs.lemmas.List.{drop_more, drop_all}
+use Rattle.std.proofs.lemmas.Bool.{and_parts, leb-true}
+use Rattle.std.proofs.lemmas.List.{drop_all, take_all}
 use Rattle.ipfix_elements.specs.declared.cell.Cell.{Cell}
 use Rattle.ipfix_elements.specs.declared.kind.Kind.{Kind}
 use Rattle.flow_table.specs.Fitting.{IsCellOf}
 use Rattle.ipfix_elements.specs.declared.kind.Kind.TheVariants.{Unsigned, Ipv4, Ipv6, Mac, Seconds, Millis, Octets}
 use Rattle.flow_table.specs.Plans.{IsPlan, PlanValue}
-use Rattle.flow_table.specs.Readings.{HaveWords}
-use Rattle.flow_table.specs.Words.{address_words, spelled, both_words, cell_words, first_of, key_words, word_count, words_of_kind}
+use Rattle.flow_table.specs.declared.words.CellWords.{CellWords}
+use Rattle.flow_table.specs.declared.words.CellWords.TheVariants.{Short, One, Two}
+use Rattle.flow_table.specs.Words.{HasWords, Pushes, address_words, begins_pair, both_words, cell_from, cell_words, first_of, is_short, key_from, key_words, pack, pack_after, plain_words, shorts, shorts_in, shorts_of_kind, spelled, unpack, waiting, word_count, words_in, words_of_kind}
+use Rattle.flow_table.proofs.CellWords.{both_some}
 use Rattle.flow_table.proofs.Octets.{eight_spell, octets_pass}
-
-split_at : {X : Type 0} (xs : List X) (i : ℕ) (x : X) → i < length xs → x ≡ get_or xs i x → drop i xs ≡ x ∷ drop (i + 1) xs
-split_at {X} xs i x l e = drop_more xs i x l ∙ ap (λ (y : X). y ∷ drop (i + 1) xs) (sym e)
 
 -- ---- counting
 
-count_few : (kinds : List Kind) → word_count kinds ≤ 2 * length kinds
-count_few [] = omega arith
-count_few (kind ∷ kinds) = let rest = count_few kinds in let first = one_few kind in omega arith
+pack_few : (fs : List Bool) (ws : List ℕ) → length (pack fs ws) ≤ length fs
+pack_few [] ws = omega arith
+pack_few (false ∷ fs) ws = let rest = pack_few fs (drop 1 ws) in omega arith
+pack_few (true ∷ []) ws = omega arith
+pack_few (true ∷ false ∷ fs) ws = let rest = pack_few (false ∷ fs) (drop 1 ws) in omega arith
+pack_few (true ∷ true ∷ fs) ws = let rest = pack_few fs (drop 2 ws) in omega arith
+
+shorts_few : (kinds : List Kind) → length (shorts kinds) ≤ 2 * length kinds
+shorts_few [] = omega arith
+shorts_few (kind ∷ kinds) = let rest = shorts_few kinds in let first = one_few kind in omega (arith, length-append (shorts_of_kind kind) (shorts kinds))
   where
     one_few : (kind : Kind) → words_of_kind kind ≤ 2
     one_few (Unsigned width) = omega arith
@@ -36,67 +42,210 @@ pub kinds_few : (plan : PlanValue) → IsPlan plan → length plan.kinds ≤ 8
 kinds_few plan h = let few = leb-true (length plan.keys) 8 h.few in omega (arith, h.beside)
 
 pub words_few : (plan : PlanValue) → IsPlan plan → word_count plan.kinds ≤ 16
-words_few plan h = let few = kinds_few plan h in let count = count_few plan.kinds in omega arith
+words_few plan h = let few = kinds_few plan h in omega (arith, pack_few (shorts plan.kinds) [], shorts_few plan.kinds)
 
--- ---- writing
+-- how many words there are with those of kinds that are left, where the first is counted already if a short one waits
+abbrev pub left_count : Bool → List Kind → ℕ
+left_count waits kinds = length (pack (cond waits (true ∷ []) [] ++ shorts kinds) [])
 
-both_after : (ws vs : List ℕ) (o : Option (List ℕ)) → both_words (Some ws) (both_words (Some vs) o) ≡ both_words (Some (ws ++ vs)) o
-both_after ws vs None = refl
-both_after ws vs (Some us) = ap (λ (xs : List ℕ). Some xs) (sym (append_assoc ws vs us))
+one_counted : (short waits : Bool) (gs : List Bool) (count total : ℕ) → count + length (pack (cond waits (true ∷ []) [] ++ short ∷ gs) []) ≡ total + cond waits 1 0
+    → (count + cond (waits && short) 0 1) + length (pack (cond (short && not waits) (true ∷ []) [] ++ gs) []) ≡ total + cond (short && not waits) 1 0
+one_counted false false gs count total h = omega arith
+one_counted false true gs count total h = omega arith
+one_counted true false gs count total h = omega arith
+one_counted true true gs count total h = omega arith
 
--- the words so far, and the cells that are left
-abbrev pub WordsSoFar : List Cell → List ℕ → ℕ → Type 0
-WordsSoFar cells words i = (kinds : List Kind) → AllZip IsCellOf kinds cells
-    → (key_words kinds cells ≡ both_words (Some words) (key_words (drop i kinds) (drop i cells))) × AllZip IsCellOf (drop i kinds) (drop i cells)
+kind_counted : (kind : Kind) (waits : Bool) (kinds : List Kind) (count total : ℕ) → count + left_count waits (kind ∷ kinds) ≡ total + cond waits 1 0
+    → (count + cond (waits && is_short kind) 0 (words_of_kind kind)) + left_count (is_short kind && not waits) kinds ≡ total + cond (is_short kind && not waits) 1 0
+kind_counted (Unsigned width) waits kinds count total h = one_counted (is_short (Unsigned width)) waits (shorts kinds) count total h
+kind_counted Ipv4 waits kinds count total h = one_counted true waits (shorts kinds) count total h
+kind_counted Ipv6 true kinds count total h = omega arith
+kind_counted Ipv6 false kinds count total h = omega arith
+kind_counted Mac waits kinds count total h = one_counted false waits (shorts kinds) count total h
+kind_counted Seconds waits kinds count total h = one_counted false waits (shorts kinds) count total h
+kind_counted Millis waits kinds count total h = one_counted false waits (shorts kinds) count total h
+kind_counted Octets waits kinds count total h = one_counted false waits (shorts kinds) count total h
 
-drop_next : {X : Type 0} (xs : List X) (i : ℕ) → drop (suc i) xs ≡ drop 1 (drop i xs)
-drop_next [] zero = refl
-drop_next [] (suc i) = refl
-drop_next (x ∷ xs) zero = refl
-drop_next (x ∷ xs) (suc i) = drop_next xs i
+-- with one kind more
+pub count_more : (kinds : List Kind) (i : ℕ) (k : Kind) (waits now : Bool) (count more total : ℕ) → i < length kinds → more ≡ cond (waits && is_short (get_or kinds i k)) 0 (words_of_kind (get_or kinds i k))
+    → now ≡ is_short (get_or kinds i k) && not waits → count + left_count waits (drop i kinds) ≡ total + cond waits 1 0 → count + more + left_count now (drop (i + 1) kinds) ≡ total + cond now 1 0
+count_more kinds i k waits now count more total inside e f h =
+    rw (e, f, add-one i) (kind_counted (get_or kinds i k) waits (drop (suc i) kinds) count total (ap (λ (ks : List Kind). count + left_count waits ks) (sym (drop-cons kinds i k inside)) ∙ h))
 
-drop_one : {X : Type 0} (xs : List X) (i : ℕ) → drop (i + 1) xs ≡ drop 1 (drop i xs)
-drop_one {X} xs i = ap (λ (n : ℕ). drop n xs) (add-one i) ∙ drop_next xs i
+-- ---- pushing
 
-one_cell : (kinds : List Kind) (cells : List Cell) (cell : Cell) (ws new : List ℕ) (all : Option (List ℕ)) → ((kind : Kind) → IsCellOf kind cell → (vs : List ℕ) × (cell_words kind cell ≡ Some vs) × (new ≡ ws ++ vs))
-    → AllZip IsCellOf kinds (cell ∷ cells) → all ≡ both_words (Some ws) (key_words kinds (cell ∷ cells)) → (all ≡ both_words (Some new) (key_words (drop 1 kinds) cells)) × AllZip IsCellOf (drop 1 kinds) cells
-one_cell [] cells cell ws new all pushed fits h = absurd fits
-one_cell (kind ∷ kinds) cells cell ws new all pushed fits h =
-    let p = pushed kind fits.0 in (
-      h ∙ ap (λ (o : Option (List ℕ)). both_words (Some ws) (both_words o (key_words kinds cells))) p.1 ∙ both_after ws p.0 (key_words kinds cells)
-          ∙ ap (λ (vs : List ℕ). both_words (Some vs) (key_words kinds cells)) (sym p.2),
-      fits.1,
-    )
+after_half : (half : Option ℕ) (old mid ws new rest : List ℕ) → mid ≡ old ++ waiting half → new ≡ mid ++ ws → new ++ rest ≡ old ++ (waiting half ++ (ws ++ rest))
+after_half half old mid ws new rest e f = rw (f, e) (append_assoc (old ++ waiting half) ws rest ∙ append_assoc old (waiting half) (ws ++ rest))
 
-pub words_step : (cells : List Cell) (i : ℕ) (cell : Cell) (ws new : List ℕ) → i < length cells → cell ≡ get_or cells i cell
-    → ((kind : Kind) → IsCellOf kind cell → (vs : List ℕ) × (cell_words kind cell ≡ Some vs) × (new ≡ ws ++ vs)) → WordsSoFar cells ws i → WordsSoFar cells new (i + 1)
-words_step cells i cell ws new l e pushed before kinds fits =
-    let b = before kinds fits in
-    let here = split_at cells i cell l e in
-    let o = one_cell (drop i kinds) (drop (i + 1) cells) cell ws new (key_words kinds cells) pushed
-    (subst (λ (cs : List Cell). AllZip IsCellOf (drop i kinds) cs) here b.1)
-    (b.0 ∙ ap (λ (cs : List Cell). both_words (Some ws) (key_words (drop i kinds) cs)) here) in (
-      o.0 ∙ ap (λ (ks : List Kind). both_words (Some new) (key_words ks (drop (i + 1) cells))) (sym (drop_one kinds i)),
-      subst (λ (ks : List Kind). AllZip IsCellOf ks (drop (i + 1) cells)) (sym (drop_one kinds i)) o.1,
-    )
+pub push_pair : (half : Option ℕ) (first word : ℕ) (old new : List ℕ) → half ≡ Some first → new ≡ old ++ (first * 2 ^ 32 + word) ∷ [] → Pushes half (Short word) old new None
+push_pair half first word old new is e fs ws = rw is (rw e (append_assoc old ((first * 2 ^ 32 + word) ∷ []) (pack fs ws)))
 
-pub words_begin : (cells : List Cell) (ws : List ℕ) → ws ≡ [] → WordsSoFar cells ws 0
-words_begin cells ws e kinds fits = (sym (ap (λ (vs : List ℕ). both_words (Some vs) (key_words kinds cells)) e ∙ nothing_first (key_words kinds cells)), fits)
+pub push_one : (half : Option ℕ) (word : ℕ) (old mid new : List ℕ) → mid ≡ old ++ waiting half → new ≡ mid ++ word ∷ [] → Pushes half (One word) old new None
+push_one None word old mid new e f fs ws = after_half None old mid (word ∷ []) new (pack fs ws) e f
+push_one (Some first) word old mid new e f fs ws = after_half (Some first) old mid (word ∷ []) new (pack fs ws) e f
+
+pub push_two : (half : Option ℕ) (high low : ℕ) (old mid more new : List ℕ) → mid ≡ old ++ waiting half → more ≡ mid ++ high ∷ [] → new ≡ more ++ low ∷ [] → Pushes half (Two high low) old new None
+push_two None high low old mid more new e f g fs ws = after_half None old mid (high ∷ low ∷ []) new (pack fs ws) e (rw (g, f) (append_assoc mid (high ∷ []) (low ∷ [])))
+push_two (Some first) high low old mid more new e f g fs ws = after_half (Some first) old mid (high ∷ low ∷ []) new (pack fs ws) e (rw (g, f) (append_assoc mid (high ∷ []) (low ∷ [])))
+
+-- ---- the words of the first cells, of which a short one may wait
+
+pub record FirstWords (kinds : List Kind) (found : List Cell) (i : ℕ) (half : Option ℕ) (words : List ℕ) : Type 0 where
+  pub plain : List ℕ
+  pub are : plain_words (take i kinds) found ≡ Some plain
+  pub pushed : (ws : List ℕ) → words ++ pack_after half (shorts (drop i kinds)) ws ≡ pack (shorts kinds) (plain ++ ws)
+
+pub words_begin : (kinds : List Kind) (words : List ℕ) → words ≡ [] → FirstWords kinds [] 0 None words
+words_begin kinds words e = record { plain = []; are = refl; pushed = λ ws. ap (λ (vs : List ℕ). vs ++ pack (shorts kinds) ws) e }
+
+-- the plain words so far, with those of one more cell
+more_words : (kinds : List Kind) (found : List Cell) (words ws : List ℕ) (i : ℕ) (k : Kind) (cell : Cell) → i < length kinds
+    → plain_words (take i kinds) found ≡ Some words → cell_words (get_or kinds i k) cell ≡ Some ws → plain_words (take (suc i) kinds) (found ++ cell ∷ []) ≡ Some (words ++ ws)
+more_words [] found words ws i k cell inside so_far here = absurd (omega arith)
+more_words (kind ∷ kinds) [] words ws zero k cell inside so_far here =
+    let none : [] ≡ words = cc in
+    ap (λ (o : Option (List ℕ)). both_words o (Some [])) here ∙ ap (λ (vs : List ℕ). Some vs) (append-nil ws) ∙ ap (λ (vs : List ℕ). Some (vs ++ ws)) none
+more_words (kind ∷ kinds) (c ∷ found) words ws zero k cell inside so_far here = absurd cc
+more_words (kind ∷ kinds) [] words ws (suc i) k cell inside so_far here = absurd cc
+more_words (kind ∷ kinds) (c ∷ found) words ws (suc i) k cell inside so_far here =
+    let x = both_some (cell_words kind c) (plain_words (take i kinds) found) words so_far in
+    ap (λ (o : Option (List ℕ)). both_words o (plain_words (take (suc i) kinds) (found ++ cell ∷ []))) x.2
+    ∙ ap (λ (o : Option (List ℕ)). both_words (Some x.0) o) (more_words kinds found x.1 ws i k cell (omega arith) x.3 here)
+    ∙ ap (λ (vs : List ℕ). Some vs) (sym (append_assoc x.0 x.1 ws)) ∙ ap (λ (vs : List ℕ). Some (vs ++ ws)) (sym x.4)
+
+pub words_more : (kinds : List Kind) (found : List Cell) (i : ℕ) (half now : Option ℕ) (words new : List ℕ) (k : Kind) (cell : Cell) (of : CellWords) → i < length kinds
+    → HasWords (get_or kinds i k) cell of → Pushes half of words new now → FirstWords kinds found i half words → FirstWords kinds (found ++ cell ∷ []) (i + 1) now new
+words_more kinds found i half now words new k cell of inside has pushes first =
+    let next : shorts (drop i kinds) ≡ shorts_in of ++ shorts (drop (i + 1) kinds) = rw (add-one i, drop-cons kinds i k) (ap (λ (fs : List Bool). fs ++ shorts (drop (suc i) kinds)) has.short) in
+    record {
+      plain = first.plain ++ words_in of;
+      are = rw (add-one i) (more_words kinds found first.plain (words_in of) i k cell inside first.are has.are);
+      pushed = λ ws.
+          pushes (shorts (drop (i + 1) kinds)) ws ∙ ap (λ (fs : List Bool). words ++ pack_after half fs (words_in of ++ ws)) (sym next)
+          ∙ first.pushed (words_in of ++ ws) ∙ ap (pack (shorts kinds)) (sym (append_assoc first.plain (words_in of) ws));
+    }
+
+pub words_done : (kinds : List Kind) (found : List Cell) (i : ℕ) (half : Option ℕ) (words new : List ℕ) → length kinds ≤ i → new ≡ words ++ waiting half → FirstWords kinds found i half words → key_words kinds found ≡ Some new
+words_done kinds found i half words new past last first =
+    let all : plain_words kinds found ≡ Some first.plain = subst (λ (ks : List Kind). plain_words ks found ≡ Some first.plain) (take_all i kinds past) first.are in
+    let packed : pack (shorts kinds) first.plain ≡ new =
+    ap (pack (shorts kinds)) (sym (append-nil first.plain)) ∙ sym (first.pushed [])
+    ∙ ap (λ (ks : List Kind). words ++ pack_after half (shorts ks) []) (drop_all i kinds past) ∙ ap (λ (ws : List ℕ). words ++ ws) (left_over half) ∙ sym last in
+    ap (option_map (pack (shorts kinds))) all ∙ ap (λ (ws : List ℕ). Some ws) packed
   where
-    nothing_first : (o : Option (List ℕ)) → both_words (Some []) o ≡ o
-    nothing_first None = refl
-    nothing_first (Some vs) = refl
+    left_over : (half : Option ℕ) → pack_after half [] [] ≡ waiting half
+    left_over None = refl
+    left_over (Some word) = refl
 
-no_more : (kinds : List Kind) (ws : List ℕ) → AllZip IsCellOf kinds [] → both_words (Some ws) (key_words kinds []) ≡ Some ws
-no_more [] ws fits = ap (λ (vs : List ℕ). Some vs) (append-nil ws)
-no_more (kind ∷ kinds) ws fits = absurd fits
+-- a cell of each kind
+pub cell_at : (kinds : List Kind) (cells : List Cell) (i : ℕ) (k : Kind) (c : Cell) → i < length cells → AllZip IsCellOf kinds cells → IsCellOf (get_or kinds i k) (get_or cells i c)
+cell_at [] [] i k c inside fits = absurd (omega arith)
+cell_at [] (cell ∷ cells) i k c inside fits = absurd fits
+cell_at (kind ∷ kinds) [] i k c inside fits = absurd (omega arith)
+cell_at (kind ∷ kinds) (cell ∷ cells) zero k c inside fits = fits.0
+cell_at (kind ∷ kinds) (cell ∷ cells) (suc i) k c inside fits = cell_at kinds cells i k c (omega arith) fits.1
 
-pub words_done : (cells : List Cell) (i : ℕ) (ws : List ℕ) → length cells ≤ i → WordsSoFar cells ws i → HaveWords cells ws
-words_done cells i ws l so_far kinds fits =
-    let s = so_far kinds fits in
-    let none = drop_all i cells l in
-    s.0 ∙ ap (λ (cs : List Cell). both_words (Some ws) (key_words (drop i kinds) cs)) none
-    ∙ no_more (drop i kinds) ws (subst (λ (cs : List Cell). AllZip IsCellOf (drop i kinds) cs) none s.1)
+pub as_many : (kinds : List Kind) (cells : List Cell) → AllZip IsCellOf kinds cells → length kinds ≡ length cells
+as_many [] [] fits = refl
+as_many [] (cell ∷ cells) fits = absurd fits
+as_many (kind ∷ kinds) [] fits = absurd fits
+as_many (kind ∷ kinds) (cell ∷ cells) fits = ap suc (as_many kinds cells fits.1)
+
+-- ---- and back
+
+-- the cells that are left, the first of which has the second half of a word if that was read
+abbrev pub left_cells : Option ℕ → List Kind → List ℕ → List Cell
+left_cells None kinds ws = key_from kinds ws
+left_cells (Some half) [] ws = []
+left_cells (Some half) (kind ∷ kinds) ws = cell_from kind half 0 ∷ key_from kinds ws
+
+cells_cons : (a b : Cell) (cs ds : List Cell) → a ≡ b → cs ≡ ds → a ∷ cs ≡ b ∷ ds
+cells_cons a b cs ds p q = cc
+
+short_alone : (kind : Kind) → is_short kind ≡ true → (shorts_of_kind kind ≡ true ∷ []) × ((x y : ℕ) → cell_from kind x y ≡ cell_from kind x 0)
+short_alone (Unsigned width) h = (ap (λ (f : Bool). f ∷ []) h, λ x y. refl)
+short_alone Ipv4 h = (refl, λ x y. refl)
+short_alone Ipv6 h = absurd cc
+short_alone Mac h = absurd cc
+short_alone Seconds h = absurd cc
+short_alone Millis h = absurd cc
+short_alone Octets h = absurd cc
+
+pub pair_from : (kind : Kind) (kinds : List Kind) (ws : List ℕ) → begins_pair (kind ∷ kinds) ≡ true → key_from (kind ∷ kinds) ws ≡ cell_from kind (get_or ws 0 0 / 2 ^ 32) 0 ∷ left_cells (Some (get_or ws 0 0 % 2 ^ 32)) kinds (drop 1 ws)
+pair_from kind [] ws h = absurd cc
+pair_from kind (other ∷ kinds) ws h =
+    let both = and_parts (is_short kind) (is_short other) h in
+    let a = short_alone kind both.0 in
+    let b = short_alone other both.1 in
+    rw (a.0, b.0) (cells_cons _ _ _ _ (a.1 (get_or ws 0 0 / 2 ^ 32) (get_or ws 0 0 % 2 ^ 32)) (cells_cons _ _ _ _ (b.1 (get_or ws 0 0 % 2 ^ 32) (get_or (unpack (shorts kinds) (drop 1 ws)) 0 0)) refl))
+
+pub one_left : (kinds : List Kind) (i : ℕ) → length kinds ≤ i + 1 → begins_pair (drop i kinds) ≡ false
+one_left [] zero l = refl
+one_left [] (suc i) l = refl
+one_left (kind ∷ []) zero l = refl
+one_left (kind ∷ other ∷ kinds) zero l = absurd (omega arith)
+one_left (kind ∷ kinds) (suc i) l = one_left kinds i (omega arith)
+
+-- whether the first is short
+abbrev first_short : List Bool → Bool
+first_short [] = false
+first_short (f ∷ fs) = f
+
+unpack_alone : (f : Bool) (gs : List Bool) (ws : List ℕ) → f && first_short gs ≡ false → unpack (f ∷ gs) ws ≡ get_or ws 0 0 ∷ unpack gs (drop 1 ws)
+unpack_alone false gs ws h = refl
+unpack_alone true [] ws h = refl
+unpack_alone true (false ∷ gs) ws h = refl
+unpack_alone true (true ∷ gs) ws h = absurd cc
+
+no_pair : (kind : Kind) (kinds : List Kind) → begins_pair (kind ∷ kinds) ≡ false → is_short kind && first_short (shorts kinds) ≡ false
+no_pair kind [] h = never (is_short kind)
+  where
+    never : (b : Bool) → b && false ≡ false
+    never true = refl
+    never false = refl
+no_pair kind (other ∷ kinds) h = ap (λ (b : Bool). is_short kind && b) (first_of_other other) ∙ h
+  where
+    first_of_other : (other : Kind) → first_short (shorts (other ∷ kinds)) ≡ is_short other
+    first_of_other (Unsigned width) = refl
+    first_of_other Ipv4 = refl
+    first_of_other Ipv6 = refl
+    first_of_other Mac = refl
+    first_of_other Seconds = refl
+    first_of_other Millis = refl
+    first_of_other Octets = refl
+
+single_from : (kind : Kind) (kinds : List Kind) (ws : List ℕ) → begins_pair (kind ∷ kinds) ≡ false → shorts_of_kind kind ≡ is_short kind ∷ [] → ((x y z : ℕ) → cell_from kind x y ≡ cell_from kind x z)
+    → key_from (kind ∷ kinds) ws ≡ cell_from kind (get_or ws 0 0) (get_or ws 1 0) ∷ key_from kinds (drop (words_of_kind kind) ws)
+single_from kind kinds ws h one alone =
+    rw (one, unpack_alone (is_short kind) (shorts kinds) ws (no_pair kind kinds h)) (cells_cons _ _ _ _ (alone (get_or ws 0 0) (get_or (unpack (shorts kinds) (drop 1 ws)) 0 0) (get_or ws 1 0)) refl)
+
+pub alone_from : (kind : Kind) (kinds : List Kind) (ws : List ℕ) → begins_pair (kind ∷ kinds) ≡ false → key_from (kind ∷ kinds) ws ≡ cell_from kind (get_or ws 0 0) (get_or ws 1 0) ∷ key_from kinds (drop (words_of_kind kind) ws)
+alone_from (Unsigned width) kinds ws h = single_from (Unsigned width) kinds ws h refl (λ x y z. refl)
+alone_from Ipv4 kinds ws h = single_from Ipv4 kinds ws h refl (λ x y z. refl)
+alone_from Ipv6 kinds [] h = refl
+alone_from Ipv6 kinds (w ∷ ws) h = refl
+alone_from Mac kinds ws h = single_from Mac kinds ws h refl (λ x y z. refl)
+alone_from Seconds kinds ws h = single_from Seconds kinds ws h refl (λ x y z. refl)
+alone_from Millis kinds ws h = single_from Millis kinds ws h refl (λ x y z. refl)
+alone_from Octets kinds ws h = single_from Octets kinds ws h refl (λ x y z. refl)
+
+-- one cell of those that are left was put after the others
+pub cell_more : (cells new : List Cell) (found cell : Cell) (before later all : List Cell) → new ≡ cells ++ found ∷ [] → found ≡ cell → before ≡ cell ∷ later → cells ++ before ≡ all → new ++ later ≡ all
+cell_more cells new found cell before later all e f g h = rw (e, f) (append_assoc cells (cell ∷ []) later ∙ ap (λ (cs : List Cell). cells ++ cs) (sym g) ∙ h)
+
+module _ (kinds : List Kind) (i : ℕ) (k : Kind) (half : Option ℕ) (ws : List ℕ) (inside : i < length kinds) where
+  pub second_left : (word : ℕ) → half ≡ Some word → left_cells half (drop i kinds) ws ≡ cell_from (get_or kinds i k) word 0 ∷ left_cells None (drop (i + 1) kinds) ws
+  second_left word is = rw (is, drop-cons kinds i k, add-one i) refl
+
+  pub first_left : half ≡ None → true ≡ begins_pair (drop i kinds) → left_cells half (drop i kinds) ws ≡ cell_from (get_or kinds i k) (get_or ws 0 0 / 2 ^ 32) 0 ∷ left_cells (Some (get_or ws 0 0 % 2 ^ 32)) (drop (i + 1) kinds) (drop 1 ws)
+  first_left none pair =
+      let here = drop-cons kinds i k inside in
+      rw (none, add-one i) (ap (λ (ks : List Kind). key_from ks ws) here ∙ pair_from (get_or kinds i k) (drop (suc i) kinds) ws (ap begins_pair (sym here) ∙ sym pair))
+
+  pub one_alone : half ≡ None → false ≡ begins_pair (drop i kinds) → left_cells half (drop i kinds) ws ≡ cell_from (get_or kinds i k) (get_or ws 0 0) (get_or ws 1 0) ∷ left_cells half (drop (i + 1) kinds) (drop (words_of_kind (get_or kinds i k)) ws)
+  one_alone none alone =
+      let here = drop-cons kinds i k inside in
+      rw (none, add-one i) (ap (λ (ks : List Kind). key_from ks ws) here ∙ alone_from (get_or kinds i k) (drop (suc i) kinds) ws (ap begins_pair (sym here) ∙ sym alone))
 
 -- ---- numbers
 

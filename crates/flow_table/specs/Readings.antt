@@ -16,12 +16,12 @@ use Rattle.flow_table.specs.LeftOut.{IsLeftOut}
 use Rattle.flow_table.specs.Missing.{capped, is_absent_at}
 use Rattle.flow_table.specs.Plans.{PlanValue}
 use Rattle.flow_table.specs.Reading.{cells_of, IsUsed}
-use Rattle.flow_table.specs.Words.{HasWords, key_words, nth, words_in}
+use Rattle.flow_table.specs.Words.{HasWords, key_words, nth}
 
 -- ---- keys
 
 -- there is a cell of the kind, and it has these words
-pub record HasCell (kind : Kind) (found : Option Cell) (words : List ℕ) : Type 0 where
+pub record HasCell (kind : Kind) (found : Option Cell) (words : CellWords) : Type 0 where
   pub cell : Cell
   pub is : found ≡ Some cell
   pub fits : IsCellOf kind cell
@@ -30,7 +30,7 @@ pub record HasCell (kind : Kind) (found : Option Cell) (words : List ℕ) : Type
 -- the words of a cell of the kind, if there is one
 abbrev pub ReadsCell : Kind → Option Cell → Option CellWords → Type 0
 ReadsCell kind found None = found ≡ None
-ReadsCell kind found (Some words) = HasCell kind found (words_in words)
+ReadsCell kind found (Some words) = HasCell kind found words
 
 -- a record has a cell for each of the keys, and these are their words
 pub record HasKey (keys : List Key) (kinds : List Kind) (r : DataRecord) (words : List ℕ) : Type 0 where
@@ -43,10 +43,6 @@ pub record HasKey (keys : List Key) (kinds : List Kind) (r : DataRecord) (words 
 abbrev pub ReadsKey : List Key → List Kind → DataRecord → List ℕ → Option ℕ → Type 0
 ReadsKey keys kinds r words None = HasKey keys kinds r words
 ReadsKey keys kinds r words (Some place) = cells_of keys kinds r ≡ None
-
--- under all kinds that cells have, these are their words
-abbrev pub HaveWords : List Cell → List ℕ → Type 0
-HaveWords cells words = (kinds : List Kind) → AllZip IsCellOf kinds cells → key_words kinds cells ≡ Some words
 
 -- ---- records
 

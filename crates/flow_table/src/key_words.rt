@@ -10,7 +10,9 @@ ghost use Rattle.flow_table.specs.Readings.{ReadsCell, ReadsKey};
 
 use crate::key::Key;
 use crate::networks::{ipv4_network, ipv6_network};
-use crate::words::{CellWords, ipv4_word, ipv6_words, mac_word, push_words};
+use crate::words::{
+    CellWords, ipv4_words, ipv6_words, mac_words, number_words, push_half, push_words,
+};
 use ipfix_elements::{Kind, read_number};
 use ipfix_message::DataRecord;
 use std::alloc::AllocError;
@@ -28,12 +30,14 @@ pub fn read_key(
     ensures words { IfOk result (ReadsKey keys.now kinds.now data_record.now words.new.items) }
 {
     words.clear();
+    let mut half = None;
     for place in 0..keys.len() {
         let Some(found) = read_words_of(keys[place], kinds[place], data_record) else {
             return Ok(Some(place));
         };
-        push_words(found, words)?;
+        half = push_words(half, found, words)?;
     }
+    push_half(half, words)?;
     Ok(None)
 }
 
@@ -54,16 +58,16 @@ fn words_in(kind: Kind, prefix: Option<u8>, octets: &[u8]) -> Option<CellWords>
     ensures { ReadsCell kind (option_map (projected prefix) (cell_in kind octets.now)) result }
 {
     match kind {
-        Kind::Unsigned(_) => Some(CellWords::One(read_number(kind, octets)?)),
+        Kind::Unsigned(_) => Some(number_words(kind, read_number(kind, octets)?)),
         Kind::Ipv4 => {
             let address = <[u8; 4]>::try_from(octets).ok()?;
-            Some(CellWords::One(ipv4_word(&ipv4_network(prefix, address))))
+            Some(ipv4_words(&ipv4_network(prefix, address)))
         }
         Kind::Ipv6 => {
             let address = <[u8; 16]>::try_from(octets).ok()?;
             Some(ipv6_words(&ipv6_network(prefix, address)))
         }
-        Kind::Mac => Some(CellWords::One(mac_word(&<[u8; 6]>::try_from(octets).ok()?))),
+        Kind::Mac => Some(mac_words(&<[u8; 6]>::try_from(octets).ok()?)),
         Kind::Seconds | Kind::Millis | Kind::Octets => None,
     }
 }

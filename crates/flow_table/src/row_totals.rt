@@ -63,7 +63,7 @@ impl RowTotals {
         ensures large { ForRowsWith self.old row.now
             (λ rows. OnSumTooLarge result (AddUpTooLarge rows)) }
     {
-        write_words(&row.key, &mut self.words)?;
+        write_words(self.plan.kinds(), &row.key, &mut self.words)?;
         self.rows
             .add(row.interval, &self.words, row.flows, &row.sums)
     }

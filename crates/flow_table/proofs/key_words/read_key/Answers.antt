@@ -2,7 +2,6 @@ use Rattle.std.proofs.Common.{◌<◌, length, sym, arith}
 use Rattle.ipfix_elements.specs.declared.kind.Kind.TheVariants.{Unsigned}
 use Rattle.ipfix_elements.specs.declared.kind.Width.TheVariants.{One}
 use Rattle.flow_table.specs.Missing.{first_without}
-use Rattle.flow_table.specs.Words.{words_in}
 use Rattle.flow_table.proofs.KeyCells.{all_keys, all_left, here_none, no_key, no_keys, none_left, nowhere, one_key_more, place_more}
 use Rattle.flow_table.proofs.key_words.read_key.Goals as goal
 
@@ -23,7 +22,7 @@ loop-place-preserved c =
     let has = c.in-Some.ensures in
     record {
       place = place_more keys kinds r i nowhere (Unsigned One) has.cell _ inside beside (sym has.is) c.loop-place.invariant.place;
-      words = one_key_more keys kinds r c.loop-place.words.items (words_in c.in-Some.found) c.push_words.new.words.items i nowhere (Unsigned One) inside beside has c.in_ok-push_words.ensures c.loop-place.invariant.words;
+      words = one_key_more keys kinds r c.loop-place.half _ c.loop-place.words.items c.push_words.new.words.items c.in-Some.found i nowhere (Unsigned One) inside beside has c.in_ok-half.ensures c.loop-place.invariant.words;
     }
 
 pub returns-in_default : goal.returns-in_default
@@ -36,7 +35,7 @@ returns-in_default c =
     let beside : i < length kinds = omega (arith, c.requires.beside) in
     record {
       place = sym (here_none keys kinds r i nowhere (Unsigned One) (first_without keys kinds r) inside beside c.in_default.ensures c.loop-place.invariant.place);
-      words = no_key keys kinds r c.loop-place.words.items i nowhere (Unsigned One) inside beside c.in_default.ensures c.loop-place.invariant.words;
+      words = no_key keys kinds r c.loop-place.half c.loop-place.words.items i nowhere (Unsigned One) inside beside c.in_default.ensures c.loop-place.invariant.words;
     }
 
 pub returns : goal.returns
@@ -47,5 +46,5 @@ returns c =
     let i = c.loop-place.place in
     record {
       place = sym (none_left keys kinds r i (first_without keys kinds r) (omega arith) c.loop-place.invariant.place);
-      words = all_keys keys kinds r c.loop-place.words.items i (omega arith) (omega (arith, c.requires.beside)) c.loop-place.invariant.words;
+      words = all_keys keys kinds r c.loop-place.half c.loop-place.words.items c.push_half.new.words.items i (omega arith) (omega (arith, c.requires.beside)) c.in_ok-push_half.ensures c.loop-place.invariant.words;
     }

@@ -7,5 +7,5 @@ use Rattle.flow_table.proofs.key_words.read_key.Given as goal
 abbrev pub invariant-loop-place : goal.invariant-loop-place
 invariant-loop-place l = record {
   place : first_without l.keys l.kinds l.data_record ≡ option_map (λ (k : ℕ). l.place + k) (first_without (drop l.place l.keys) (drop l.place l.kinds) l.data_record);
-  words : FirstKeys l.keys l.kinds l.data_record l.place l.words.items;
+  words : FirstKeys l.keys l.kinds l.data_record l.place l.half l.words.items;
 }

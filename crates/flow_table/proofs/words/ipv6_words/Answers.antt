@@ -1,4 +1,4 @@
-use Rattle.std.proofs.Common.{◌≡◌, ◌<◌, ℕ, length, get_or, rules}
+use Rattle.std.proofs.Common.{◌≡◌, ◌<◌, ℕ, length, get_or, refl, rules}
 use Rattle.flow_table.proofs.WordSteps.{sixteen}
 use Rattle.flow_table.proofs.words.ipv6_words.Goals as goal
 
@@ -9,4 +9,4 @@ returns c =
     let same = sixteen c.args.address.now long small in
     let first = c.from_be_bytes.ensures in
     let second = c.from_be_bytes-2.ensures in
-    cc
+    record { are = cc; short = refl }

@@ -1,5 +1,6 @@
-use Rattle.flow_table.proofs.WordSteps.{WordsSoFar}
+use Rattle.std.proofs.Common.{take}
+use Rattle.flow_table.proofs.WordSteps.{FirstWords}
 use Rattle.flow_table.proofs.words.write_words.Given as goal
 
-abbrev pub invariant-loop-cell : goal.invariant-loop-cell
-invariant-loop-cell l = WordsSoFar l.cells l.words.items l.cell-index
+abbrev pub invariant-loop-place : goal.invariant-loop-place
+invariant-loop-place l = FirstWords l.kinds (take l.place l.cells) l.place l.half l.words.items

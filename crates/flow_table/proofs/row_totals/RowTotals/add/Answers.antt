@@ -1,7 +1,5 @@
-use Rattle.std.proofs.Common.{◌≡◌, ◌∙◌, ℕ, List, Some, ap, refl, rules, subst, sym}
-use Rattle.std.specs.List.{AllZip}
-use Rattle.ipfix_elements.specs.declared.cell.Cell.{Cell}
-use Rattle.flow_table.specs.Fitting.{IsCellOf}
+use Rattle.std.proofs.Common.{◌≡◌, ◌∙◌, ℕ, List, Some, ap, refl, rules, sym}
+use Rattle.ipfix_elements.specs.declared.kind.Kind.{Kind}
 use Rattle.flow_table.specs.RowTotals.{AreOf, totals_plan}
 use Rattle.flow_table.specs.SameTables.{value_of}
 use Rattle.flow_table.specs.Words.{key_words}
@@ -17,14 +15,16 @@ pub returns-clause-plan : goal.returns-clause-plan
 unfolding totals_plan
 returns-clause-plan c = refl
 
+pub write_words-requires : goal.write_words-requires
+unfolding totals_plan
+write_words-requires c = rw (c.kinds.ensures.value, c.deref.ensures.value) c.requires.fits.key.fit
+
 -- the words of the row's key
 words_are : (c : After-add) → key_words c.args.self.now.plan.kinds c.args.row.now.key.items ≡ Some c.deref-2.result.now
 unfolding totals_plan
 words_are c =
-    let kinds = c.args.self.now.plan.kinds in
-    let same = c.deref.ensures.value in
-    let of_kinds : AllZip IsCellOf kinds c.deref.result.now = subst (λ (cs : List Cell). AllZip IsCellOf kinds cs) (sym same) c.requires.fits.key.fit in
-    ap (key_words kinds) (sym same) ∙ c.in_ok-write_words.ensures kinds of_kinds ∙ ap (λ (ws : List ℕ). Some ws) (sym c.deref-2.ensures.value)
+    ap (λ (kinds : List Kind). key_words kinds c.args.row.now.key.items) (sym c.kinds.ensures.value) ∙ ap (key_words c.kinds.result.now) (sym c.deref.ensures.value)
+    ∙ c.in_ok-write_words.ensures ∙ ap (λ (ws : List ℕ). Some ws) (sym c.deref-2.ensures.value)
 
 pub returns-clause-adds : goal.returns-clause-adds
 unfolding AreOf totals_plan
