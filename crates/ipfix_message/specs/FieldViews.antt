@@ -10,8 +10,3 @@ field_of f = record { element = f.element; octets = f.octets.now }
 abbrev pub last_field : Option FieldRef → List Field
 last_field None = []
 last_field (Some f) = field_of f ∷ []
-
--- those that are shared, if there are some
-abbrev pub if_shared : Option (List Field) → List Field
-if_shared None = []
-if_shared (Some fields) = fields

@@ -1,9 +1,10 @@
 //! Shared fields, if there are some, and one of 4 octets after them, as the number of a map is.
 
-ghost use Rattle.std.specs.Prelude.{◌≡◌, [], ◌∷◌, ◌++◌, IfSome, None, OnErr, OnOk, Some, option_copied, option_map};
+ghost use Rattle.std.specs.Prelude.{◌≡◌, [], ◌∷◌, ◌++◌, IfSome, OnOk, option_copied};
 ghost use Rattle.std.specs.Arc.{arc_value};
 ghost use Rattle.ipfix_message.specs.Fields.{octets_of};
-ghost use Rattle.ipfix_message.specs.FieldViews.{field_of, if_shared};
+ghost use Rattle.ipfix_message.specs.FieldViews.{field_of};
+ghost use Rattle.ipfix_message.specs.NumberedFields.{number_field, number_in, shared_in};
 
 use crate::field_iter::FieldRef;
 use crate::field_run::FieldRun;
@@ -14,45 +15,72 @@ use std::alloc::{AllocError, Global};
 use std::marker::Model;
 use std::sync::Arc;
 
+/// A field of 4 octets. (The octets stand first, so that less room is lost between a record's parts.)
+#[derive(Clone, Copy, Debug)]
+pub struct NumberField {
+    octets: [u8; 4],
+    element: ElementId,
+}
+
+/// A field of 4 octets, and those before it that other records share, if there are some.
+#[derive(Debug, Drop)]
+enum Numbered {
+    Alone(NumberField),
+    After(NumberField, Arc<OwnFields, Global>),
+}
+
 /// Fields that other records share, if there are some, and one of 4 octets after them: a record keeps
 /// them without a block of memory of its own. Contracts see the list of the fields.
 #[derive(Debug, Drop)]
 pub struct NumberedFields {
-    shared: Option<Arc<OwnFields, Global>>,
-    element: ElementId,
-    octets: [u8; 4],
+    numbered: Numbered,
 }
 
 impl Model for NumberedFields {
-    ghost use Rattle.std.specs.Prelude.{List, [], ◌∷◌, ◌++◌, option_map};
-    ghost use Rattle.std.specs.Arc.{arc_value};
+    ghost use Rattle.std.specs.Prelude.{List, [], ◌∷◌, ◌++◌};
     ghost use Rattle.ipfix_message.specs.Fields.{Field};
-    ghost use Rattle.ipfix_message.specs.FieldViews.{if_shared};
+    ghost use Rattle.ipfix_message.specs.NumberedFields.{number_in, shared_in};
 
     ghost Value = { List Field };
 
-    ghost view = { λ f. if_shared (option_map (λ fields. arc_value fields) f.shared)
-        ++ record { element = f.element; octets = f.octets } ∷ [] };
+    ghost view = { λ f. shared_in f.numbered ++ number_in f.numbered ∷ [] };
 }
 
-// The octets of the first field of an element among shared fields, if there are some.
-fn find_shared(shared: &Option<Arc<OwnFields, Global>>, element: ElementId) -> Option<&[u8]>
-    ensures { option_copied result
-        ≡ octets_of element (if_shared (option_map (λ fields. arc_value fields) shared.now)) }
+// The shared ones.
+fn shared_of(numbered: &Numbered) -> FieldRun<'_>
+    ensures { result ≡ shared_in numbered.now }
 {
-    match shared {
-        Some(shared) => shared.find(element),
-        None => None,
+    match numbered {
+        Numbered::Alone(_) => FieldRun::empty(),
+        Numbered::After(_, shared) => shared.iter(),
+    }
+}
+
+// The one after them.
+fn number_of(numbered: &Numbered) -> &NumberField
+    ensures { number_field result.now ≡ number_in numbered.now }
+{
+    match numbered {
+        Numbered::Alone(number) | Numbered::After(number, _) => number,
+    }
+}
+
+// The octets of the first field of an element among the shared ones.
+fn find_shared(numbered: &Numbered, element: ElementId) -> Option<&[u8]>
+    ensures { option_copied result ≡ octets_of element (shared_in numbered.now) }
+{
+    match numbered {
+        Numbered::Alone(_) => None,
+        Numbered::After(_, shared) => shared.find(element),
     }
 }
 
 // The octets of a field, if it is one of the element that is sought.
-fn find_number(element: ElementId, octets: &[u8; 4], sought: ElementId) -> Option<&[u8]>
-    ensures { option_copied result
-        ≡ octets_of sought (record { element = element; octets = octets.now } ∷ []) }
+fn find_number(number: &NumberField, element: ElementId) -> Option<&[u8]>
+    ensures { option_copied result ≡ octets_of element (number_field number.now ∷ []) }
 {
-    if element == sought {
-        Some(octets)
+    if number.element == element {
+        Some(&number.octets)
     } else {
         None
     }
@@ -63,37 +91,28 @@ impl NumberedFields {
     pub fn alone(element: ElementId, octets: [u8; 4]) -> Self
         ensures { result ≡ record { element = element; octets = octets } ∷ [] }
     {
-        NumberedFields {
-            shared: None,
-            element,
-            octets,
-        }
+        let numbered = Numbered::Alone(NumberField { octets, element });
+        NumberedFields { numbered }
     }
 
     /// One field of 4 octets, after shared ones.
     pub fn after(shared: Arc<OwnFields, Global>, element: ElementId, octets: [u8; 4]) -> Self
         ensures { result ≡ arc_value shared ++ record { element = element; octets = octets } ∷ [] }
     {
-        NumberedFields {
-            shared: Some(shared),
-            element,
-            octets,
-        }
+        let numbered = Numbered::After(NumberField { octets, element }, shared);
+        NumberedFields { numbered }
     }
 
     /// The shared ones, and the one after them.
     pub fn parts(&self) -> (FieldRun<'_>, FieldRef<'_>)
         ensures { result.0 ++ field_of result.1 ∷ [] ≡ self.now }
     {
-        let shared = match &self.shared {
-            Some(shared) => shared.iter(),
-            None => FieldRun::empty(),
+        let number = number_of(&self.numbered);
+        let field = FieldRef {
+            element: number.element,
+            octets: &number.octets,
         };
-        let number = FieldRef {
-            element: self.element,
-            octets: &self.octets,
-        };
-        (shared, number)
+        (shared_of(&self.numbered), field)
     }
 
     /// The same fields in a block, unless they are too many or too long.
@@ -113,19 +132,20 @@ impl NumberedFields {
     pub fn append_to(&self, own: &mut OwnFields) -> Result<(), AllocError>
         ensures { OnOk result (own.new ≡ own.old ++ self.now) }
     {
-        if let Some(shared) = &self.shared {
+        if let Numbered::After(_, shared) = &self.numbered {
             own.extend(shared)?;
         }
-        own.push(self.element, &self.octets)
+        let number = number_of(&self.numbered);
+        own.push(number.element, &number.octets)
     }
 
     /// The octets of the first field of an element.
     pub fn find(&self, element: ElementId) -> Option<&[u8]>
         ensures { option_copied result ≡ octets_of element self.now }
     {
-        match find_shared(&self.shared, element) {
+        match find_shared(&self.numbered, element) {
             Some(octets) => Some(octets),
-            None => find_number(self.element, &self.octets, element),
+            None => find_number(number_of(&self.numbered), element),
         }
     }
 }
