@@ -159,8 +159,8 @@ fn merge_lots<S: Drop>(all: &mut Lot<S>, other: Lot<S>) -> Result<(), AllocError
     if partial.fault() == Some(TableFault::OutOfMemory) {
         return Err(AllocError);
     }
+    let _ = all.partial.merge(partial);
     all.sources.append(&mut sources)?;
     all.sessions.append(&mut sessions)?;
-    let _ = all.partial.merge(partial);
     Ok(())
 }

@@ -95,8 +95,8 @@ fn merge_one(all: &mut WorkerShare, other: WorkerShare) -> Result<(), Shortage>
     if partial.fault() == Some(TableFault::OutOfMemory) {
         return Err(Shortage::OutOfMemory);
     }
-    all.link_ends.append(&mut link_ends)?;
     let _ = all.partial.merge(partial);
+    all.link_ends.append(&mut link_ends)?;
     Ok(())
 }
 
