@@ -1,4 +1,4 @@
-use Rattle.std.proofs.Common.{◌≡◌, rules}
+use Rattle.std.proofs.Common.{ℕ, ◌≡◌, ◌+◌, ◌*◌, ◌^◌, ◌++◌, ◌∷◌, [], ◌∙◌, ap, arith, rules}
 use Rattle.flow_table.proofs.WordSteps.{push_one, push_pair, push_two}
 use Rattle.flow_table.proofs.words.push_words.Goals as goal
 
@@ -6,8 +6,9 @@ pub returns-in_ok-push-in-Short : goal.returns-in_ok-push-in-Short
 returns-in_ok-push-in-Short c =
     let first : c.from.result ≡ c.in-Some.first = search rules in
     let second : c.from-in-Short.result ≡ c.in-Short.word = search rules in
-    let items = rw (first, second) at c.in_ok-push-in-Short.ensures.items in
-    rw c.in-Short.is (push_pair c.args.half c.in-Some.first c.in-Short.word c.args.words.now.items c.push.new.self.items c.in-Some.is items)
+    let same : c.from.result * 2 ^ 32 + c.from-in-Short.result ≡ c.in-Some.first * 2 ^ 32 + c.in-Short.word = omega (arith, first, second) in
+    rw c.in-Short.is
+    (push_pair c.args.half c.in-Some.first c.in-Short.word c.args.words.now.items c.push.new.self.items c.in-Some.is (c.in_ok-push-in-Short.ensures.items ∙ ap (λ (word : ℕ). c.args.words.now.items ++ word ∷ []) same))
 
 pub returns-in_ok-push-in-One : goal.returns-in_ok-push-in-One
 returns-in_ok-push-in-One c =
