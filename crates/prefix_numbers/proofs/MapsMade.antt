@@ -1,5 +1,5 @@
 -- A map answers what the longest prefix says.
-use Rattle.std.proofs.Common.{◌≡◌, ℕ, ◌+◌, ◌-◌, ◌^◌, ◌<◌, ◌≤◌, List, [], ◌∷◌, take, length, inl, inr, sym, ap, subst, ◌∙◌, arith}
+use Rattle.std.proofs.Common.{◌≡◌, ℕ, ◌+◌, ◌^◌, ◌<◌, ◌≤◌, List, [], ◌∷◌, take, length, inl, inr, sym, ap, subst, ◌∙◌, arith}
 use Rattle.std.specs.Prelude.{◌==◌, nat_le, nat_lt, All, Contains, IsPermutation}
 use Rattle.std.specs.List.{prefix_len, take_while}
 use Rattle.std.specs.List.Retain.{IsFiltered, DiffersFromLast}

@@ -1,4 +1,4 @@
-use Rattle.std.proofs.Common.{◌≡◌, ℕ, ◌+◌, ◌∙◌, ap, arith, drop, get_or, sym}
+use Rattle.std.proofs.Common.{ℕ, ◌+◌, ◌∙◌, ap, arith, drop, sym}
 use Rattle.flow_rows.specs.Packed.{packed_onto}
 use Rattle.flow_rows.proofs.Digits.{packed_all, packed_more, within_all, within_more}
 use Rattle.flow_rows.proofs.packing.pack.Goals as goal
