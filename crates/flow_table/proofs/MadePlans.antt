@@ -1,5 +1,5 @@
 -- What passes the tests is a plan, and files change none of built-in elements.
-use Rattle.std.proofs.Common.{◌≡◌, ℕ, Bool, true, false, eqb, nat_lt, nat_le, ◌||◌, ◌&&◌, not, List, [], ◌∷◌, length, map, find, Option, Some, None, is_none, is_some, unwrap_or, cond, refl, sym, ap, ap₂, subst, ◌∙◌, inl, inr}
+use Rattle.std.proofs.Common.{◌≡◌, ℕ, Bool, true, false, eqb, nat_lt, nat_le, ◌||◌, ◌&&◌, not, List, [], ◌∷◌, length, map, find, Option, Some, None, is_none, unwrap_or, cond, refl, sym, ap, ap₂, subst, ◌∙◌, inl, inr}
 use Rattle.std.specs.List.{list_all, list_any}
 use Rattle.std.specs.Option.{option_map_or}
 use Rattle.std.proofs.lemmas.Bool.{false≢true, cases_Bool, or_cases, and_parts, and_from, eqb-true}

@@ -1,12 +1,11 @@
 -- Which row is named where a sum is too large.
-use Rattle.std.proofs.Common.{◌≡◌, ℕ, ◌^◌, ◌≤◌, List, [], ◌++◌, Option, Some, None, Result, Ok, Err, sym, ap, ◌∙◌, subst, inl, inr, arith, append-nil}
+use Rattle.std.proofs.Common.{◌≡◌, ℕ, ◌^◌, ◌≤◌, List, [], ◌++◌, Option, Some, None, Result, Err, sym, ap, ◌∙◌, subst, inl, inr, arith, append-nil}
 use Rattle.std.specs.Result.{result_err}
 use Rattle.ipfix_elements.specs.declared.cell.Cell.{Cell}
 use Rattle.ipfix_message.specs.declared.record.DataRecord.{DataRecord}
 use Rattle.flow_table.specs.Partials.{totals_at, HoldsTable, IsNamed, LargeWith, NamesRow}
 use Rattle.flow_table.specs.Plans.{PlanValue}
-use Rattle.flow_table.specs.Rows.{kept_at}
-use Rattle.flow_table.specs.Tables.{count_of, flows_at, sum_at, AreTooMany, IsTooLarge, IsTooLargeAt}
+use Rattle.flow_table.specs.Tables.{count_of, sum_at, AreTooMany, IsTooLarge, IsTooLargeAt}
 use Rattle.flow_table.specs.Totals.{Total, joined, IsLargeAt}
 use Rattle.flow_table.specs.Words.{key_from, key_words}
 use Rattle.flow_table.specs.declared.adding.Room.{Room}

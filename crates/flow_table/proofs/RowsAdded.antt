@@ -1,5 +1,5 @@
 -- A row added to the totals of rows.
-use Rattle.std.proofs.Common.{◌≡◌, ℕ, ◌+◌, ◌<◌, List, [], ◌∷◌, ◌++◌, length, Some, Result, Ok, Err, OnOk, IfErr}
+use Rattle.std.proofs.Common.{◌≡◌, ℕ, ◌<◌, List, [], ◌∷◌, ◌++◌, length, Some, Result, Ok, Err, OnOk, IfErr}
 use Rattle.flow_rows.specs.Rows.{Small}
 use Rattle.flow_table.specs.AddedUp.{AddUpTooLarge}
 use Rattle.flow_table.specs.Plans.{PlanValue}

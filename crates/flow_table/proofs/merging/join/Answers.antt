@@ -1,9 +1,8 @@
-use Rattle.std.proofs.Common.{None, ◌≡◌, ◌++◌, ◌∙◌, List, Err, ap, subst, sym, inr}
+use Rattle.std.proofs.Common.{None, ◌≡◌, ◌++◌, List, subst, sym, inr}
 use Rattle.std.proofs.lemmas.Result.{err_from_is_err_and}
 use Rattle.ipfix_message.specs.declared.record.DataRecord.{DataRecord}
 use Rattle.flow_table.specs.Partials.{totals_at, HoldsTable, LargeWith}
 use Rattle.flow_table.specs.declared.rows.Rows.{Rows}
-use Rattle.flow_table.specs.declared.table_fault.TableFault.{TableFault}
 use Rattle.flow_table.specs.declared.table_fault.TableFault.TheVariants.{SumTooLarge}
 use Rattle.flow_table.proofs.Holding.{count_too_large, merged_holds, merged_large, stands_err, stands_fault}
 use Rattle.flow_table.proofs.Named.{large_named, large_there, names_err}

@@ -1,4 +1,4 @@
-use Rattle.std.proofs.Common.{ℕ, ◌/◌, ◌^◌, ◌<◌, ◌+◌, ◌∙◌, ap, arith, drop, get_or, length, sym}
+use Rattle.std.proofs.Common.{ℕ, ◌/◌, ◌^◌, ◌<◌, ◌∙◌, ap, arith, drop, get_or, length, sym}
 use Rattle.ipfix_elements.specs.declared.kind.Kind.TheVariants.{Unsigned}
 use Rattle.ipfix_elements.specs.declared.kind.Width.TheVariants.{One}
 use Rattle.flow_table.specs.Words.{cell_from, key_from}
