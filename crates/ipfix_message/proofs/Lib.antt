@@ -15,6 +15,7 @@ pub mod DataChecks
 pub mod History
 pub mod RecordOctets
 pub mod SpelledFields
+pub mod FieldElements
 pub mod LayingOut
 pub mod Layouts
 pub mod Alikes

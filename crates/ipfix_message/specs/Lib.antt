@@ -19,6 +19,6 @@ pub mod Layouts
 pub mod Spots
 pub mod SetRecords
 pub mod KeptFields
-pub mod NumberedFields
+pub mod AppendedFields
 pub mod Held
 pub mod Kept

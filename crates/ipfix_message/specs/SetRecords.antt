@@ -1,5 +1,5 @@
 -- The records of a data set, which share its body (RFC 7011, section 3.4.3).
-use Rattle.std.specs.Prelude.{◌≡◌, ℕ, ◌≤◌, List, length, drop, All}
+use Rattle.std.specs.Prelude.{ℕ, ◌≤◌, List, length, drop, All}
 use Rattle.std.specs.Arc.{arc_value}
 use Rattle.ipfix_wire.specs.declared.specifier.Spec.{Spec}
 use Rattle.ipfix_message.specs.declared.set_body.SetBody.{SetBody}
@@ -18,8 +18,3 @@ pub record HasRecordAt (set : SetBody) (start : ℕ) : Type 0 where
   pub inside : start ≤ length set.octets.items
   pub begins : BeginsWithFields (specs_of set) (drop start set.octets.items)
   pub short : All IsShort (fields_from set start)
-
--- these are the fields of the record that begins at that octet
-pub record IsRecordOf (fields : List Field) (start : ℕ) (set : SetBody) : Type 0 where
-  pub there : HasRecordAt set start
-  pub fields_are : fields ≡ fields_from set start

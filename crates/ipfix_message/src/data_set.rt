@@ -8,10 +8,11 @@ ghost use Rattle.ipfix_message.specs.Held.{extended};
 use crate::fault::MessageFault;
 use crate::field_block::Fields;
 use crate::record::DataRecord;
-use crate::set_body::{SetBody, SetRecord};
+use crate::set_body::SetBody;
 use crate::template_in_force::TemplateInForce;
 use ipfix_wire::Header;
 use std::alloc::Global;
+use std::sync::Arc;
 
 /// Appends the records of a data set's body, which share one copy of it. After an `Err` what was
 /// appended is of no use.
@@ -35,13 +36,14 @@ pub fn take_records(
     let mut rest = body;
     while rest.len() >= least {
         let after = laid_out.after_record(rest)?;
-        let set_record = SetRecord::new(&set, (body.len() - rest.len()) as u32)?;
+        let start = (body.len() - rest.len()) as u32;
+        let set_of_record = Arc::try_clone(&set)?;
         out.push(DataRecord {
             domain: header.domain,
             export_time: header.export_time,
             template: template.id,
             scope: template.scope,
-            fields: Fields::in_set(alloc, set_record),
+            fields: Fields::in_set(alloc, set_of_record, start),
         })?;
         rest = after;
     }

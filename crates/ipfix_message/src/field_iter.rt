@@ -1,8 +1,8 @@
 //! The fields of a data record in turn (RFC 7011, section 3.4.3).
 
-ghost use Rattle.std.specs.Prelude.{◌≡◌, [], ◌∷◌, ◌++◌, length};
+ghost use Rattle.std.specs.Prelude.{◌≡◌, ◌++◌, length};
 ghost use Rattle.std.specs.Iterator.{YieldsFirstBy, item_count};
-ghost use Rattle.ipfix_message.specs.FieldViews.{field_of};
+ghost use Rattle.ipfix_message.specs.FieldViews.{field_of, last_field};
 
 use crate::field_run::FieldRun;
 use ipfix_wire::ElementId;
@@ -40,26 +40,11 @@ impl<'a> Model for FieldIter<'a> {
 }
 
 impl<'a> FieldIter<'a> {
-    /// A record's own fields, and then those of a tail.
-    pub(crate) fn new(own: FieldRun<'a>, tail: FieldRun<'a>) -> Self
-        ensures { result ≡ own.entry ++ tail.entry }
+    /// A record's own fields, then those of a tail, and one more after these, if there is one.
+    pub(crate) fn new(own: FieldRun<'a>, tail: FieldRun<'a>, last: Option<FieldRef<'a>>) -> Self
+        ensures { result ≡ own.entry ++ (tail.entry ++ last_field last.entry) }
     {
-        FieldIter {
-            own,
-            tail,
-            last: None,
-        }
-    }
-
-    /// The same, and one more after them.
-    pub(crate) fn with_last(own: FieldRun<'a>, tail: FieldRun<'a>, last: FieldRef<'a>) -> Self
-        ensures { result ≡ own.entry ++ (tail.entry ++ field_of last.entry ∷ []) }
-    {
-        FieldIter {
-            own,
-            tail,
-            last: Some(last),
-        }
+        FieldIter { own, tail, last }
     }
 
     /// How many fields are left.

@@ -1,8 +1,9 @@
 //! Fields that octets spell, in turn (RFC 7011, section 3.4.3).
 
-ghost use Rattle.std.specs.Prelude.{◌≡◌, ◌<◌, ◌^◌, [], length, option_copied};
+ghost use Rattle.std.specs.Prelude.{◌≡◌, ◌<◌, ◌^◌, [], false, None, length, option_copied};
 ghost use Rattle.std.specs.Iterator.{YieldsFirstBy, item_count};
-ghost use Rattle.ipfix_message.specs.Fields.{octets_of};
+ghost use Rattle.std.specs.List.{list_any};
+ghost use Rattle.ipfix_message.specs.Fields.{octets_of, same_element};
 ghost use Rattle.ipfix_message.specs.SpelledFields.{BeginsWithFields, fields_in};
 ghost use Rattle.ipfix_message.specs.FieldViews.{field_of};
 
@@ -30,6 +31,13 @@ impl<'a> Model for FieldRun<'a> {
     ghost invariant = { λ it. BeginsWithFields it.specs.now it.octets.now };
 }
 
+// Whether one of the specifiers names an element.
+fn names(specs: &[Spec], element: ElementId) -> bool
+    ensures { result ≡ list_any (λ spec. same_element spec.element element) specs.now }
+{
+    specs.iter().any(|spec| spec.element == element)
+}
+
 impl<'a> FieldRun<'a> {
     /// The fields of these specifiers with which `octets` begin.
     pub fn new(specs: &'a [Spec], octets: &'a [u8]) -> Self
@@ -44,6 +52,14 @@ impl<'a> FieldRun<'a> {
         ensures { result ≡ [] }
     {
         FieldRun::new(&[], &[])
+    }
+
+    /// Whether one of the fields is of an element. No octets are looked at.
+    #[tactic(auto, using(crate::proofs::FieldElements::none_of))]
+    pub fn has(&self, element: ElementId) -> bool
+        ensures { result ≡ false → octets_of element self.now ≡ None }
+    {
+        names(self.specs, element)
     }
 
     /// How many fields are left.
@@ -74,9 +90,21 @@ impl<'a> Iterator for FieldRun<'a> {
     }
 }
 
-/// The octets of the first field of an element. It is found by going over the fields before it.
-#[inline(never)]
+/// The octets of the first field of an element. It is found by going over the fields before it, if there is one.
+#[inline]
 pub fn find_element<'a>(fields: FieldRun<'a>, element: ElementId) -> Option<&'a [u8]>
+    ensures { option_copied result ≡ octets_of element fields.entry }
+{
+    if fields.has(element) {
+        first_of(fields, element)
+    } else {
+        None
+    }
+}
+
+// The octets of the first field of an element.
+#[inline(never)]
+fn first_of<'a>(fields: FieldRun<'a>, element: ElementId) -> Option<&'a [u8]>
     ensures { option_copied result ≡ octets_of element fields.entry }
 {
     for field in fields {

@@ -3,6 +3,7 @@
 #![tactic(auto)]
 
 mod apart;
+mod appended_fields;
 mod data_check;
 mod data_set;
 mod domains;
@@ -16,7 +17,6 @@ mod laid_out;
 pub mod laws;
 mod layout;
 mod message;
-mod numbered_fields;
 mod own_fields;
 mod passed_over;
 mod places;

@@ -3,15 +3,13 @@
 ghost use Rattle.std.specs.Prelude.{◌≡◌, IfOk, option_copied};
 ghost use Rattle.std.specs.Arc.{arc_value};
 ghost use Rattle.ipfix_message.specs.Fields.{octets_of};
-ghost use Rattle.ipfix_message.specs.SetRecords.{specs_of, fields_from, HasRecordAt, IsRecordOf};
+ghost use Rattle.ipfix_message.specs.SetRecords.{specs_of, fields_from, HasRecordAt};
 
 use crate::apart::{APART, Apart};
 use crate::field_run::FieldRun;
 use crate::laid_out::LaidOut;
-use crate::own_fields::OwnFields;
 use ipfix_wire::ElementId;
 use std::alloc::{AllocError, Global};
-use std::marker::Model;
 use std::sync::Arc;
 
 /// The octets of the body of a data set, and the template of its records.
@@ -60,68 +58,5 @@ impl SetBody {
         ensures { option_copied result ≡ octets_of element (fields_from self.now start) }
     {
         self.template.find(element, &self.octets[start as usize..])
-    }
-}
-
-/// A record of a data set: the octet of the body at which it begins. It keeps the body and the
-/// template for as long as it lives. Contracts see the list of its fields.
-#[derive(Debug, Drop)]
-pub struct SetRecord {
-    set: Arc<SetBody, Global>,
-    start: u32,
-}
-
-impl Model for SetRecord {
-    ghost use Rattle.std.specs.Prelude.{List};
-    ghost use Rattle.std.specs.Arc.{arc_value};
-    ghost use Rattle.ipfix_message.specs.Fields.{Field};
-    ghost use Rattle.ipfix_message.specs.SetRecords.{fields_from, HasRecordAt};
-
-    ghost Value = { List Field };
-
-    ghost view = { λ r. fields_from (arc_value r.set) r.start };
-
-    ghost invariant = { λ r. HasRecordAt (arc_value r.set) r.start };
-}
-
-impl SetRecord {
-    /// The record that begins at an octet of a body.
-    pub fn new(set: &Arc<SetBody, Global>, start: u32) -> Result<Self, AllocError>
-        requires { HasRecordAt (arc_value set.now) start }
-        ensures { IfOk result (λ r. r ≡ fields_from (arc_value set.now) start) }
-    {
-        let set = Arc::try_clone(set)?;
-        Ok(SetRecord { set, start })
-    }
-
-    /// The octet at which it begins, and its set.
-    pub fn into_parts(self) -> (u32, Arc<SetBody, Global>)
-        ensures { IsRecordOf self result.0 (arc_value result.1) }
-    {
-        (self.start, self.set)
-    }
-
-    /// A copy of the fields, with octets of their own.
-    pub fn to_own(&self, alloc: Global) -> Result<OwnFields, AllocError>
-        ensures { IfOk result (λ own. own ≡ self.now) }
-    {
-        // (with a field in use, a proof knows that the fields are short)
-        let _start = &self.start;
-        OwnFields::copy(alloc, self.iter())
-    }
-
-    /// The fields in order.
-    pub fn iter(&self) -> FieldRun<'_>
-        ensures { result ≡ self.now }
-    {
-        self.set.fields_at(self.start)
-    }
-
-    /// The octets of the first field of an element.
-    #[inline(always)]
-    pub fn find(&self, element: ElementId) -> Option<&[u8]>
-        ensures { option_copied result ≡ octets_of element self.now }
-    {
-        self.set.find_at(self.start, element)
     }
 }

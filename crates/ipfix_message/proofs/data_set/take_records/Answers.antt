@@ -30,7 +30,7 @@ loop-rest-preserved c =
     let positive : 0 < least specs = omega (arith, c.least-least.ensures.sum, c.least-least.ensures.positive) in
     let read : fields_at specs rest ≡ Ok (fields_in specs rest, c.in_ok-after.after.now) = rw c.laid_out-laid_out.ensures at c.in_ok-after.ensures.gives in
     let at = end_at c.args.body.now rest c.loop-rest.invariant.end in
-    let same : c.in_set.result ≡ fields_in specs rest = c.in_set.ensures ∙ c.in_ok-set_record.ensures ∙ rw (c.in_ok-set.ensures.specs, c.in_ok-set.ensures.octets, c.in_ok-shared.ensures, at.1) refl in
+    let same : c.in_set.result ≡ fields_in specs rest = c.in_set.ensures ∙ rw (c.in_ok-set_of_record.ensures, c.in_ok-set.ensures.specs, c.in_ok-set.ensures.octets, c.in_ok-shared.ensures, at.1) refl in
     record {
       so_far = rw (c.in_ok-push.ensures.items, same, c.template-template.ensures)
           (goes_on specs (record_of c.args.header.now c.args.known.now) c.loop-rest.out.items rest (fields_in specs rest) c.in_ok-after.after.now
