@@ -1,7 +1,8 @@
 -- Which records pass.
-use Rattle.std.specs.Prelude.{◌==◌, ◌&&◌, ◌||◌, not, nat_le, nat_lt, Bool, false, List, Option, option_and_then}
+use Rattle.std.specs.Prelude.{◌==◌, ◌&&◌, ◌||◌, not, nat_le, nat_lt, ℕ, Bool, false, List}
 use Rattle.std.specs.List.{list_all, list_any}
 use Rattle.std.specs.Option.{option_map_or}
+use Rattle.ipfix_elements.specs.declared.kind.Kind.{Kind}
 use Rattle.ipfix_message.specs.declared.record.DataRecord.{DataRecord}
 use Rattle.ipfix_message.specs.Fields.{octets_of}
 use Rattle.network_prefixes.specs.Addresses.{first_bits}
@@ -27,17 +28,17 @@ has (Numbers first last) (Number n) = nat_le first n && nat_le n last
 has (Network network) (Address address) = covers network address
 has range value = false
 
--- the value in the first field of the condition's element, none if the field is missing or holds none
-abbrev pub value_of : Condition → DataRecord → Option Value
-value_of condition r = option_and_then (value_in condition.kind) (octets_of condition.element r.fields)
-
 -- a value is among what some texts say
 abbrev pub is_among : List ValueRange → Value → Bool
 is_among ranges value = list_any (λ range. has range value) ranges
 
+-- the value that octets are is among them: not if they are none
+abbrev pub is_value_among : List ValueRange → Kind → List ℕ → Bool
+is_value_among ranges kind octets = option_map_or (is_among ranges) (value_in kind octets) false
+
 -- one of the condition's texts says the record's value: not if there is none
 abbrev pub is_said : Condition → DataRecord → Bool
-is_said condition r = option_map_or (is_among condition.ranges.items) (value_of condition r) false
+is_said condition r = option_map_or (is_value_among condition.ranges.items condition.kind) (octets_of condition.element r.fields) false
 
 -- it has to be said by one, or by none
 abbrev pub on_side : Side → Bool → Bool

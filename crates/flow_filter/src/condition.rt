@@ -2,12 +2,13 @@
 
 ghost use Rattle.std.specs.Prelude.{◌≡◌, IfOk, IfErr};
 ghost use Rattle.flow_filter.specs.Conditions as conditions;
+ghost use Rattle.flow_filter.specs.declared.value.Value.TheVariants.{Number};
 ghost use Rattle.flow_filter.specs.Faults.{texts_of, IsCondition, IsFault, ReadsTexts};
 
 use crate::fault::FilterFault;
 use crate::value::{Value, is_comparable, value_in};
 use crate::value_range::ValueRange;
-use ipfix_elements::Kind;
+use ipfix_elements::{Kind, read_number};
 use ipfix_message::DataRecord;
 use ipfix_wire::ElementId;
 use std::alloc::Global;
@@ -75,21 +76,31 @@ impl Condition {
         }
     }
 
-    // Whether one of the texts says the record's value.
+    // Whether one of the texts says the value in the first field of the element.
     fn is_said(&self, data_record: &DataRecord) -> bool
         ensures { result ≡ conditions.is_said self.now data_record.now }
     {
-        match self.value_of(data_record) {
-            Some(value) => is_among(&self.ranges, value),
+        match data_record.fields.find(self.element) {
+            Some(octets) => is_value_among(&self.ranges, self.kind, octets),
             None => false,
         }
     }
+}
 
-    // The value in the first field of the element, if there is one.
-    fn value_of(&self, data_record: &DataRecord) -> Option<Value>
-        ensures { result ≡ conditions.value_of self.now data_record.now }
-    {
-        value_in(self.kind, data_record.fields.find(self.element)?)
+// Whether the value that octets are is among what some texts say. (Numbers go past the value, which has room for an
+// address.)
+fn is_value_among(ranges: &[ValueRange], kind: Kind, octets: &[u8]) -> bool
+    ensures { result ≡ conditions.is_value_among ranges.now kind octets.now }
+{
+    if let Kind::Unsigned(_) = kind {
+        return match read_number(kind, octets) {
+            Some(number) => is_number_among(ranges, number),
+            None => false,
+        };
+    }
+    match value_in(kind, octets) {
+        Some(value) => is_among(ranges, value),
+        None => false,
     }
 }
 
@@ -98,6 +109,13 @@ fn is_among(ranges: &[ValueRange], value: Value) -> bool
     ensures { result ≡ conditions.is_among ranges.now value }
 {
     ranges.iter().any(|range| range.has(value))
+}
+
+// Whether a number is among what some texts say.
+fn is_number_among(ranges: &[ValueRange], number: u64) -> bool
+    ensures { result ≡ conditions.is_among ranges.now (Number number) }
+{
+    ranges.iter().any(|range| range.has_number(number))
 }
 
 // What each of some texts says, or the place of the first that says nothing.

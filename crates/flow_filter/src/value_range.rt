@@ -2,6 +2,7 @@
 
 ghost use Rattle.std.specs.Prelude.{◌≡◌};
 ghost use Rattle.flow_filter.specs.Conditions as conditions;
+ghost use Rattle.flow_filter.specs.declared.value.Value.TheVariants.{Number};
 ghost use Rattle.flow_filter.specs.Texts.{IsIpv4Network, IsNetwork, IsText, Reads};
 
 use crate::numbers::numbers_in;
@@ -38,11 +39,19 @@ impl ValueRange {
         ensures { result ≡ conditions.has self.now value }
     {
         match (self, value) {
-            (ValueRange::Numbers { first, last }, Value::Number(number)) => {
-                *first <= number && number <= *last
-            }
+            (range, Value::Number(number)) => range.has_number(number),
             (ValueRange::Network(prefix), Value::Address(address)) => covers(prefix, address),
             _ => false,
+        }
+    }
+
+    /// Whether a number is among them.
+    pub(crate) fn has_number(&self, number: u64) -> bool
+        ensures { result ≡ conditions.has self.now (Number number) }
+    {
+        match self {
+            ValueRange::Numbers { first, last } => *first <= number && number <= *last,
+            ValueRange::Network(_) => false,
         }
     }
 }
