@@ -13,8 +13,8 @@ use flow_table::{Plan, Row};
 use std::alloc::{AllocError, Global};
 use std::io::Write;
 
-/// Lines are written once they have so many octets.
-const BLOCK_LENGTH: usize = 32_768;
+/// Lines are written once they have so many octets: a `BufWriter` of no more passes them on as they are.
+const BLOCK_LENGTH: usize = 65_536;
 
 /// Makes the line of a row.
 pub trait RowLines {

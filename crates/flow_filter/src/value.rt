@@ -32,6 +32,7 @@ pub fn is_comparable(kind: Kind) -> bool
 
 /// The value that the octets of a field are: a number in all of its octets or in fewer (RFC 7011, section
 /// 6.2), an address in all of them. `None` for other lengths, and for a kind that is not comparable.
+#[inline(always)]
 pub fn value_in(kind: Kind, octets: &[u8]) -> Option<Value>
     ensures { result ≡ values.value_in kind octets.now }
 {
