@@ -99,7 +99,7 @@ octet_at [] i h = omega arith
 octet_at (x ∷ xs) zero h = h.0
 octet_at (x ∷ xs) (suc i) h = octet_at xs i h.1
 
-pub eight_spell : (a b c d e f g h : ℕ) → from_be_bytes w64 (a ∷ b ∷ c ∷ d ∷ e ∷ f ∷ g ∷ h ∷ []) ≡ spelled 0 (a ∷ b ∷ c ∷ d ∷ e ∷ f ∷ g ∷ h ∷ [])
+eight_spell : (a b c d e f g h : ℕ) → from_be_bytes w64 (a ∷ b ∷ c ∷ d ∷ e ∷ f ∷ g ∷ h ∷ []) ≡ spelled 0 (a ∷ b ∷ c ∷ d ∷ e ∷ f ∷ g ∷ h ∷ [])
 eight_spell a b c d e f g h = omega arith
 
 eight_same : (xs : List ℕ) → length xs ≡ 8 → spelled 0 xs ≡ from_be_bytes w64 xs

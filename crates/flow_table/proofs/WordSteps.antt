@@ -1,6 +1,6 @@
 -- Steps of the loops over the words of keys.
 use Rattle.std.proofs.Common.{◌≡◌, ℕ, zero, suc, ◌+◌, ◌*◌, ◌/◌, ◌%◌, ◌^◌, ◌<◌, ◌≤◌, ◌&&◌, Bool, true, false, cond, not, List, [], ◌∷◌, ◌++◌, length, length-append, take, drop, drop-cons, get_or, Option, Some, None, option_map, refl, sym, ap, ◌∙◌, subst, append-nil, append_assoc, add-one, arith}
-use Rattle.std.specs.Int.{from_be_bytes, w64}
+use Rattle.std.specs.Int.{byte_at, from_be_bytes, to_be_bytes, w64, w128}
 use Rattle.std.specs.List.{AllZip}
 use Rattle.std.proofs.lemmas.Bool.{and_parts, leb-true}
 use Rattle.std.proofs.lemmas.List.{drop_all, take_all}
@@ -13,7 +13,7 @@ use Rattle.flow_table.specs.declared.words.CellWords.{CellWords}
 use Rattle.flow_table.specs.declared.words.CellWords.TheVariants.{Short, One, Two}
 use Rattle.flow_table.specs.Words.{HasWords, Pushes, address_words, begins_pair, both_words, cell_from, cell_words, first_of, is_short, key_from, key_words, pack, pack_after, plain_words, shorts, shorts_in, shorts_of_kind, spelled, unpack, waiting, word_count, words_in, words_of_kind}
 use Rattle.flow_table.proofs.CellWords.{both_some}
-use Rattle.flow_table.proofs.Octets.{eight_spell, octets_pass}
+use Rattle.flow_table.proofs.Octets.{octets_pass}
 
 -- ---- counting
 
@@ -258,9 +258,22 @@ first_more n f = ap (λ (m : ℕ). first_of m f) (add-one n) ∙ first_next n f
 
 -- ---- sixteen octets
 
+-- a number in two halves
+higher : (high low : ℕ) → low < 2 ^ 64 → high ≡ (high * 2 ^ 64 + low) / 2 ^ 64
+higher high low small = omega arith
+
+lower : (high low : ℕ) → low < 2 ^ 64 → low ≡ (high * 2 ^ 64 + low) % 2 ^ 64
+lower high low small = omega arith
+
+sixteen_spell : (a b c d e f g h i j k l m n o p : ℕ) → spelled 0 (a ∷ b ∷ c ∷ d ∷ e ∷ f ∷ g ∷ h ∷ []) * 2 ^ 64 + spelled 0 (i ∷ j ∷ k ∷ l ∷ m ∷ n ∷ o ∷ p ∷ [])
+    ≡ from_be_bytes w128 (a ∷ b ∷ c ∷ d ∷ e ∷ f ∷ g ∷ h ∷ i ∷ j ∷ k ∷ l ∷ m ∷ n ∷ o ∷ p ∷ [])
+sixteen_spell a b c d e f g h i j k l m n o p = omega arith
+
+eight_small : (a b c d e f g h : ℕ) → a < 256 → b < 256 → c < 256 → d < 256 → e < 256 → f < 256 → g < 256 → h < 256 → spelled 0 (a ∷ b ∷ c ∷ d ∷ e ∷ f ∷ g ∷ h ∷ []) < 2 ^ 64
+eight_small a b c d e f g h p q r s t u v w = omega arith
+
 pub sixteen : (xs : List ℕ) → length xs ≡ 16 → ((i : ℕ) → get_or xs i 0 < 256)
-    → address_words 16 xs (spelled 0 (take 8 xs) ∷ spelled 0 (drop 8 xs) ∷ [])
-    ≡ Some (from_be_bytes w64 (get_or xs 0 0 ∷ get_or xs 1 0 ∷ get_or xs 2 0 ∷ get_or xs 3 0 ∷ get_or xs 4 0 ∷ get_or xs 5 0 ∷ get_or xs 6 0 ∷ get_or xs 7 0 ∷ []) ∷ from_be_bytes w64 (get_or xs 8 0 ∷ get_or xs 9 0 ∷ get_or xs 10 0 ∷ get_or xs 11 0 ∷ get_or xs 12 0 ∷ get_or xs 13 0 ∷ get_or xs 14 0 ∷ get_or xs 15 0 ∷ []) ∷ [])
+    → address_words 16 xs (spelled 0 (take 8 xs) ∷ spelled 0 (drop 8 xs) ∷ []) ≡ Some (from_be_bytes w128 xs / 2 ^ 64 ∷ from_be_bytes w128 xs % 2 ^ 64 ∷ [])
 sixteen [] len small = absurd (omega arith)
 sixteen (a ∷ []) len small = absurd (omega arith)
 sixteen (a ∷ b ∷ []) len small = absurd (omega arith)
@@ -278,7 +291,33 @@ sixteen (a ∷ b ∷ c ∷ d ∷ e ∷ f ∷ g ∷ h ∷ i ∷ j ∷ k ∷ l ∷
 sixteen (a ∷ b ∷ c ∷ d ∷ e ∷ f ∷ g ∷ h ∷ i ∷ j ∷ k ∷ l ∷ m ∷ n ∷ []) len small = absurd (omega arith)
 sixteen (a ∷ b ∷ c ∷ d ∷ e ∷ f ∷ g ∷ h ∷ i ∷ j ∷ k ∷ l ∷ m ∷ n ∷ o ∷ []) len small = absurd (omega arith)
 sixteen (a ∷ b ∷ c ∷ d ∷ e ∷ f ∷ g ∷ h ∷ i ∷ j ∷ k ∷ l ∷ m ∷ n ∷ o ∷ p ∷ []) len small =
+    let high = spelled 0 (a ∷ b ∷ c ∷ d ∷ e ∷ f ∷ g ∷ h ∷ []) in
+    let low = spelled 0 (i ∷ j ∷ k ∷ l ∷ m ∷ n ∷ o ∷ p ∷ []) in
+    let few : low < 2 ^ 64 = eight_small i j k l m n o p (small 8) (small 9) (small 10) (small 11) (small 12) (small 13) (small 14) (small 15) in
+    let whole = sixteen_spell a b c d e f g h i j k l m n o p in
     ap (λ (t : Bool). cond t (Some (spelled 0 (a ∷ b ∷ c ∷ d ∷ e ∷ f ∷ g ∷ h ∷ []) ∷ spelled 0 (i ∷ j ∷ k ∷ l ∷ m ∷ n ∷ o ∷ p ∷ []) ∷ [])) None) (octets_pass (a ∷ b ∷ c ∷ d ∷ e ∷ f ∷ g ∷ h ∷ i ∷ j ∷ k ∷ l ∷ m ∷ n ∷ o ∷ p ∷ []) small)
-    ∙ ap (λ (w : ℕ). Some (w ∷ spelled 0 (i ∷ j ∷ k ∷ l ∷ m ∷ n ∷ o ∷ p ∷ []) ∷ [])) (sym (eight_spell a b c d e f g h))
-    ∙ ap (λ (w : ℕ). Some (from_be_bytes w64 (a ∷ b ∷ c ∷ d ∷ e ∷ f ∷ g ∷ h ∷ []) ∷ w ∷ [])) (sym (eight_spell i j k l m n o p))
+    ∙ ap (λ (w : ℕ). Some (w ∷ low ∷ [])) (higher high low few ∙ ap (λ (n : ℕ). n / 2 ^ 64) whole)
+    ∙ ap (λ (w : ℕ). Some (from_be_bytes w128 (a ∷ b ∷ c ∷ d ∷ e ∷ f ∷ g ∷ h ∷ i ∷ j ∷ k ∷ l ∷ m ∷ n ∷ o ∷ p ∷ []) / 2 ^ 64 ∷ w ∷ [])) (lower high low few ∙ ap (λ (n : ℕ). n % 2 ^ 64) whole)
 sixteen (a ∷ b ∷ c ∷ d ∷ e ∷ f ∷ g ∷ h ∷ i ∷ j ∷ k ∷ l ∷ m ∷ n ∷ o ∷ p ∷ q ∷ xs) len small = absurd (omega arith)
+
+-- and back: sixteen octets of a number are those of its halves
+pub halves : (high low : ℕ) → low < 2 ^ 64 → to_be_bytes w128 (high * 2 ^ 64 + low) ≡ to_be_bytes w64 high ++ to_be_bytes w64 low
+halves high low small =
+    let number : ℕ = high * 2 ^ 64 + low in
+    let a : byte_at 15 number ≡ byte_at 7 high = omega (arith, small) in
+    let b : byte_at 14 number ≡ byte_at 6 high = omega (arith, small) in
+    let c : byte_at 13 number ≡ byte_at 5 high = omega (arith, small) in
+    let d : byte_at 12 number ≡ byte_at 4 high = omega (arith, small) in
+    let e : byte_at 11 number ≡ byte_at 3 high = omega (arith, small) in
+    let f : byte_at 10 number ≡ byte_at 2 high = omega (arith, small) in
+    let g : byte_at 9 number ≡ byte_at 1 high = omega (arith, small) in
+    let h : byte_at 8 number ≡ byte_at 0 high = omega (arith, small) in
+    let i : byte_at 7 number ≡ byte_at 7 low = omega (arith, small) in
+    let j : byte_at 6 number ≡ byte_at 6 low = omega (arith, small) in
+    let k : byte_at 5 number ≡ byte_at 5 low = omega (arith, small) in
+    let l : byte_at 4 number ≡ byte_at 4 low = omega (arith, small) in
+    let m : byte_at 3 number ≡ byte_at 3 low = omega (arith, small) in
+    let n : byte_at 2 number ≡ byte_at 2 low = omega (arith, small) in
+    let o : byte_at 1 number ≡ byte_at 1 low = omega (arith, small) in
+    let p : byte_at 0 number ≡ byte_at 0 low = omega (arith, small) in
+    cc

@@ -14,6 +14,9 @@ use std::alloc::AllocError;
 /// Where two short words share one, the first is multiplied by this, and the second is added.
 const HALF: u64 = 1 << 32;
 
+/// An IPv6 address, read as a number, is its first word times this, and the second is added.
+const WORD: u128 = 1 << 64;
+
 /// The words of a cell: an IPv6 address has two, and all others one. That of at most four octets is short.
 #[derive(Clone, Copy)]
 pub enum CellWords {
@@ -111,11 +114,8 @@ pub fn mac_words(address: &[u8; 6]) -> CellWords
 pub fn ipv6_words(address: &[u8; 16]) -> CellWords
     ensures { HasWords kinds_of_cells.Ipv6 (cells.Ipv6 address.now) result }
 {
-    let [a, b, c, d, e, f, g, h, i, j, k, l, m, n, o, p] = *address;
-    CellWords::Two(
-        u64::from_be_bytes([a, b, c, d, e, f, g, h]),
-        u64::from_be_bytes([i, j, k, l, m, n, o, p]),
-    )
+    let number = u128::from_be_bytes(*address);
+    CellWords::Two((number / WORD) as u64, (number % WORD) as u64)
 }
 
 // The words of a cell.
@@ -235,9 +235,7 @@ fn mac_from(word: u64) -> [u8; 6]
 fn ipv6_from(high: u64, low: u64) -> [u8; 16]
     ensures { result ≡ to_be_bytes w64 high ++ to_be_bytes w64 low }
 {
-    let [a, b, c, d, e, f, g, h] = high.to_be_bytes();
-    let [i, j, k, l, m, n, o, p] = low.to_be_bytes();
-    [a, b, c, d, e, f, g, h, i, j, k, l, m, n, o, p]
+    (u128::from(high) * WORD + u128::from(low)).to_be_bytes()
 }
 
 /// The cell of a kind that has these words, the second if it has two.

@@ -6,7 +6,7 @@ pub returns : goal.returns
 returns c =
     let small : (i : ℕ) → get_or c.args.address.now i 0 < 256 = search rules in
     let long : length c.args.address.now ≡ 16 = search rules in
-    let same = sixteen c.args.address.now long small in
-    let first = c.from_be_bytes.ensures in
-    let second = c.from_be_bytes-2.ensures in
-    record { are = cc; short = refl }
+    record {
+      are = rw c.from_be_bytes-number.ensures (sixteen c.args.address.now long small);
+      short = refl;
+    }
