@@ -1,6 +1,7 @@
 -- The first bits of addresses.
 use Rattle.std.proofs.Common.{◌≡◌, ℕ, ◌-◌, ◌*◌, ◌/◌, ◌%◌, ◌^◌, ◌<◌, ◌≤◌, List, sym, ap, ◌∙◌, arith}
 use Rattle.std.specs.Prelude.{min}
+use Rattle.std.specs.Int.{from_be_bytes, w128}
 use Rattle.std.proofs.Math.Pow.{pow_mono}
 use Rattle.std.proofs.Math.Nat.{div-eq_of_lt, div-mul-le_self, mod-eq_of_lt}
 use Rattle.byteorder.specs.Endian.{big_bytes, big_number}
@@ -25,3 +26,7 @@ nothing_left n behind small all =
     let more : 2 ^ 128 ≤ 2 ^ behind = pow_mono all in
     let none : n / 2 ^ behind ≡ 0 = div-eq_of_lt (omega (arith, small, more)) in
     none_times (2 ^ behind) ∙ sym (ap (λ (m : ℕ). m * 2 ^ behind) none)
+
+-- sixteen octets are one number, however it is read
+pub sixteen_number : (address : List ℕ) → from_be_bytes w128 address ≡ big_number 16 address
+sixteen_number address = omega arith

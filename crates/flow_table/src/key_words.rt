@@ -65,10 +65,7 @@ fn words_in(kind: Kind, prefix: Option<u8>, octets: &[u8]) -> Option<CellWords>
         }
         Kind::Ipv6 => {
             let address = <[u8; 16]>::try_from(octets).ok()?;
-            Some(match prefix {
-                Some(_) => ipv6_words(&ipv6_network(prefix, address)),
-                None => ipv6_words(&address),
-            })
+            Some(ipv6_words(&ipv6_network(prefix, address)))
         }
         Kind::Mac => Some(mac_words(&<[u8; 6]>::try_from(octets).ok()?)),
         Kind::Seconds | Kind::Millis | Kind::Octets => None,

@@ -5,7 +5,6 @@ ghost use Rattle.ipfix_elements.specs.declared.cell.Cell.TheVariants as cells;
 ghost use Rattle.flow_table.specs.Networks.{masked_ipv6};
 ghost use Rattle.flow_table.specs.Reading.{projected};
 
-use byteorder::{BigEndian, ByteOrder};
 use ipfix_elements::{Cell, mask};
 
 /// A cell with an address's first bits alone, if there is a prefix; other cells as they are.
@@ -44,7 +43,7 @@ fn mask_ipv6(address: [u8; 16], bits: u8) -> [u8; 16]
     ensures { result ≡ masked_ipv6 address bits }
 {
     let dropped = u32::from(128u8.saturating_sub(bits));
-    let number = BigEndian::read_u128(&address);
+    let number = u128::from_be_bytes(address);
     without_last(number, dropped).to_be_bytes()
 }
 
