@@ -56,6 +56,9 @@ fn push_word(number: u64, least: u64, most: u64, word: u64) -> Option<u64>
     ensures packed { IfSome result (λ n. n ≡ word_onto number least most word) }
     ensures within { IfSome result (λ n. IsBetween least most word) }
 {
+    if least == most {
+        return if word == least { Some(number) } else { None };
+    }
     let higher = push_digit(number, high(least), high(most), high(word))?;
     push_digit(higher, low(least), low(most), low(word))
 }

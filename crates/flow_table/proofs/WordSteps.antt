@@ -1,6 +1,6 @@
 -- Steps of the loops over the words of keys.
 use Rattle.std.proofs.Common.{◌≡◌, ℕ, zero, suc, ◌+◌, ◌*◌, ◌/◌, ◌%◌, ◌^◌, ◌<◌, ◌≤◌, ◌&&◌, Bool, true, false, cond, not, List, [], ◌∷◌, ◌++◌, length, length-append, take, drop, drop-cons, get_or, Option, Some, None, option_map, refl, sym, ap, ◌∙◌, subst, append-nil, append_assoc, add-one, arith}
-use Rattle.std.specs.Int.{byte_at, from_be_bytes, to_be_bytes, w64, w128}
+use Rattle.std.specs.Int.{from_be_bytes, w128}
 use Rattle.std.specs.List.{AllZip}
 use Rattle.std.proofs.lemmas.Bool.{and_parts, leb-true}
 use Rattle.std.proofs.lemmas.List.{drop_all, take_all}
@@ -299,25 +299,3 @@ sixteen (a ∷ b ∷ c ∷ d ∷ e ∷ f ∷ g ∷ h ∷ i ∷ j ∷ k ∷ l ∷
     ∙ ap (λ (w : ℕ). Some (w ∷ low ∷ [])) (higher high low few ∙ ap (λ (n : ℕ). n / 2 ^ 64) whole)
     ∙ ap (λ (w : ℕ). Some (from_be_bytes w128 (a ∷ b ∷ c ∷ d ∷ e ∷ f ∷ g ∷ h ∷ i ∷ j ∷ k ∷ l ∷ m ∷ n ∷ o ∷ p ∷ []) / 2 ^ 64 ∷ w ∷ [])) (lower high low few ∙ ap (λ (n : ℕ). n % 2 ^ 64) whole)
 sixteen (a ∷ b ∷ c ∷ d ∷ e ∷ f ∷ g ∷ h ∷ i ∷ j ∷ k ∷ l ∷ m ∷ n ∷ o ∷ p ∷ q ∷ xs) len small = absurd (omega arith)
-
--- and back: sixteen octets of a number are those of its halves
-pub halves : (high low : ℕ) → low < 2 ^ 64 → to_be_bytes w128 (high * 2 ^ 64 + low) ≡ to_be_bytes w64 high ++ to_be_bytes w64 low
-halves high low small =
-    let number : ℕ = high * 2 ^ 64 + low in
-    let a : byte_at 15 number ≡ byte_at 7 high = omega (arith, small) in
-    let b : byte_at 14 number ≡ byte_at 6 high = omega (arith, small) in
-    let c : byte_at 13 number ≡ byte_at 5 high = omega (arith, small) in
-    let d : byte_at 12 number ≡ byte_at 4 high = omega (arith, small) in
-    let e : byte_at 11 number ≡ byte_at 3 high = omega (arith, small) in
-    let f : byte_at 10 number ≡ byte_at 2 high = omega (arith, small) in
-    let g : byte_at 9 number ≡ byte_at 1 high = omega (arith, small) in
-    let h : byte_at 8 number ≡ byte_at 0 high = omega (arith, small) in
-    let i : byte_at 7 number ≡ byte_at 7 low = omega (arith, small) in
-    let j : byte_at 6 number ≡ byte_at 6 low = omega (arith, small) in
-    let k : byte_at 5 number ≡ byte_at 5 low = omega (arith, small) in
-    let l : byte_at 4 number ≡ byte_at 4 low = omega (arith, small) in
-    let m : byte_at 3 number ≡ byte_at 3 low = omega (arith, small) in
-    let n : byte_at 2 number ≡ byte_at 2 low = omega (arith, small) in
-    let o : byte_at 1 number ≡ byte_at 1 low = omega (arith, small) in
-    let p : byte_at 0 number ≡ byte_at 0 low = omega (arith, small) in
-    cc

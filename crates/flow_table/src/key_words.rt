@@ -63,6 +63,8 @@ fn words_in(kind: Kind, prefix: Option<u8>, octets: &[u8]) -> Option<CellWords>
             let address = <[u8; 4]>::try_from(octets).ok()?;
             Some(ipv4_words(&ipv4_network(prefix, address)))
         }
+        // A case of its own: octets that may be masked as well are compiled to be read one by one.
+        Kind::Ipv6 if prefix.is_none() => Some(ipv6_words(&<[u8; 16]>::try_from(octets).ok()?)),
         Kind::Ipv6 => {
             let address = <[u8; 16]>::try_from(octets).ok()?;
             Some(ipv6_words(&ipv6_network(prefix, address)))

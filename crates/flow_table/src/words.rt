@@ -235,7 +235,9 @@ fn mac_from(word: u64) -> [u8; 6]
 fn ipv6_from(high: u64, low: u64) -> [u8; 16]
     ensures { result ≡ to_be_bytes w64 high ++ to_be_bytes w64 low }
 {
-    (u128::from(high) * WORD + u128::from(low)).to_be_bytes()
+    let [a, b, c, d, e, f, g, h] = high.to_be_bytes();
+    let [i, j, k, l, m, n, o, p] = low.to_be_bytes();
+    [a, b, c, d, e, f, g, h, i, j, k, l, m, n, o, p]
 }
 
 /// The cell of a kind that has these words, the second if it has two.
