@@ -2,18 +2,21 @@
 //! it reads 1 MiB at a time. It makes no records. It proves nothing, and anybody who chooses the addresses can make it slow.
 //!
 //!     limit one|each FILE..      on one thread, or with a thread for each file and the tables put together in the end
+//!     limit context FILE [MAP]   on one thread, also by the number of the address in MAP and by the exporter 192.0.2.1
 //!     limit dump < FILE
 //!
 //! `one` and `each` write the table of octets by source address and minute as CSV. They read the fields at places that are
-//! found once for a template, and keep the sums in one table by a multiplied hash, which is sorted in the end. `dump` writes
-//! what `collectd dump` does, of the fields of `make_input`.
+//! found once for a template, and keep the sums in one table by a multiplied hash, which is sorted in the end. `context` does
+//! so with these columns more, and with a MAP adds a flow only if its octets are below 2^32. `dump` writes what
+//! `collectd dump` does, of the fields of `make_input`.
 
 use std::collections::HashMap;
 use std::fs::File;
-use std::hash::{BuildHasherDefault, Hasher};
+use std::hash::{BuildHasherDefault, Hash, Hasher};
 use std::io::{self, Read, Write};
+use std::net::Ipv4Addr;
 use std::ops::Range;
-use std::{env, thread};
+use std::{env, fs, thread};
 
 const LENGTH: u64 = 60_000;
 const PIECE: usize = 1 << 20;
@@ -162,6 +165,109 @@ fn add_file(file: &str, sums: &mut Sums) -> io::Result<()> {
     })
 }
 
+/// The numbers of addresses: each from a start on, up to the next one.
+struct Steps {
+    starts: Vec<u32>,
+    numbers: Vec<u32>,
+}
+
+impl Steps {
+    fn begin(&mut self, start: u32, number: u32) {
+        if self.starts.last() == Some(&start) {
+            self.numbers.pop();
+        } else {
+            self.starts.push(start);
+        }
+        self.numbers.push(number);
+    }
+
+    /// Ends the networks that end before an address: their last address and their number are on the stack.
+    fn end_before(&mut self, address: u64, within: &mut Vec<(u32, u32)>) {
+        while let Some(&(last, _)) = within.last().filter(|network| u64::from(network.0) < address) {
+            within.pop();
+            if last < u32::MAX {
+                self.begin(last + 1, within.last().map_or(0, |network| network.1));
+            }
+        }
+    }
+
+    /// Those of the rows of a map, PREFIX,NUMBER.
+    fn of(text: &str) -> Steps {
+        let mut networks: Vec<(u32, std::cmp::Reverse<u32>, u32)> = text
+            .lines()
+            .map(|line| {
+                let (prefix, number) = line.split_once(',').unwrap();
+                let (address, length) = prefix.split_once('/').unwrap();
+                let first = u32::from(address.parse::<Ipv4Addr>().unwrap());
+                let others = (1u64 << (32 - length.parse::<u32>().unwrap())) - 1;
+                (first, std::cmp::Reverse(first + others as u32), number.parse().unwrap())
+            })
+            .collect();
+        networks.sort_unstable();
+        let mut steps = Steps { starts: Vec::new(), numbers: Vec::new() };
+        let mut within = Vec::new();
+        for (first, last, number) in networks {
+            steps.end_before(u64::from(first), &mut within);
+            steps.begin(first, number);
+            within.push((last.0, number));
+        }
+        steps.end_before(1 << 32, &mut within);
+        steps
+    }
+
+    fn number_of(&self, address: u32) -> u32 {
+        match self.starts.partition_point(|start| *start <= address) {
+            0 => 0,
+            after => self.numbers[after - 1],
+        }
+    }
+}
+
+/// The interval (the upper half) and the address, the number of the address, and the exporter.
+#[derive(Clone, Copy, PartialEq, Eq, PartialOrd, Ord)]
+struct InContext {
+    row: u64,
+    number: u32,
+    exporter: u128,
+}
+
+impl Hash for InContext {
+    fn hash<H: Hasher>(&self, state: &mut H) {
+        state.write_u64(self.row);
+        state.write_u64(u64::from(self.number));
+        state.write_u64((self.exporter >> 64) as u64);
+        state.write_u64(self.exporter as u64);
+    }
+}
+
+type SumsInContext = HashMap<InContext, (u64, u64), BuildHasherDefault<Multiplied>>;
+
+fn sums_in_context(steps: Option<&Steps>, file: &str) -> io::Result<SumsInContext> {
+    let exporter = u128::from(Ipv4Addr::new(192, 0, 2, 1).to_ipv6_mapped());
+    let mut sums = SumsInContext::default();
+    let mut minute = (u64::MAX, 0);
+    walk(File::open(file)?, |head, body| {
+        let [start, end, address, octets] = [152, 153, 8, 1].map(|element| place_of(head.template, element));
+        assert!(start.len() == 8 && end.len() == 8 && address.len() == 4);
+        for record in body.chunks_exact(head.template.width) {
+            let (begin, last) = (number(&record[start.clone()]), number(&record[end.clone()]));
+            let counted = number(&record[octets.clone()]);
+            if last < begin || last >= 1 << 50 || steps.is_some() && counted >= 1 << 32 {
+                continue;
+            }
+            if begin.wrapping_sub(minute.0) >= LENGTH {
+                minute = (begin / LENGTH * LENGTH, begin / LENGTH);
+            }
+            let address = number(&record[address.clone()]);
+            let number = steps.map_or(0, |steps| steps.number_of(address as u32));
+            let sum = sums.entry(InContext { row: minute.1 << 32 | address, number, exporter }).or_insert((0, 0));
+            sum.0 += counted;
+            sum.1 += 1;
+        }
+    })?;
+    Ok(sums)
+}
+
 fn sums_of(files: &[String]) -> io::Result<Sums> {
     let mut sums = Sums::default();
     for file in files {
@@ -212,33 +318,60 @@ fn push_address(text: &mut Vec<u8>, address: [u8; 4]) {
     }
 }
 
-fn push_row(text: &mut Vec<u8>, key: u64, octets: u64, flows: u64) {
-    let begin = (key >> 32) * LENGTH;
+fn push_front(text: &mut Vec<u8>, row: u64) {
+    let begin = (row >> 32) * LENGTH;
     push_number(text, begin);
     text.push(b',');
     push_number(text, begin + LENGTH - 1);
     text.push(b',');
-    push_address(text, (key as u32).to_be_bytes());
+    push_address(text, (row as u32).to_be_bytes());
     text.push(b',');
+}
+
+fn push_sums(text: &mut Vec<u8>, (octets, flows): (u64, u64)) {
     push_number(text, octets);
     text.push(b',');
     push_number(text, flows);
     text.push(b'\n');
 }
 
-fn write_csv(sums: Sums) -> io::Result<()> {
+fn write_rows<K: Ord>(
+    heading: &str,
+    sums: impl IntoIterator<Item = (K, (u64, u64))>,
+    push_key: impl Fn(&mut Vec<u8>, K),
+) -> io::Result<()> {
     let mut rows: Vec<_> = sums.into_iter().collect();
-    rows.sort_unstable_by_key(|row| row.0);
+    rows.sort_unstable_by(|a, b| a.0.cmp(&b.0));
     let mut out = io::stdout().lock();
-    let mut text = b"start,end,sourceIPv4Address,octetDeltaCount,flows\n".to_vec();
-    for (key, (octets, flows)) in rows {
-        push_row(&mut text, key, octets, flows);
+    let mut text = heading.as_bytes().to_vec();
+    for (key, sums) in rows {
+        push_key(&mut text, key);
+        push_sums(&mut text, sums);
         if text.len() > BLOCK {
             out.write_all(&text)?;
             text.clear();
         }
     }
     out.write_all(&text)
+}
+
+fn write_csv(sums: Sums) -> io::Result<()> {
+    write_rows("start,end,sourceIPv4Address,octetDeltaCount,flows\n", sums, push_front)
+}
+
+fn write_in_context(file: &str, map: Option<&String>) -> io::Result<()> {
+    let steps = map.map(fs::read_to_string).transpose()?.map(|text| Steps::of(&text));
+    let customer = if steps.is_some() { "customer(sourceIPv4Address)," } else { "" };
+    let heading = format!("start,end,sourceIPv4Address,{customer}exporter,octetDeltaCount,flows\n");
+    write_rows(&heading, sums_in_context(steps.as_ref(), file)?, |text, key| {
+        push_front(text, key.row);
+        if steps.is_some() {
+            push_number(text, u64::from(key.number));
+            text.push(b',');
+        }
+        push_address(text, (key.exporter as u32).to_be_bytes());
+        text.push(b',');
+    })
 }
 
 /// How a field's octets are written.
@@ -335,9 +468,10 @@ fn main() -> io::Result<()> {
     match words.split_first() {
         Some((how, files)) if how == "one" => write_csv(sums_of(files)?),
         Some((how, files)) if how == "each" => write_csv(sums_on_each(files)?),
+        Some((how, [file, map @ ..])) if how == "context" && map.len() < 2 => write_in_context(file, map.first()),
         Some((how, [])) if how == "dump" => dump(),
         _ => {
-            eprintln!("usage: limit one|each FILE.. | dump");
+            eprintln!("usage: limit one|each FILE.. | context FILE [MAP] | dump");
             std::process::exit(2)
         }
     }
