@@ -1,6 +1,6 @@
 //! How many starts of IPv4 are not above an address.
 
-ghost use Rattle.std.specs.Prelude.{◌≡◌, ◌≤◌, length};
+ghost use Rattle.std.specs.Prelude.{◌≡◌, ◌≤◌, true, length};
 ghost use Rattle.std.specs.List.Sorted.{IsNonDecreasing};
 ghost use Rattle.prefix_numbers.specs.Steps.{steps_to};
 
@@ -13,7 +13,10 @@ pub fn ipv4_steps(guide: &Guide, starts: &[u32], address: u32) -> usize
     ensures { result ≡ steps_to starts.now address }
 {
     let (low, high) = guide.places_at(u64::from(address));
-    let first = first_place(starts, low, address);
+    let first = next_place(starts, first_place(starts, low, address), address);
+    if is_end(starts, first, address) {
+        return first;
+    }
     let end = end_place(starts, high, address);
     first + starts[first..end].partition_point(|start| *start <= address)
 }
@@ -31,15 +34,43 @@ fn first_place(starts: &[u32], guess: usize, address: u32) -> usize
     }
 }
 
+// A place before which no start is above an address, or the one after it, if the start there is not above it either.
+#[inline]
+#[tactic(auto, using(crate::proofs::Ascending::place_up_to))]
+fn next_place(starts: &[u32], place: usize, address: u32) -> usize
+    requires ascending { IsNonDecreasing starts.now }
+    requires place { place ≤ steps_to starts.now address }
+    ensures { result ≤ steps_to starts.now address }
+{
+    match starts.get(place) {
+        Some(start) => place + (*start <= address) as usize,
+        None => place,
+    }
+}
+
+// Whether there is a start at a place, which is above an address.
+#[inline]
+#[tactic(auto, using(crate::proofs::Ascending::places_not_above))]
+fn is_end(starts: &[u32], place: usize, address: u32) -> bool
+    ensures within { result ≡ true → place ≤ length starts.now }
+    ensures above { result ≡ true → steps_to starts.now address ≤ place }
+{
+    match starts.get(place) {
+        Some(start) => *start > address,
+        None => false,
+    }
+}
+
 // A place from which on all starts are above an address: the one that is guessed, or else their end.
 #[inline]
-#[tactic(auto, using(crate::proofs::Ascending::places_not_above, crate::proofs::Ascending::places_inside))]
+#[tactic(auto, using(crate::proofs::Ascending::places_inside))]
 fn end_place(starts: &[u32], guess: usize, address: u32) -> usize
     ensures within { result ≤ length starts.now }
     ensures above { steps_to starts.now address ≤ result }
 {
-    match starts.get(guess) {
-        Some(start) if *start > address => guess,
-        _ => starts.len(),
+    if is_end(starts, guess, address) {
+        guess
+    } else {
+        starts.len()
     }
 }

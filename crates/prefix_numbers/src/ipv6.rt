@@ -1,6 +1,6 @@
 //! How many starts of IPv6 are not above an address.
 
-ghost use Rattle.std.specs.Prelude.{◌≡◌, ◌≤◌, length};
+ghost use Rattle.std.specs.Prelude.{◌≡◌, ◌≤◌, true, length};
 ghost use Rattle.std.specs.List.Sorted.{IsNonDecreasing};
 ghost use Rattle.prefix_numbers.specs.Steps.{steps_to};
 
@@ -16,7 +16,10 @@ pub fn ipv6_steps(guide: &Guide, starts: &[u128], address: u128) -> usize
     ensures { result ≡ steps_to starts.now address }
 {
     let (low, high) = guide.places_at(head_of(address, LEFT_OUT));
-    let first = first_place(starts, low, address);
+    let first = next_place(starts, first_place(starts, low, address), address);
+    if is_end(starts, first, address) {
+        return first;
+    }
     let end = end_place(starts, high, address);
     first + starts[first..end].partition_point(|start| *start <= address)
 }
@@ -34,15 +37,43 @@ fn first_place(starts: &[u128], guess: usize, address: u128) -> usize
     }
 }
 
+// A place before which no start is above an address, or the one after it, if the start there is not above it either.
+#[inline]
+#[tactic(auto, using(crate::proofs::Ascending::place_up_to))]
+fn next_place(starts: &[u128], place: usize, address: u128) -> usize
+    requires ascending { IsNonDecreasing starts.now }
+    requires place { place ≤ steps_to starts.now address }
+    ensures { result ≤ steps_to starts.now address }
+{
+    match starts.get(place) {
+        Some(start) => place + (*start <= address) as usize,
+        None => place,
+    }
+}
+
+// Whether there is a start at a place, which is above an address.
+#[inline]
+#[tactic(auto, using(crate::proofs::Ascending::places_not_above))]
+fn is_end(starts: &[u128], place: usize, address: u128) -> bool
+    ensures within { result ≡ true → place ≤ length starts.now }
+    ensures above { result ≡ true → steps_to starts.now address ≤ place }
+{
+    match starts.get(place) {
+        Some(start) => *start > address,
+        None => false,
+    }
+}
+
 // A place from which on all starts are above an address: the one that is guessed, or else their end.
 #[inline]
-#[tactic(auto, using(crate::proofs::Ascending::places_not_above, crate::proofs::Ascending::places_inside))]
+#[tactic(auto, using(crate::proofs::Ascending::places_inside))]
 fn end_place(starts: &[u128], guess: usize, address: u128) -> usize
     ensures within { result ≤ length starts.now }
     ensures above { steps_to starts.now address ≤ result }
 {
-    match starts.get(guess) {
-        Some(start) if *start > address => guess,
-        _ => starts.len(),
+    if is_end(starts, guess, address) {
+        guess
+    } else {
+        starts.len()
     }
 }

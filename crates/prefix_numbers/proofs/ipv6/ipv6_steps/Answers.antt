@@ -8,8 +8,8 @@ use Rattle.prefix_numbers.proofs.ipv6.ipv6_steps.Goals as goal
 pub returns : goal.returns
 returns c =
     let starts = c.args.starts.now in
-    let first = c.first_place-first.result in
+    let first = c.next_place-first.result in
     let end = c.end_place-end.result in
     let parted = IsPartitionedBy-leb (λ (x : ℕ). x) (slice_range starts first end) c.args.address (range_ascends starts first end c.requires) in
     let point = IsPartitionPoint-from_clause (λ start. nat_le start c.args.address) _ _ c.partition_point.ensures.partitioned parted (λ a r q k. search (rules, tests)) in
-    point_between (λ start. nat_le start c.args.address) starts first end c.partition_point.result c.first_place-first.ensures c.end_place-end.ensures.above c.end_place-end.ensures.within c.partition_point.ensures.bound point
+    point_between (λ start. nat_le start c.args.address) starts first end c.partition_point.result c.next_place-first.ensures c.end_place-end.ensures.above c.end_place-end.ensures.within c.partition_point.ensures.bound point
