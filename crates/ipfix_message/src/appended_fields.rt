@@ -4,10 +4,10 @@ ghost use Rattle.std.specs.Prelude.{◌≡◌, ◌<◌, ◌^◌, [], ◌∷◌, 
 ghost use Rattle.std.specs.Arc.{arc_value};
 ghost use Rattle.ipfix_message.specs.Fields.{octets_of};
 ghost use Rattle.ipfix_message.specs.FieldViews.{last_field};
-ghost use Rattle.ipfix_message.specs.AppendedFields.{fields_of};
+ghost use Rattle.ipfix_message.specs.AppendedFields.{fields_of, number_field};
 
 use crate::field_iter::FieldRef;
-use crate::field_run::{FieldRun, find_element};
+use crate::field_run::FieldRun;
 use crate::own_fields::OwnFields;
 use crate::short_fields::ShortFields;
 use ipfix_wire::ElementId;
@@ -82,25 +82,44 @@ impl NumberField {
     }
 }
 
-// The octets of a field, if there is one of the element that is sought.
-fn find_last(last: Option<FieldRef<'_>>, element: ElementId) -> Option<&[u8]>
-    ensures { option_copied result ≡ octets_of element (last_field last.entry) }
+// The octets of a field, if it is one of the element that is sought.
+fn find_number(number: &NumberField, element: ElementId) -> Option<&[u8]>
+    ensures { option_copied result ≡ octets_of element (number_field number.now ∷ []) }
 {
-    match last {
-        Some(field) if field.element == element => Some(field.octets),
-        _ => None,
+    if number.element == element {
+        Some(&number.octets)
+    } else {
+        None
     }
 }
 
-// The octets of the first field of an element.
+// The octets of the first field of an element among shared ones, or else those of a field, if it is one.
+fn find_before<'a>(
+    shared: &'a OwnFields,
+    number: &'a NumberField,
+    element: ElementId,
+) -> Option<&'a [u8]>
+    ensures { option_copied result
+        ≡ octets_of element (shared.now ++ number_field number.now ∷ []) }
+{
+    match shared.find(element) {
+        Some(octets) => Some(octets),
+        None => find_number(number, element),
+    }
+}
+
+// The octets of the first field of an element. (Each way by itself: a search that finds nothing is short then.)
 #[inline(never)]
 fn find_in(appended: &Appended, element: ElementId) -> Option<&[u8]>
     ensures { option_copied result ≡ octets_of element (fields_of appended.now) }
 {
-    let (fields, last) = parts_of(appended);
-    match find_element(fields, element) {
-        Some(octets) => Some(octets),
-        None => find_last(last, element),
+    match appended {
+        Appended::Nothing => None,
+        Appended::Shared(shared) => shared.find(element),
+        Appended::Number(number) => find_number(number, element),
+        Appended::NumberAfter(number, shared) => find_before(shared, number, element),
+        Appended::Short(short) => short.find(element),
+        Appended::Own(own) => own.find(element),
     }
 }
 
@@ -217,6 +236,23 @@ impl AppendedFields {
                 }
             }
         }
+        self.push_to_copy(alloc, element, octets)
+    }
+
+    // Copies the fields into a block, with one more of at most 65,535 octets. (By itself: what is called for each
+    // record clears no room for it.)
+    #[inline(never)]
+    fn push_to_copy(
+        &mut self,
+        alloc: Global,
+        element: ElementId,
+        octets: &[u8],
+    ) -> Result<(), AllocError>
+        requires { length octets.now < 2 ^ 16 }
+        ensures ok { OnOk result (self.new ≡ self.old
+            ++ record { element = element; octets = octets.now } ∷ []) }
+        ensures err { OnErr result (self.new ≡ self.old) }
+    {
         if let Some(short) = short_copy(&self.appended, element, octets) {
             self.appended = Appended::Short(Box::new(alloc, short)?);
             return Ok(());
@@ -240,8 +276,17 @@ impl AppendedFields {
             self.appended = Appended::Shared(shared);
             return Ok(());
         }
+        self.extend_copy(alloc, &shared)
+    }
+
+    // Copies the fields into a block, and others after them.
+    #[inline(never)]
+    fn extend_copy(&mut self, alloc: Global, others: &OwnFields) -> Result<(), AllocError>
+        ensures ok { OnOk result (self.new ≡ self.old ++ others.now) }
+        ensures err { OnErr result (self.new ≡ self.old) }
+    {
         let mut own = own_copy(alloc, &self.appended, 0)?;
-        own.extend(&shared)?;
+        own.extend(others)?;
         self.appended = Appended::Own(Box::new(alloc, own)?);
         Ok(())
     }

@@ -74,6 +74,30 @@ fn own_copy(alloc: Global, kept: &Kept) -> Result<OwnFields, AllocError>
     }
 }
 
+// A field of at most 65,535 octets.
+#[inline(never)]
+fn first_field(alloc: Global, element: ElementId, octets: &[u8]) -> Result<Kept, AllocError>
+    requires { length octets.now < 2 ^ 16 }
+    ensures kept { IfOk result IsKept }
+    ensures fields { IfOk result (λ kept. kept_fields kept
+        ≡ record { element = element; octets = octets.now } ∷ []) }
+{
+    let mut own = OwnFields::with_capacity(alloc, 1, octets.len())?;
+    own.push(element, octets)?;
+    Ok(Kept::Own(Box::new(alloc, own)?))
+}
+
+// A copy of fields.
+#[inline(never)]
+fn copied(alloc: Global, fields: &OwnFields) -> Result<Kept, AllocError>
+    ensures kept { IfOk result IsKept }
+    ensures fields { IfOk result (λ kept. kept_fields kept ≡ fields.now) }
+{
+    let mut own = OwnFields::with_capacity(alloc, 0, 0)?;
+    own.extend(fields)?;
+    Ok(Kept::Own(Box::new(alloc, own)?))
+}
+
 impl Fields {
     /// No fields. Nothing is allocated before the first.
     pub fn new(alloc: Global) -> Self
@@ -115,9 +139,7 @@ impl Fields {
             Kept::InSet(_, _, appended) => appended.push(self.alloc, element, octets),
             Kept::Own(own) => own.push(element, octets),
             Kept::Nothing => {
-                let mut own = OwnFields::with_capacity(self.alloc, 1, octets.len())?;
-                own.push(element, octets)?;
-                self.kept = Kept::Own(Box::new(self.alloc, own)?);
+                self.kept = first_field(self.alloc, element, octets)?;
                 Ok(())
             }
         }
@@ -137,9 +159,7 @@ impl Fields {
             Kept::InSet(_, _, appended) => appended.extend_shared(self.alloc, shared),
             Kept::Own(own) => own.extend(&shared),
             Kept::Nothing => {
-                let mut own = OwnFields::with_capacity(self.alloc, 0, 0)?;
-                own.extend(&shared)?;
-                self.kept = Kept::Own(Box::new(self.alloc, own)?);
+                self.kept = copied(self.alloc, &shared)?;
                 Ok(())
             }
         }

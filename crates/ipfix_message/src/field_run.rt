@@ -90,21 +90,8 @@ impl<'a> Iterator for FieldRun<'a> {
     }
 }
 
-/// The octets of the first field of an element. It is found by going over the fields before it, if there is one.
-#[inline]
+/// The octets of the first field of an element. It is found by going over the fields before it.
 pub fn find_element<'a>(fields: FieldRun<'a>, element: ElementId) -> Option<&'a [u8]>
-    ensures { option_copied result ≡ octets_of element fields.entry }
-{
-    if fields.has(element) {
-        first_of(fields, element)
-    } else {
-        None
-    }
-}
-
-// The octets of the first field of an element.
-#[inline(never)]
-fn first_of<'a>(fields: FieldRun<'a>, element: ElementId) -> Option<&'a [u8]>
     ensures { option_copied result ≡ octets_of element fields.entry }
 {
     for field in fields {

@@ -122,8 +122,21 @@ impl OwnFields {
         FieldRun::new(self.specs.as_slice(), self.octets.as_slice())
     }
 
-    /// The octets of the first field of an element. It is found by going over the fields before it.
+    /// The octets of the first field of an element. No octets are looked at if there is none.
+    #[inline]
     pub fn find(&self, element: ElementId) -> Option<&[u8]>
+        ensures { option_copied result ≡ octets_of element self.now }
+    {
+        if self.iter().has(element) {
+            self.first_of(element)
+        } else {
+            None
+        }
+    }
+
+    // The octets of the first field of an element.
+    #[inline(never)]
+    fn first_of(&self, element: ElementId) -> Option<&[u8]>
         ensures { option_copied result ≡ octets_of element self.now }
     {
         find_element(self.iter(), element)

@@ -73,9 +73,18 @@ impl SharedFields {
         ensures kept { self.new ≡ self.old }
         ensures same { IfOk result (λ fields. arc_value fields ≡ self.old) }
     {
-        if let Some(fields) = self.ready.pop() {
-            return Ok(fields);
+        match self.ready.pop() {
+            Some(fields) => Ok(fields),
+            None => self.copy(),
         }
+    }
+
+    // A copy of the fields, for a record and for some of the next ones.
+    #[inline(never)]
+    fn copy(&mut self) -> Result<Arc<OwnFields, Global>, AllocError>
+        ensures kept { self.new ≡ self.old }
+        ensures same { IfOk result (λ fields. arc_value fields ≡ self.old) }
+    {
         let mut copy = OwnFields::with_capacity(self.alloc, 0, 0)?;
         copy.extend(&self.fields)?;
         let copy = Arc::new(self.alloc, copy)?;

@@ -1,8 +1,9 @@
 //! A few short fields in one block (RFC 7011, section 3.4.3).
 
-ghost use Rattle.std.specs.Prelude.{◌≡◌, [], ◌∷◌, ◌++◌, length, true, false, OnOk, OnErr};
+ghost use Rattle.std.specs.Prelude.{◌≡◌, [], ◌∷◌, ◌++◌, length, true, false, OnOk, OnErr, option_copied};
+ghost use Rattle.ipfix_message.specs.Fields.{octets_of};
 
-use crate::field_run::FieldRun;
+use crate::field_run::{FieldRun, find_element};
 use crate::own_fields::OwnFields;
 use ipfix_wire::{ElementId, Spec};
 use std::alloc::AllocError;
@@ -90,6 +91,26 @@ impl ShortFields {
         ensures { result ≡ self.now }
     {
         FieldRun::new(&self.specs[..self.fields], &self.octets[..self.used])
+    }
+
+    /// The octets of the first field of an element. No octets are looked at if there is none.
+    #[inline]
+    pub fn find(&self, element: ElementId) -> Option<&[u8]>
+        ensures { option_copied result ≡ octets_of element self.now }
+    {
+        if self.iter().has(element) {
+            self.first_of(element)
+        } else {
+            None
+        }
+    }
+
+    // The octets of the first field of an element.
+    #[inline(never)]
+    fn first_of(&self, element: ElementId) -> Option<&[u8]>
+        ensures { option_copied result ≡ octets_of element self.now }
+    {
+        find_element(self.iter(), element)
     }
 
     /// Appends a copy of these fields to others.

@@ -1,6 +1,6 @@
 use Rattle.std.proofs.Common.{◌≡◌}
 use Rattle.ipfix_message.specs.Fields.{octets_of}
-use Rattle.ipfix_message.proofs.field_run.first_of.Given as goal
+use Rattle.ipfix_message.proofs.field_run.find_element.Given as goal
 
 abbrev pub invariant-loop-field : goal.invariant-loop-field
 invariant-loop-field l =
