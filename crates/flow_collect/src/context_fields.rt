@@ -1,7 +1,7 @@
 //! The fields that a session appends to its records, made once for all records of a domain.
 
 ghost use Rattle.std.specs.Prelude.{◌≡◌, None, IfOk, OnErr, OnOk};
-ghost use Rattle.flow_collect.specs.Contexts.{with_context, with_session};
+ghost use Rattle.flow_collect.specs.Contexts.{context_fields, with_context, with_session};
 
 use crate::session_context::SessionContext;
 use flow_estimates::append_estimates;
@@ -32,13 +32,26 @@ impl<'a> Model for ContextFields<'a> {
     ghost invariant = { λ f. f.fields ≡ context_fields f.context f.domain };
 }
 
+// What the session knows of the records of a domain. (By itself: what is called for each record clears no room for
+// it.)
+#[inline(never)]
+fn shared_fields(
+    alloc: Global,
+    context: &SessionContext<'_>,
+    domain: u32,
+) -> Result<SharedFields, AllocError>
+    ensures { IfOk result (λ fields. fields ≡ context_fields context.now domain) }
+{
+    context.fields(alloc, domain)?.to_shared()
+}
+
 impl<'a> ContextFields<'a> {
     /// Those of a session with this context.
     pub fn new(alloc: Global, context: SessionContext<'a>) -> Result<Self, AllocError>
         ensures { IfOk result (λ f. f ≡ context.entry) }
     {
         let domain = 0;
-        let fields = context.fields(alloc, domain)?.to_shared()?;
+        let fields = shared_fields(alloc, &context, domain)?;
         Ok(ContextFields {
             alloc,
             context,
@@ -69,7 +82,7 @@ impl<'a> ContextFields<'a> {
         if self.domain == item.domain {
             return item.fields.extend_shared(&mut self.fields);
         }
-        self.fields = self.context.fields(self.alloc, item.domain)?.to_shared()?;
+        self.fields = shared_fields(self.alloc, &self.context, item.domain)?;
         self.domain = item.domain;
         item.fields.extend_shared(&mut self.fields)
     }

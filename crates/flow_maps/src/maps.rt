@@ -96,7 +96,8 @@ pub fn remove(alloc: Global, element: ElementId, fields: &mut Fields) -> Result<
     Ok(())
 }
 
-// A copy of the fields but for those of an element.
+// A copy of the fields but for those of an element. (By itself: few records have one.)
+#[inline(never)]
 fn without(alloc: Global, element: ElementId, fields: &Fields) -> Result<Fields, AllocError>
     ensures { IfOk result (λ kept. kept ≡ numbers.without element fields.now) }
 {
